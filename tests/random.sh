@@ -5,7 +5,7 @@
 #
 # An input is made from the project's own octets (examples/ and the hex of the test crates): frames of several runs are cut out, repeated, flipped, joined,
 # put on other streams and cut off. --count (2,000) inputs from --seed (1) on, --jobs (4) processes side by side. For each input:
-#   - `play` ends by itself with status 0 and nothing on standard error;
+#   - `play --quiet` ends by itself with status 0 and nothing on standard error;
 #   - `play --cut`, in pieces of one octet and of two other lengths, prints the same;
 #   - the last place of `play --each` has the same state, and what its places sent, joined, is what `play` sent;
 #   - `dis` writes a script, and `asm` makes the same octets of it (the scripts of many inputs in one run);
@@ -187,7 +187,7 @@ def words_made(rng):
 
 def run(program, words, text):
     try:
-        ended = subprocess.run([program, *words], input=text, capture_output=True, timeout=SECONDS)
+        ended = subprocess.run([program, words[0], "--quiet", *words[1:]], input=text, capture_output=True, timeout=SECONDS)
     except subprocess.TimeoutExpired:
         raise Differs(f"{words[0]}: no end after {SECONDS} s")
     if ended.returncode != 0 or ended.stderr:

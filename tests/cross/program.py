@@ -46,7 +46,7 @@ class Program:
         self.path = path
 
     def run(self, words, text):
-        ended = subprocess.run([self.path, *words], input=text, capture_output=True)
+        ended = subprocess.run([self.path, words[0], "--quiet", *words[1:]], input=text, capture_output=True)
         if ended.stderr or ended.returncode not in (0, 1):
             raise SystemExit(f"{words}: status {ended.returncode}, {ended.stderr!r}")
         return ended.stdout.decode()

@@ -5,27 +5,16 @@ use Rattle.h2_spec.specs.declared.connection.Config.{Config}
 use Rattle.h2_spec.specs.declared.connection.ConnectionState.{ConnectionState}
 use Rattle.h2_spec.specs.declared.reactions.BlockSummary.{BlockSummary}
 use Rattle.h2_spec.specs.declared.streams.StreamState.{StreamState}
-use Rattle.h2_spec.specs.declared.streams.StreamState.TheVariants.{Idle, Skipped, BothOpen, HalfRemote, HalfLocal, Ended, PeerReset, WeReset}
+use Rattle.h2_spec.specs.declared.streams.StreamState.TheVariants.{Idle, WeReset}
 use Rattle.h2_spec.specs.declared.streams.Stream.{Stream}
 use Rattle.h2_spec.specs.Answer.{Entry, picked}
 use Rattle.h2_spec.specs.Block.{list_size}
 use Rattle.h2_spec.specs.Field.{Field}
 use Rattle.h2_spec.specs.Headers.{max_list, request_summary, request_outcome}
 use Rattle.h2_spec.specs.Request.{malformed, request_cause, request_fault}
-use Rattle.h2_spec.specs.Stream.{Records, is_live, is_peer_open, kind_of, not_live, record_of, recorded, stream_at}
+use Rattle.h2_spec.specs.Stream.{Records, kind_of, not_live, record_of, recorded, stream_at}
 use Rattle.h2_streams.specs.Put.{CanPut, can_become}
 use Rattle.h2_block.proofs.RequestOutcomeLaws.{large-turn, malformed-turn}
-
--- a stream that the peer may still send on is live
-pub peer-open-live : (kind : StreamState) → is_peer_open kind ≡ true → is_live kind ≡ true
-peer-open-live Idle h = h
-peer-open-live Skipped h = h
-peer-open-live BothOpen h = refl
-peer-open-live HalfRemote h = refl
-peer-open-live HalfLocal h = refl
-peer-open-live Ended h = h
-peer-open-live PeerReset h = h
-peer-open-live WeReset h = h
 
 -- a live or closed stream is not above the last one that was opened
 recorded-within : (last id : ℕ) (streams : List Stream) (now : StreamState) → can_become (kind_of last streams id) now ≡ true → id ≤ last

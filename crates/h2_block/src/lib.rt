@@ -8,7 +8,7 @@ mod decoding;
 mod open_block;
 mod tentative;
 
-pub use block_end::block_ends;
+pub use block_end::{block_ends, opening};
 pub use decoding::Decoding;
 pub use open_block::{OpenBlock, copy_of, fresh_block, leave_open};
 pub use tentative::Tentative;

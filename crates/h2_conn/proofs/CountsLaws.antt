@@ -3,6 +3,8 @@ use Rattle.std.proofs.Common.{◌≡◌, ℕ, ◌+◌, Bool, true, false, Option
 use Rattle.std.specs.Prelude.{List, ◌==◌, ◌+ℤ◌, if◌then◌else◌}
 use Rattle.h2_spec.specs.declared.connection.Config.{Config}
 use Rattle.h2_spec.specs.declared.connection.ConnectionState.{ConnectionState}
+use Rattle.h2_spec.specs.declared.connection.Purpose.{Purpose}
+use Rattle.h2_spec.specs.declared.connection.Purpose.TheVariants.{Request, Trailers, Closed, TableOnly}
 use Rattle.h2_spec.specs.declared.causes.Cause.TheVariants.{ConnectionIncrementZero, ConnectionWindowExceeded, ConnectionWindowOverflow, DataAfterEndStream}
 use Rattle.h2_spec.specs.declared.reactions.Change.{Change}
 use Rattle.h2_spec.specs.declared.reactions.ConnectionFrame.TheVariants.{PingAck}
@@ -18,7 +20,10 @@ use Rattle.h2_spec.specs.declared.streams.Stream.{Stream}
 use Rattle.h2_spec.specs.Change.{ignoring, only_counts, still_pending, stream_error, with_outcome, with_size_update_pending}
 use Rattle.h2_spec.specs.Data.{counted, data_counted, data_outcome, data_refused, data_taken, if_within, owed_as, owed_on_connection}
 use Rattle.h2_spec.specs.Effect.{data_rule, ignore, on_data, on_reset, on_window, reset_outcome, reset_rule, window_rule}
+use Rattle.h2_spec.specs.Field.{Field}
+use Rattle.h2_spec.specs.Headers.{block_ends}
 use Rattle.h2_spec.specs.ReactionTable.{data_cell, reset_cell, run_cell, window_cell}
+use Rattle.h2_spec.specs.State.{State}
 use Rattle.h2_spec.specs.Window.{given_back, is_above_max}
 use Rattle.h2_spec.specs.WindowUpdate.{connection_window, window_outcome}
 use Rattle.h2_conn.specs.Counts.{IsCounted, with_counts}
@@ -127,3 +132,11 @@ data-counted config core body d st = at st.kind
     at Ended = tt
     at PeerReset = tt
     at WeReset = counting
+
+-- a field block at its end
+pub block-counted : (s : State) (id : ℕ) (ends : Bool) (fields : List Field) (purpose : Purpose) → (block_ends s id ends fields purpose).core ≡ with_counts s.core (block_ends s id ends fields purpose).core
+unfolding with_outcome
+block-counted s id ends fields Request = refl
+block-counted s id ends fields Trailers = refl
+block-counted s id ends fields Closed = refl
+block-counted s id ends fields TableOnly = refl

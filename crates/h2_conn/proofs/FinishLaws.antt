@@ -1,7 +1,9 @@
 -- A fragment's effect is made: the change, with the block and the table after it.
-use Rattle.std.proofs.Common.{◌≡◌, ℕ, List, ◌++◌, sym, ap, subst, ◌∙◌}
+use Rattle.std.proofs.Common.{◌≡◌, ℕ, Bool, List, ◌++◌, sym, ap, subst, ◌∙◌}
 use Rattle.std.specs.Prelude.{Option}
+use Rattle.h2_spec.specs.declared.connection.Config.{Config}
 use Rattle.h2_spec.specs.declared.connection.ConnectionState.{ConnectionState}
+use Rattle.h2_spec.specs.declared.connection.Purpose.{Purpose}
 use Rattle.h2_spec.specs.declared.reactions.Change.{Change}
 use Rattle.h2_spec.specs.declared.reactions.RecordUpdate.{RecordUpdate}
 use Rattle.h2_spec.specs.declared.reactions.RecordUpdate.TheVariants.{Unchanged, Put, Shift, Receive}
@@ -9,16 +11,21 @@ use Rattle.h2_spec.specs.declared.streams.Stream.{Stream}
 use Rattle.h2_spec.specs.Answer.{Entry}
 use Rattle.h2_spec.specs.Change.{Step, made, updated_streams}
 use Rattle.h2_spec.specs.DynamicTable.{Table}
+use Rattle.h2_spec.specs.Field.{Field}
 use Rattle.h2_spec.specs.Frame.{frames_octets}
+use Rattle.h2_spec.specs.Headers.{block_ends}
 use Rattle.h2_spec.specs.State.{OpenBlock, State}
 use Rattle.h2_spec.specs.Stream.{Records}
 use Rattle.h2_spec.specs.Trace.{then_sent}
 use Rattle.h2_conn.specs.Blocks.{IsOpenFor}
+use Rattle.h2_conn.specs.Counts.{with_counts}
 use Rattle.h2_conn.specs.Does.{AreShort, Does}
 use Rattle.h2_conn.specs.Records.{records}
 use Rattle.h2_send.specs.Sending.{core_after, records_after, streams_after}
+use Rattle.h2_rules.specs.Open.{state_of}
 use Rattle.h2_rules.specs.Sound.{InForce, IsSoundChange, IsSoundRecordUpdate, in_force, updated_records}
 use Rattle.h2_conn.proofs.ApplyChangeLaws.{made-then, open-after}
+use Rattle.h2_conn.proofs.CountsLaws.{block-counted}
 use Rattle.h2_rules.proofs.SoundLaws.{same-own, updated-streams}
 
 -- the state after a change and sending, by its parts
@@ -68,3 +75,15 @@ open-then s now r c b out out' sound opened d held last =
     let same : records_after c.core mid ≡ r =
     ap (λ (ss : List Stream). record (records_after c.core mid) { streams = ss }) streams ∙ ap (λ (l : ℕ). record { streams = r.streams; last = l }) counts in
     subst (λ (x : Records). IsOpenFor x b) same (open-after c.core mid b opened)
+
+-- what a block results in at its end is sound for the state whose parts these are, and leaves most counts as they are
+pub block-made : (s : State) (book : List Entry) (config : Config) (core : ConnectionState) (r : Records) (id : ℕ) (ends : Bool) (fields : List Field) (purpose : Purpose) (c : Change) →
+    book ≡ s.book → r.streams ≡ s.streams → r.last ≡ s.core.last → core ≡ s.core → c ≡ block_ends (state_of book config core s.block s.table r.streams) id ends fields purpose →
+    IsSoundChange book r (in_force core) c → IsSoundChange s.book (records s) (in_force s.core) c × (c.core ≡ with_counts s.core c.core)
+block-made s book config core r id ends fields purpose c same held last counts made sound =
+    let is : r ≡ records s = ap (λ (ss : List Stream). record r { streams = ss }) held ∙ ap (λ (l : ℕ). record (records s) { last = l }) last in
+    let counted = block-counted (state_of book config core s.block s.table r.streams) id ends fields purpose in (
+      subst (λ (k : ConnectionState). IsSoundChange s.book (records s) (in_force k) c) counts
+          (subst (λ (b : List Entry). IsSoundChange b (records s) (in_force core) c) same (subst (λ (x : Records). IsSoundChange book x (in_force core) c) is sound)),
+      subst (λ (k : ConnectionState). c.core ≡ with_counts k c.core) counts (subst (λ (x : Change). x.core ≡ with_counts core x.core) (sym made) counted),
+    )

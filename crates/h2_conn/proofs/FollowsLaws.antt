@@ -43,7 +43,7 @@ use Rattle.h2_spec.specs.ReactionTable.{Error, Rule, data_cell, headers_cell, re
 use Rattle.h2_spec.specs.SendPending.{after_sending, all_after_sending, allowance, send_pending}
 use Rattle.h2_spec.specs.SettingsFrame.{comes_into_force, settings_applied, settings_rule, settings_taken}
 use Rattle.h2_spec.specs.State.{Decoding, OpenBlock, State, configured}
-use Rattle.h2_spec.specs.Stream.{AreRising, Records, id_of, is_live, is_peer_open, kind_of, live_count, not_live, octets_waiting, put, record_of, recorded, stream_at}
+use Rattle.h2_spec.specs.Stream.{AreRising, Records, id_of, is_live, kind_of, live_count, not_live, octets_waiting, put, record_of, recorded, stream_at}
 use Rattle.h2_spec.specs.Trace.{step, then_sent}
 use Rattle.h2_spec.specs.Window.{is_above_max, given_back, sendable}
 use Rattle.h2_spec.specs.WindowUpdate.{connection_window, window_outcome}
@@ -57,6 +57,7 @@ use Rattle.h2_streams.proofs.RebuiltLaws.{IsContinued, continues-of, filter-same
 use Rattle.h2_conn.specs.Blocks.{IsOpenAt, IsOpenFor}
 use Rattle.h2_conn.specs.Follows.{Follows, Keeps, can_change, ends_in_reset, is_reset_by, resets_in}
 use Rattle.h2_send.proofs.AboveLaws.{id-after_sending, found_within}
+use Rattle.h2_rules.proofs.SoundLaws.{peer-open-live}
 
 -- ---- one record in a list
 
@@ -505,21 +506,11 @@ idle-end s id x idle odd = λ st e h. even st e h (eqb (id % 2) 0) (ltb s.core.l
 closed-end : (s : State) (id : ℕ) → is_live (stream_at s.core.last s.streams id).kind ≡ true → MayEnd s id Closed
 closed-end s id live = live-update s id (not_live id WeReset) live (sym (at-id s.core.last s.streams id))
 
-peer-live : (k : StreamState) → is_peer_open k ≡ true → is_live k ≡ true
-peer-live Idle h = absurd (true≢false (sym h))
-peer-live Skipped h = absurd (true≢false (sym h))
-peer-live BothOpen h = refl
-peer-live HalfRemote h = refl
-peer-live HalfLocal h = refl
-peer-live Ended h = absurd (true≢false (sym h))
-peer-live PeerReset h = absurd (true≢false (sym h))
-peer-live WeReset h = absurd (true≢false (sym h))
-
 -- the open block's end
 purpose-end : (s : State) (id : ℕ) (purpose : Purpose) → IsOrdered s → IsOpenAt (record { streams = s.streams; last = s.core.last }) id purpose
     → ((j : ℕ) → is_reset_by j s.block ≡ (ends_in_reset purpose && eqb id j)) → MayEnd s id purpose
 purpose-end s id Request x o r = above-end s id x o.0
-purpose-end s id Trailers x o r = peer-live (kind_of s.core.last s.streams id) o
+purpose-end s id Trailers x o r = peer-open-live (kind_of s.core.last s.streams id) o
 purpose-end s id Closed x o r = λ st e h. true≢false (sym (eq-eqb id st.id (sym (found-id id s.streams st e))) ∙ sym (r st.id) ∙ not-reset s.block st h)
 purpose-end s id TableOnly x o r = tt
 

@@ -1,5 +1,6 @@
 -- What a fragment that is decoded results in.
-use Rattle.std.proofs.Common.{◌≡◌, ◌≢◌, ℕ, Bool, false, cond, ◌+◌, nat_lt, List, ◌++◌, length, Some, refl, sym, ap, ◌∙◌}
+use Rattle.std.proofs.Common.{◌≡◌, ◌≢◌, ℕ, Bool, true, false, cond, not, ◌+◌, nat_lt, List, ◌++◌, length, Option, Some, None, refl, sym, ap, ◌∙◌}
+use Rattle.std.specs.Prelude.{◌==◌}
 use Rattle.std.proofs.lemmas.Option.{none-some}
 use Rattle.h2_fields.specs.Blocks.{faulted}
 use Rattle.h2_fields.specs.declared.fault.BlockFault.{BlockFault}
@@ -7,14 +8,15 @@ use Rattle.h2_fields.specs.declared.fault.BlockFault.TheVariants as fault
 use Rattle.h2_spec.specs.declared.connection.BlockView.{BlockView}
 use Rattle.h2_spec.specs.declared.connection.Purpose.{Purpose}
 use Rattle.h2_spec.specs.declared.causes.Cause.{Cause}
-use Rattle.h2_spec.specs.declared.causes.Cause.TheVariants.{BlockTooLarge}
+use Rattle.h2_spec.specs.declared.causes.Cause.TheVariants.{BlockTooLarge, BlockTruncated, SizeUpdateMissing}
 use Rattle.h2_fields.specs.Faults.{fault_of}
 use Rattle.h2_spec.specs.Block.{Fault, ZeroIndex, Index, Integer, Huffman, LateUpdate, LargeUpdate, MissingUpdate, Decoded, Faulty, Outcome, Unfinished, decoded, list_size}
 use Rattle.h2_spec.specs.DynamicTable.{Table}
 use Rattle.h2_spec.specs.Headers as headers
 use Rattle.h2_spec.specs.Headers.{FrameEffect, fragment_decoded, fragment_read, fault_cause}
 use Rattle.h2_spec.specs.State as state
-use Rattle.h2_rules.specs.Block.{cause_by}
+use Rattle.h2_rules.specs.Block.{cause_by, refused_end}
+use Rattle.h2_block.specs.Blocks.{bad_end}
 use Rattle.h2_block.specs.Fragments.{HasFault, after_fragment, before_fragment}
 
 -- the cause of a fault of the octets
@@ -67,3 +69,16 @@ fragment-read s b d after octets ends table size few purpose counts e =
     ∙ ap (λ x. fragment_decoded s view d.purpose ends x) e
     ∙ ap (λ (n : ℕ). fragment_read now (record view { list_size = n }) (record after { purpose = d.purpose }) ends) (sym counts)
     ∙ ap (λ (p : Purpose). fragment_read now (record view { list_size = size }) (record after { purpose = p }) ends) (sym purpose)
+
+-- a block that can't end
+pub ends-badly : (s : state.State) (b : BlockView) (d : state.Decoding) (cause : Cause) → bad_end d ≡ Some cause → headers.fragment_read s b d true ≡ headers.Breaks cause
+ends-badly s b d cause h = by (length d.rest == 0) d.due h
+  where
+    breaks : (one : Cause) → (let o : Option Cause = Some one in o) ≡ Some cause → (let e : FrameEffect = headers.Breaks one in e) ≡ headers.Breaks cause
+    breaks one e = cc
+
+    by : (whole due : Bool) → refused_end whole due ≡ Some cause →
+        cond (not whole) (headers.Breaks BlockTruncated) (cond due (headers.Breaks SizeUpdateMissing) (headers.Makes (headers.with_block s None) (headers.block_ends s b.stream b.ends d.fields d.purpose))) ≡ headers.Breaks cause
+    by false due e = breaks BlockTruncated e
+    by true true e = breaks SizeUpdateMissing e
+    by true false e = absurd (none-some cause e)

@@ -31,6 +31,7 @@ fn set_counts(core: &mut ConnectionState, after: &ConnectionState, count: u64)
     requires same { after.now ≡ with_counts core.old after.now }
     ensures { core.new ≡ record after.now { send = after.now.send -ℤ pos count } }
 {
+    core.last = after.last;
     core.recv = after.recv;
     core.owed = after.owed;
     core.send = without(after.send, count);
@@ -82,8 +83,8 @@ impl<'b, A: Allocator + Copy> State<'b, A> {
 }
 
 impl<'b, A: Allocator + Copy> State<'b, A> {
-    /// Makes a change that leaves the phase, the settings and the last stream as they are, and sends its frames and
-    /// then the pending output; or does nothing. The counts change in place. Answers how its item is judged.
+    /// Makes a change that leaves the phase and the settings as they are, and sends its frames and then the pending
+    /// output; or does nothing. The counts change in place. Answers how its item is judged.
     #[inline(always)]
     pub fn apply_in_place<O: Outgoing<'b, A>>(
         &mut self,
@@ -108,8 +109,8 @@ impl<'b, A: Allocator + Copy> State<'b, A> {
 }
 
 impl<'b, A: Allocator + Copy> State<'b, A> {
-    /// Ends the connection with a GOAWAY, or does nothing; an open block is decoded no more. Answers that the item is an error for
-    /// this cause.
+    /// Ends the connection with a GOAWAY, or does nothing; an open block is decoded no more. Answers that the item is an
+    /// error for this cause.
     pub fn fail<O: Outgoing<'b, A>>(
         &mut self,
         cause: Cause,

@@ -11,8 +11,9 @@ ghost use Rattle.h2_spec.specs.State.{is_due};
 ghost use Rattle.h2_spec.specs.Stream.{stream_at};
 ghost use Rattle.h2_spec.specs.ReactionTable.{headers_cell};
 ghost use Rattle.h2_spec.specs.declared.causes.Cause.TheVariants.{ContinuationOutsideBlock};
-ghost use Rattle.h2_block.specs.Blocks.{block_after};
+ghost use Rattle.h2_block.specs.Blocks.{bad_end, block_after};
 ghost use Rattle.h2_conn.specs.Blocks.{IsOpenAt, IsOpenFor, IsStopped, decoding_of, limited, makes_open, with_table};
+ghost use Rattle.h2_conn.specs.Counts.{with_counts};
 ghost use Rattle.h2_conn.specs.Does.{Does, stepped, stopped};
 ghost use Rattle.h2_block.specs.Fragments.{IsSized, after_of, before_of};
 ghost use Rattle.h2_conn.specs.Records.{records};
@@ -22,7 +23,7 @@ ghost use Rattle.h2_table.specs.Edits.{IsEdit};
 
 use crate::scratch::Scratch;
 use crate::state::State;
-use h2_block::{Decoding, Tentative, block_ends, fresh_block, leave_open};
+use h2_block::{Decoding, Tentative, block_ends, fresh_block, leave_open, opening};
 use h2_frame::{HeadersPart, Outgoing};
 use h2_rules::block::{goes_on, headers_purpose};
 use h2_spec::causes::Cause;
@@ -53,11 +54,12 @@ impl<'b, A: Allocator + Copy> State<'b, A> {
         requires belongs { IsEdit (limited self.old.core.own.table self.old.table) edit.old }
         requires sound { IsSoundChange self.old.book (records self.old) (in_force self.old.core) change.now }
         requires known { IsOpenFor (updated_records change.now.record_update (records self.old)) (block_after shown (after_of decoding.old tentative)) }
+        requires same { change.now.core ≡ with_counts self.old.core change.now.core }
         ensures ok { OnOk result (Does (stepped (rule.concluded self.old (makes_open self.old edit.old shown (after_of decoding.old tentative) change.now))) (O.octets out.old) self.new (O.octets out.new)) }
         ensures verdict { IfOk result (λ verdict. verdict ≡ rule.effect_verdict (makes_open self.old edit.old shown (after_of decoding.old tentative) change.now)) }
         ensures err { OnErr result ((decoding.new ≡ before_of decoding.old tentative) × (self.new ≡ self.old) × (O.octets out.new ≡ O.octets out.old)) }
     {
-        match self.apply_change(change, out) {
+        match self.apply_in_place(change, out) {
             Ok(verdict) => {
                 decoding.take_over(tentative);
                 leave_open(&mut self.block, shown, decoding);
@@ -115,8 +117,8 @@ impl<'b, A: Allocator + Copy> State<'b, A> {
         self.finish(Some(shown), &change, decoding, tentative, edit, out)
     }
 
-    /// A fragment was decoded that ends its block: HEADERS or CONTINUATION with END_HEADERS; or nothing is done, as `finish`
-    /// says.
+    /// A fragment was decoded that ends its block: HEADERS or CONTINUATION with END_HEADERS; or nothing is done, as
+    /// `finish` says.
     #[inline(never)]
     fn ends<O: Outgoing<'b, A>>(
         &mut self,
@@ -137,7 +139,7 @@ impl<'b, A: Allocator + Copy> State<'b, A> {
         match decoding.bad_end(&tentative) {
             Some(cause) => self.refuse(cause, decoding, tentative, out),
             None => {
-                let change = block_ends(
+                let opening = opening(
                     self.book,
                     self.config,
                     self.core(),
@@ -146,9 +148,44 @@ impl<'b, A: Allocator + Copy> State<'b, A> {
                     decoding.purpose,
                     &decoding.collected,
                 );
-                self.finish(None, &change, decoding, tentative, edit, out)
+                match opening {
+                    Some(change) => self.finish(None, &change, decoding, tentative, edit, out),
+                    None => self.ends_otherwise(shown, decoding, tentative, edit, out),
+                }
             }
         }
+    }
+
+    /// A fragment was decoded that ends its block, where that is no request that opens its stream; or nothing is done, as
+    /// `finish` says.
+    #[inline(never)]
+    fn ends_otherwise<O: Outgoing<'b, A>>(
+        &mut self,
+        shown: BlockView,
+        decoding: &mut Decoding<A>,
+        tentative: Tentative<A>,
+        edit: &mut Edit<A>,
+        out: &mut O,
+    ) -> Result<Verdict, AllocError>
+        requires stopped { IsStopped self.old.block }
+        requires sized { IsSized decoding.old tentative }
+        requires belongs { IsEdit (limited self.old.core.own.table self.old.table) edit.old }
+        requires open { IsOpenAt (records self.old) shown.stream decoding.old.purpose }
+        requires whole { bad_end (after_of decoding.old tentative) ≡ None }
+        ensures ok { OnOk result (Does (stepped (rule.concluded self.old (headers.fragment_read (with_table self.old edit.old) shown (after_of decoding.old tentative) true))) (O.octets out.old) self.new (O.octets out.new)) }
+        ensures verdict { IfOk result (λ verdict. verdict ≡ rule.effect_verdict (headers.fragment_read (with_table self.old edit.old) shown (after_of decoding.old tentative) true)) }
+        ensures err { OnErr result ((decoding.new ≡ before_of decoding.old tentative) × (self.new ≡ self.old) × (O.octets out.new ≡ O.octets out.old)) }
+    {
+        let change = block_ends(
+            self.book,
+            self.config,
+            self.core(),
+            &self.streams,
+            &shown,
+            decoding.purpose,
+            &decoding.collected,
+        );
+        self.finish(None, &change, decoding, tentative, edit, out)
     }
 
     /// The open block as it is shown, and its decoding, taken out of the state into `decoding`: it is only shown until the

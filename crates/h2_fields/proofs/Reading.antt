@@ -1,6 +1,7 @@
 -- What the code reads at the front of octets is what the definitions have there.
-use Rattle.std.proofs.Common.{◌≡◌, ℕ, List, [], ◌∷◌, length, Option, Some, None, IsSome, refl, ap, ◌∙◌, sym, subst, arith}
-use Rattle.h2_spec.specs.Instruction.{Shape, Instruction, instr_at, instruction_of, instruction_at}
+use Rattle.std.proofs.Common.{◌≡◌, ℕ, ◌-◌, ◌%◌, ◌<◌, ◌≤◌, List, [], ◌∷◌, length, Option, Some, None, IsSome, refl, ap, ◌∙◌, sym, subst, arith, le-leb, lt-ltb}
+use Rattle.h2_spec.specs.Instruction.{Shape, Instruction, Indexed, instr_at, instruction_of, instruction_at}
+use Rattle.h2_spec.specs.Integer.{int_at}
 use Rattle.h2_spec.specs.Read.{Whole, More, TooLong, read_map}
 use Rattle.h2_fields.specs.Instructions.{HasInstruction}
 
@@ -8,6 +9,14 @@ pub instr-none : (b : List ℕ) → length b ≡ 0 → More ≡ instr_at b
 unfolding instr_at
 instr-none [] e = refl
 instr-none (o ∷ b) e = absurd (omega arith)
+
+-- an index of one octet
+pub short-index : (o : ℕ) (b : List ℕ) → 128 ≤ o → o < 255 → instr_at (o ∷ b) ≡ Whole (Indexed (o - 128)) 1
+unfolding instr_at int_at
+short-index o b h k =
+    let index : o % 128 ≡ o - 128 = omega (arith, h, k) in
+    let small : o - 128 < 127 = omega (arith, h, k) in
+    rw (le-leb 128 o h, index, lt-ltb (o - 128) 127 small) refl
 
 -- ---- an instruction by its texts
 

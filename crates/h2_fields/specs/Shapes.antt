@@ -1,5 +1,5 @@
 -- What the code reads, as the definitions' shapes.
-use Rattle.std.specs.Prelude.{ℕ, Result, Ok, Err}
+use Rattle.std.specs.Prelude.{ℕ, ◌-◌, ◌&&◌, List, [], ◌∷◌, nat_le, nat_lt, if◌then◌else◌, Option, Some, None, Result, Ok, Err}
 use Rattle.h2_fields.specs.declared.instruction.Mode.{Mode}
 use Rattle.h2_fields.specs.declared.instruction.Mode.TheVariants as mode
 use Rattle.h2_fields.specs.declared.shape.ShapeFault.{ShapeFault}
@@ -34,3 +34,8 @@ abbrev pub read_of : {X Y : Type 0} → (X → Y) → Result (X × ℕ) ShapeFau
 read_of view (Ok r) = Whole (view r.0) r.1
 read_of view (Err (cut.More next)) = More
 read_of view (Err cut.TooLong) = TooLong
+
+-- the index of a field of the tables whose instruction is the first octet alone (RFC 7541, 5.1 and 6.1)
+abbrev pub short_index : List ℕ → Option ℕ
+short_index [] = None
+short_index (o ∷ xs) = if nat_le 128 o && nat_lt o 255 then Some (o - 128) else None

@@ -142,6 +142,7 @@ impl<A: Allocator> Collected<A> {
     }
 
     /// The field at a place with its mark; none at `len()` and above.
+    #[inline(always)]
     pub fn lent(&self, place: usize) -> Option<LentField<'_>>
         ensures field { option_map field_lent result ≡ slice_get self.now.fields place }
         ensures marked { IfSome result IsMarked }
@@ -218,6 +219,7 @@ impl<A: Allocator> Collected<A> {
     /// # Errors
     ///
     /// `AllocError` where memory was refused; the fields are as they were.
+    #[inline(always)]
     pub fn add(&mut self, added: LentField<'_>) -> Result<(), AllocError>
         requires marked { IsMarked added }
         ensures ok { OnOk result (self.new ≡ record self.old { fields = self.old.fields ++ field_lent added.entry ∷ [] }) }
@@ -238,6 +240,7 @@ impl<A: Allocator> Collected<A> {
     /// # Errors
     ///
     /// `AllocError` where memory was refused; the fields before it stay.
+    #[inline(always)]
     pub fn add_indexed(
         &mut self,
         index: u64,
@@ -248,14 +251,46 @@ impl<A: Allocator> Collected<A> {
         ensures ok { OnOk result (self.new ≡ record self.old { fields = self.old.fields ++ field_lent added.entry ∷ [] }) }
         ensures err { OnErr result (self.new ≡ self.old) }
     {
-        let LentField { name, value, mark } = added;
-        if is_short(name, value) {
-            return self.add(added);
+        let place = if is_short(added.name, added.value) {
+            usize::MAX
+        } else {
+            self.place_like(index, limit)?
+        };
+        if place < self.list.len() {
+            self.add_like(place, added)
+        } else {
+            self.add(added)
         }
-        self.marks.reserve(1)?;
+    }
+
+    /// Where a field of this index may be; a place at the end of the fields and above where none is. The next field is
+    /// noted as one of the index.
+    ///
+    /// # Errors
+    ///
+    /// `AllocError` where memory was refused; the fields are as they were.
+    fn place_like(&mut self, index: u64, limit: u32) -> Result<usize, AllocError>
+        ensures { self.new ≡ self.old }
+    {
         let key = self.hints.key(index, limit);
         let place = self.hints.place(key);
         self.hints.set(key, limit, self.list.len())?;
+        Ok(place)
+    }
+
+    /// Adds a field after the others; `place` is that of a field that may be the same, whose octets are shared then.
+    ///
+    /// # Errors
+    ///
+    /// `AllocError` where memory was refused; the fields before it stay.
+    #[inline(never)]
+    fn add_like(&mut self, place: usize, added: LentField<'_>) -> Result<(), AllocError>
+        requires marked { IsMarked added }
+        ensures ok { OnOk result (self.new ≡ record self.old { fields = self.old.fields ++ field_lent added.entry ∷ [] }) }
+        ensures err { OnErr result (self.new ≡ self.old) }
+    {
+        let LentField { name, value, mark } = added;
+        self.marks.reserve(1)?;
         let size = size_of(name, value);
         self.list.append_like(place, name, value)?;
         self.marks.push_reserved(mark);

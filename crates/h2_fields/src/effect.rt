@@ -39,7 +39,8 @@ pub fn apply<A: Allocator + Copy>(
 }
 
 /// A field of the tables (RFC 7541, 6.1).
-fn apply_indexed<A: Allocator + Copy>(
+#[inline(always)]
+pub(crate) fn apply_indexed<A: Allocator + Copy>(
     collected: &mut Collected<A>,
     draft: &Draft<'_, A>,
     index: u64,

@@ -14,17 +14,18 @@ ghost use Rattle.h2_fields.specs.Shapes.{shape_of};
 ghost use Rattle.h2_fields.specs.declared.fault.BlockFault.TheVariants as faults;
 
 use crate::collected::Collected;
-use crate::effect::apply;
+use crate::effect::{apply, apply_indexed};
 use crate::fault::BlockFault;
 use crate::rest::RestChange;
-use crate::shape::{Point, Shape, ShapeFault, shape_from};
+use crate::shape::{Point, Shape, ShapeFault, shape_from, short_index};
 use h2_spec::octets::octets_from;
 use h2_table::{Draft, DynTable, Edit};
 use std::alloc::Allocator;
 use std::mem;
 
 /// Does what the whole instructions at the front of the octets say; reading goes on from a point of the first one.
-/// Returns how many octets they take, and the point where reading goes on after them, and counts the steps.
+/// Returns how many octets they take, and the point where reading goes on after them, and counts the steps. An index of
+/// one octet, which is most frequent, is read by itself: the value of all that an instruction can be goes through memory.
 fn decode<A: Allocator + Copy>(
     collected: &mut Collected<A>,
     draft: &mut Draft<'_, A>,
@@ -46,6 +47,13 @@ fn decode<A: Allocator + Copy>(
     let mut point = from;
     loop {
         let left = octets_from(octets, at);
+        if let Some(index) = short_index(point, left) {
+            apply_indexed(collected, draft, index)?;
+            *ticks = with_instruction(*ticks, 1 - point.passed, Shape::Indexed(index));
+            at += 1;
+            point = Point::start();
+            continue;
+        }
         match shape_from(point, left) {
             Ok((shape, used)) => {
                 apply(collected, draft, shape)?;

@@ -2,13 +2,13 @@
 //! on from where its octets stopped. It takes no memory. The definition is `instr_at` of `h2_spec`,
 //! specs/Instruction.antt; what is known of an instruction that is cut is in `specs/Resume.antt`.
 
-ghost use Rattle.std.specs.Prelude.{◌≡◌, ◌≤◌, ◌+◌, ◌-◌, ◌^◌, ℕ, List, ◌++◌, length, drop, min, IfOk};
+ghost use Rattle.std.specs.Prelude.{◌≡◌, ◌≤◌, ◌+◌, ◌-◌, ◌^◌, ◌==◌, ℕ, List, ◌++◌, length, drop, min, None, IfOk, IfSome, if◌then◌else◌};
 ghost use Rattle.h2_prim.specs.Readings.{int_read};
 ghost use Rattle.h2_spec.specs.Integer.{int_at};
 ghost use Rattle.h2_spec.specs.Instruction as spec;
-ghost use Rattle.h2_spec.specs.Read.{read_map};
+ghost use Rattle.h2_spec.specs.Read.{Whole, read_map};
 ghost use Rattle.h2_fields.specs.Resume.{BeginsLiteral, Nothing, NameLength, NameOctets, ValueLength, ValueOctets, IfMore, IsIntegerAt, IsNameBefore, IsPoint, IsReadOn, IsRest, IsTaken, huffman_flag, huffman_octets, name_at, string_octets};
-ghost use Rattle.h2_fields.specs.Shapes.{mode_of, string_of, name_of, shape_of, read_of};
+ghost use Rattle.h2_fields.specs.Shapes.{mode_of, string_of, name_of, shape_of, short_index, read_of};
 
 use crate::instruction::Mode;
 use h2_prim::{IntRead, read_int};
@@ -94,6 +94,23 @@ impl Point {
             at: 0,
             passed: 0,
         }
+    }
+}
+
+/// The index of a field of the tables that the octets begin with, where it takes one octet, whole: it is below 127 (RFC
+/// 7541, 6.1). None where octets of an instruction were passed before.
+#[inline(always)]
+pub fn short_index(point: Point, octets: &[u8]) -> Option<u64>
+    ensures value { result ≡ (if point.passed == 0 then short_index octets.now else None) }
+    ensures read { IfSome result (λ index. spec.instr_at octets.now ≡ Whole (spec.Indexed index) 1) }
+    ensures taken { IfSome result (λ index. IsTaken octets.now point.passed (spec.Indexed index) 1) }
+{
+    if point.passed != 0 {
+        return None;
+    }
+    match octets.split_first() {
+        Some((first, _)) if 128 <= *first && *first < 255 => Some(u64::from(*first - 128)),
+        _ => None,
     }
 }
 

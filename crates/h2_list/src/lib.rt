@@ -250,6 +250,7 @@ impl<A: Allocator> FieldList<A> {
     /// # Errors
     ///
     /// `AllocError` where memory was refused; the fields are as they were.
+    #[inline(always)]
     pub fn append(&mut self, name: &[u8], value: &[u8]) -> Result<(), AllocError>
         ensures ok { OnOk result (self.new ≡ record { fields = self.old.fields ++ field name.now value.now ∷ []; next = [] }) }
         ensures err { OnErr result (self.new.fields ≡ self.old.fields) }

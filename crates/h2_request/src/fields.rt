@@ -33,6 +33,7 @@ impl<'a, A: Allocator> Fields<'a, A> {
 
     /// The field at a place, counted from 0, with its mark; none from the end of the list on. A block has the marks of
     /// its fields already.
+    #[inline(always)]
     pub fn get(&self, place: usize) -> Option<LentField<'a>>
         ensures field { option_map field_lent result ≡ slice_get (fields_in self.now) place }
         ensures marked { IfSome result IsMarked }

@@ -190,6 +190,7 @@ pub struct FieldScan<'a> {
 
 impl<'a> FieldScan<'a> {
     /// Of these fields, in one walk over them.
+    #[inline(always)]
     pub fn of<A: Allocator>(fields: &Fields<'a, A>) -> Self
         ensures { AreSeen (fields_in fields.now) result }
     {

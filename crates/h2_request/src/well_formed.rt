@@ -54,6 +54,7 @@ pub fn check<A: Allocator>(fields: &[Field<A>]) -> Result<Request<'_>, Malformed
 /// # Errors
 ///
 /// As `check`.
+#[inline(never)]
 pub fn check_fields<'a, A: Allocator>(fields: &Fields<'a, A>) -> Result<Request<'a>, Malformed>
     ensures accepted { OnOk result (malformed (fields_in fields.now) ≡ None) }
     ensures request { IfOk result (λ request. asked request ≡ request_of (fields_in fields.now)) }

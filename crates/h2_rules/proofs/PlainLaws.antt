@@ -1,7 +1,6 @@
 -- Frames that only move numbers: what their tests say, and which rule they follow.
-use Rattle.std.proofs.Common.{◌≡◌, ℕ, nat_lt, Bool, true, false, ◌&&◌, not, cond, Option, Some, None, refl, ap, ◌∙◌, pos, int_lt}
+use Rattle.std.proofs.Common.{◌≡◌, ℕ, nat_lt, Bool, true, false, ◌&&◌, cond, Option, None, refl, ap, ◌∙◌, pos, int_lt}
 use Rattle.std.proofs.lemmas.Bool.{false≢true, not-true}
-use Rattle.std.specs.Option.{is_some}
 use Rattle.h2_spec.specs.declared.causes.Cause.{Cause}
 use Rattle.h2_spec.specs.declared.causes.Cause.TheVariants.{ConnectionWindowExceeded, StreamWindowExceeded}
 use Rattle.h2_spec.specs.declared.connection.Config.{Config}
@@ -21,22 +20,19 @@ use Rattle.h2_spec.specs.Stream.{is_live, is_peer_open}
 use Rattle.h2_spec.specs.StreamEnds.{peer_ended}
 use Rattle.h2_spec.proofs.Computed.{and-left, and-right}
 use Rattle.h2_rules.specs.Plain.{only_raises, only_takes}
+use Rattle.h2_rules.proofs.SoundLaws.{no-cause, peer-open-live}
 
 -- an increment that only raises a window is one of a live stream
 pub raises-live : (increment : ℕ) (st : Stream) → only_raises increment st ≡ true → is_live st.kind ≡ true
 raises-live increment st h = and-left _ _ (and-left _ _ h)
 
-no-cause : (o : Option Cause) → not (is_some o) ≡ true → o ≡ None
-no-cause None h = refl
-no-cause (Some cause) h = absurd (false≢true h)
-
--- a stream on which the peer may still send is live, and takes DATA
-open-takes : (kind : StreamState) → is_peer_open kind ≡ true → (is_live kind ≡ true) × (data_cell kind ≡ Rule Take)
+-- a stream on which the peer may still send takes DATA
+open-takes : (kind : StreamState) → is_peer_open kind ≡ true → data_cell kind ≡ Rule Take
 open-takes Idle h = absurd (false≢true h)
 open-takes Skipped h = absurd (false≢true h)
-open-takes BothOpen h = (refl, refl)
+open-takes BothOpen h = refl
 open-takes HalfRemote h = absurd (false≢true h)
-open-takes HalfLocal h = (refl, refl)
+open-takes HalfLocal h = refl
 open-takes Ended h = absurd (false≢true h)
 open-takes PeerReset h = absurd (false≢true h)
 open-takes WeReset h = absurd (false≢true h)
@@ -55,7 +51,7 @@ parts core d st h =
     (and-left _ _ two, not-true _ (and-right _ _ two), not-true _ (and-right _ _ three), not-true _ (and-right _ _ four), no-cause (declared_broken d st) (and-right _ _ h))
 
 pub takes-live : (core : ConnectionState) (d : ReceivedData) (st : Stream) → only_takes core d st ≡ true → is_live st.kind ≡ true
-takes-live core d st h = (open-takes st.kind (parts core d st h).0).0
+takes-live core d st h = peer-open-live st.kind (parts core d st h).0
 
 -- what the stream does with it
 outcome-taken : (threshold body : ℕ) (d : ReceivedData) (st : Stream) → d.ends ≡ false → (nat_lt 0 d.octets && int_lt st.numbers.recv (pos d.octets)) ≡ false → declared_broken d st ≡ None →
@@ -74,6 +70,6 @@ pub takes-rule : (config : Config) (core : ConnectionState) (body : ℕ) (d : Re
 unfolding on_data data_taken
 takes-rule config core body d st h =
     let all = parts core d st h in
-    ap (λ (cell : Cell DataRule). run_cell ConnectionError (ignore core) (λ rule. data_rule rule config core body d st) cell) (open-takes st.kind all.0).1
+    ap (λ (cell : Cell DataRule). run_cell ConnectionError (ignore core) (λ rule. data_rule rule config core body d st) cell) (open-takes st.kind all.0)
     ∙ ap (λ (t : Bool). cond t (let r : Reaction = ConnectionError ConnectionWindowExceeded in r) (Continues (with_outcome (counted config.credit core d.octets) (data_outcome config.credit body d st)))) all.2
     ∙ ap (λ (o : StreamOutcome). Continues (with_outcome (counted config.credit core d.octets) o)) (outcome-taken config.credit body d st all.1 all.3 all.4)

@@ -1,8 +1,10 @@
 -- The counts stay within their limits, and the records within what the book has.
-use Rattle.std.proofs.Common.{◌≡◌, ℕ, ◌%◌, ltb, eqb, ◌<◌, ◌≤◌, List, [], ◌∷◌, Bool, true, false, cond, ◌||◌, ◌&&◌, not, max, Some, refl, sym, ap, subst, ◌⊎◌, inl, inr, ◌∙◌, arith, ℤ, pos, negsuc, ◌+ℤ◌, ◌-ℤ◌, ◌≤ℤ◌, int_lt}
+use Rattle.std.proofs.Common.{◌≡◌, ℕ, ◌%◌, ltb, eqb, ◌<◌, ◌≤◌, List, [], ◌∷◌, Bool, true, false, cond, ◌||◌, ◌&&◌, not, max, Option, Some, None, refl, sym, ap, subst, ◌⊎◌, inl, inr, ◌∙◌, arith, ℤ, pos, negsuc, ◌+ℤ◌, ◌-ℤ◌, ◌≤ℤ◌, int_lt}
 use Rattle.std.proofs.lemmas.Bool.{false≢true}
 use Rattle.std.proofs.lemmas.Int.{ints}
 use Rattle.std.specs.List.{AllByRecursion}
+use Rattle.std.specs.Option.{is_some}
+use Rattle.h2_spec.specs.declared.causes.Cause.{Cause}
 use Rattle.h2_spec.specs.declared.connection.ConnectionState.{ConnectionState}
 use Rattle.h2_spec.specs.declared.flow.LocalSettings.{LocalSettings}
 use Rattle.h2_spec.specs.declared.reactions.Change.{Change}
@@ -15,7 +17,7 @@ use Rattle.h2_spec.specs.Answer.{Entry}
 use Rattle.h2_spec.specs.Change.{follows_initial_window, moved_by, overflows, overflows_one, received, received_one, shifted, shifted_one, updated_streams, with_recv, with_send}
 use Rattle.h2_spec.specs.SettingsFrame.{comes_into_force}
 use Rattle.h2_spec.specs.StreamEnds.{server_ended, server_ended_as}
-use Rattle.h2_spec.specs.Stream.{Records, is_live, kind_of, not_live, octets_waiting, put, record_of, recorded, stream_at}
+use Rattle.h2_spec.specs.Stream.{Records, is_live, is_peer_open, kind_of, not_live, octets_waiting, put, record_of, recorded, stream_at}
 use Rattle.h2_spec.specs.Window.{is_above_max}
 use Rattle.h2_streams.specs.Put.{CanPut, is_closed}
 use Rattle.h2_streams.specs.Shift.{CanReceive, CanShift}
@@ -51,6 +53,22 @@ pub is-live : (kind : StreamState) → (kind ≡ BothOpen) ⊎ ((kind ≡ HalfLo
 is-live kind (inl is) = ap is_live is
 is-live kind (inr (inl is)) = ap is_live is
 is-live kind (inr (inr is)) = ap is_live is
+
+-- no cause is found
+pub no-cause : (o : Option Cause) → not (is_some o) ≡ true → o ≡ None
+no-cause None h = refl
+no-cause (Some cause) h = absurd (false≢true h)
+
+-- a stream that the peer may still send on is live
+pub peer-open-live : (kind : StreamState) → is_peer_open kind ≡ true → is_live kind ≡ true
+peer-open-live Idle h = h
+peer-open-live Skipped h = h
+peer-open-live BothOpen h = refl
+peer-open-live HalfRemote h = refl
+peer-open-live HalfLocal h = refl
+peer-open-live Ended h = h
+peer-open-live PeerReset h = h
+peer-open-live WeReset h = h
 
 -- a live stream is not above the last one that was opened
 pub live-within : (last id : ℕ) (streams : List Stream) → is_live (stream_at last streams id).kind ≡ true → id ≤ last

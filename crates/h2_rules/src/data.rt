@@ -70,6 +70,14 @@ fn returned(threshold: u32, stream: Stream) -> StreamOutcome
     outcome_without_frame(stream)
 }
 
+/// The content that a stream has received with more of it: as far as 64 bits go, which is far above what can be declared.
+fn content_with(stream: &Stream, incoming: ReceivedData) -> u64
+    ensures { result ≡ rule.content_with stream.now.numbers.content_received incoming.content }
+{
+    let received = stream.numbers.content_received;
+    received.saturating_add(u64::from(incoming.content))
+}
+
 /// The stream has taken the octets.
 #[tactic(auto, unfolding(h2_spec::specs::Data::taken, h2_spec::specs::Stream::octets_waiting))]
 fn taken(stream: Stream, incoming: ReceivedData) -> Stream
@@ -86,9 +94,7 @@ fn taken(stream: Stream, incoming: ReceivedData) -> Stream
     let numbers = Numbers {
         recv: numbers.recv.minus(incoming.octets),
         owed: numbers.owed.plus(incoming.octets),
-        content_received: numbers
-            .content_received
-            .saturating_add(u64::from(incoming.content)),
+        content_received: content_with(&stream, incoming),
         ..numbers
     };
     Stream { numbers, ..stream }
@@ -99,14 +105,6 @@ fn exceeds(window: Window, octets: u32) -> bool
     ensures { result ≡ (nat_lt 0 octets && int_lt window (pos octets)) }
 {
     0 < octets && window.is_below(octets)
-}
-
-/// The content that a stream has received with more of it: as far as 64 bits go, which is far above what can be declared.
-fn content_with(stream: &Stream, incoming: ReceivedData) -> u64
-    ensures { result ≡ rule.content_with stream.now.numbers.content_received incoming.content }
-{
-    let received = stream.numbers.content_received;
-    received.saturating_add(u64::from(incoming.content))
 }
 
 /// DATA on a stream whose peer's side is open: the threshold, and the length of the answer's body.
@@ -124,9 +122,7 @@ fn data_outcome(threshold: u32, body: u64, incoming: ReceivedData, stream: Strea
     if exceeds(numbers.recv, incoming.octets) {
         return stream_error(stream.id, Cause::StreamWindowExceeded);
     }
-    let content_received = numbers
-        .content_received
-        .saturating_add(u64::from(incoming.content));
+    let content_received = content_with(&stream, incoming);
     if let Some(cause) = length_broken(numbers.declared, content_received, incoming.ends) {
         return stream_error(stream.id, cause);
     }

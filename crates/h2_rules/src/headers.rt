@@ -7,6 +7,7 @@ ghost use Rattle.h2_spec.specs.Answer.{Entry, picked};
 ghost use Rattle.h2_spec.specs.Cause.{first_of};
 ghost use Rattle.h2_spec.specs.Data.{length_broken};
 ghost use Rattle.h2_request.specs.Lent.{IsPickOf};
+ghost use Rattle.h2_rules.specs.Plain.{is_well_formed, opened};
 ghost use Rattle.h2_rules.specs.Sound.{HasBody, InForce, IsSoundConnectionState, IsSoundStream, in_force, is_recorded};
 
 use crate::change::{outcome_without_frame, stream_error};
@@ -47,8 +48,8 @@ fn new_stream(core: ConnectionState, id: u32, summary: BlockSummary) -> Stream
     }
 }
 
-/// Whether as many streams are live as may be.
-fn is_full(config: Config, live: usize) -> bool
+/// Whether as many streams are live as may be (RFC 9113, 5.1.2).
+pub fn is_full(config: Config, live: usize) -> bool
     ensures { result ≡ nat_le config.streams live }
 {
     config.streams as usize <= live
@@ -108,9 +109,45 @@ fn trailers_broken(malformed: Option<Cause>, ends: bool, numbers: Numbers) -> Op
     first_of(malformed, first_of(unended(ends), length))
 }
 
-/// What becomes of the stream that a request opens (RFC 9113, 8.1): it is answered where the request has ended or its
-/// answer is `early`, and otherwise waits for content and trailers. `live` is the number of live streams, `body` the
-/// length of the answer's body in octets.
+/// Whether the fields of a request are neither too many nor malformed, and it has the content that it declares, as far
+/// as its block says (RFC 9113, 8.1.1).
+#[inline(always)]
+pub fn is_well_formed(ends: bool, summary: &BlockSummary) -> bool
+    ensures { result ≡ is_well_formed ends summary.now }
+{
+    !is_too_large(summary.size) && request_broken(ends, *summary).is_none()
+}
+
+/// What becomes of the stream that a well-formed request opens: it is answered where the request has ended or its answer
+/// is `early`, and otherwise waits for content and trailers (RFC 9113, 8.1).
+#[inline(always)]
+pub fn opened(
+    body: u64,
+    early: bool,
+    core: ConnectionState,
+    id: u32,
+    ends: bool,
+    summary: BlockSummary,
+) -> StreamOutcome
+    requires core { IsSoundConnectionState core }
+    ensures rule { result ≡ opened body early core id ends summary }
+    ensures id { result.stream.id ≡ id }
+    ensures sound { IsSoundStream (in_force core) result.stream }
+    ensures waits { (book : List Entry) → body ≡ length (picked book summary.pick).body → IsPickOf book summary.pick → HasBody book result.stream }
+    ensures recorded { is_recorded result.stream.kind ≡ true }
+{
+    let stream = new_stream(core, id, summary);
+    if ends {
+        peer_ended(body, stream)
+    } else if early {
+        answered(body, stream)
+    } else {
+        outcome_without_frame(stream)
+    }
+}
+
+/// What becomes of the stream that a request opens, as `opened` where it is no error (RFC 9113, 8.1). `live` is the
+/// number of live streams, `body` the length of the answer's body in octets.
 ///
 /// # Errors
 ///
@@ -146,14 +183,7 @@ pub fn request_outcome(
     if let Some(cause) = request_broken(ends, summary) {
         return stream_error(id, cause);
     }
-    let stream = new_stream(core, id, summary);
-    if ends {
-        peer_ended(body, stream)
-    } else if early {
-        answered(body, stream)
-    } else {
-        outcome_without_frame(stream)
-    }
+    opened(body, early, core, id, ends, summary)
 }
 
 /// What trailers do to their stream (RFC 9113, 8.1): they end the peer's side, and the request is answered. `size` is

@@ -80,6 +80,19 @@ unfolding window_left
 left-none w [] h = refl
 left-none w (x ∷ xs) h = left-skip w x xs h.0 ∙ left-none w xs h.1
 
+-- nor can one with a record put of which nothing waits
+allowance-quiet : (w : ℕ) (st : Stream) → octets_waiting st ≡ 0 → allowance w st ≡ 0
+unfolding allowance
+allowance-quiet w st h = omega (arith, h)
+
+pub none-put : (w : ℕ) (st : Stream) (ss : List Stream) → octets_waiting st ≡ 0 → NoneSends w ss → NoneSends w (put st ss)
+none-put w st [] none h = (allowance-quiet w st none, tt)
+none-put w st (x ∷ xs) none h = at (eqb x.id st.id) (none-put w st xs none h.1)
+  where
+    at : (t : Bool) → NoneSends w (put st xs) → NoneSends w (cond t (st ∷ xs) (x ∷ put st xs))
+    at true more = (allowance-quiet w st none, h.1)
+    at false more = (h.0, more)
+
 -- ---- where one record is put among such, its stream alone sends
 
 pub sent-alone : (book : List Entry) (size w : ℕ) (st : Stream) (ss : List Stream) → NoneSends w ss → sent_frames book size w (put st ss) ≡ allowance_frames book size (allowance w st) st

@@ -1,14 +1,13 @@
 -- A frame that was made for stream 0, on another stream, and the HEADERS of an answer.
-use Rattle.std.proofs.Common.{◌≡◌, ℕ, ◌+◌, ◌<◌, ◌≤◌, ◌-◌, ◌^◌, ◌∙◌, Bool, true, false, List, ◌∷◌, ◌++◌, length, take, drop, refl, sym, ap, subst, append_assoc, arith}
+use Rattle.std.proofs.Common.{◌≡◌, ℕ, ◌<◌, ◌≤◌, ◌-◌, ◌^◌, ◌∙◌, Bool, true, false, List, ◌∷◌, length, take, drop, refl, sym, ap, subst, arith}
 use Rattle.std.proofs.lemmas.Bool.Decides.{nat_tests}
 use Rattle.std.proofs.lemmas.List.{append-nil}
-use Rattle.std.proofs.Math.Seq.{take-append-add, drop-append-add, take-length}
+use Rattle.std.proofs.Math.Seq.{take-length}
 use Rattle.std.specs.Prelude.{◌==◌, slice_index}
 use Rattle.h2_spec.specs.Answer.{Answer, response_block}
 use Rattle.h2_spec.specs.Change.{response}
 use Rattle.h2_spec.specs.Field.{Field}
 use Rattle.h2_spec.specs.Frame.{Frame, frame, frame_octets, frames_octets}
-use Rattle.h2_spec.specs.Octets.{big_endian}
 use Rattle.h2_spec.specs.SendPending.{data_frames, piece}
 use Rattle.h2_request.specs.Lent.{block_of_answer, headers_of_answer}
 use Rattle.h2_send.specs.Short.{IsShortFrame}

@@ -17,7 +17,7 @@ use h2_frame::Outgoing;
 use h2_request::book::Book;
 use h2_spec::reactions::RecordUpdate;
 use h2_spec::streams::Stream;
-use h2_streams::Streams;
+use h2_streams::{Streams, octets_waiting};
 use std::alloc::{AllocError, Allocator};
 
 /// The records change, and their pending output is then sent, as far as this much of the connection's window goes: the
@@ -52,7 +52,7 @@ pub fn update_and_send<'b, A: Allocator + Copy, O: Outgoing<'b, A>>(
     }
 }
 
-/// A record is put, and the pending output is then sent.
+/// A record is put, and the pending output is then sent: nothing where no stream can send, and none of this one waits.
 #[inline(always)]
 fn put_and_send<'b, A: Allocator + Copy, O: Outgoing<'b, A>>(
     book: &'b Book<A>,
@@ -72,11 +72,14 @@ fn put_and_send<'b, A: Allocator + Copy, O: Outgoing<'b, A>>(
     ensures err { OnErr result (streams.new ≡ streams.old) }
     ensures kept { take (length (O.octets out.old)) (O.octets out.new) ≡ O.octets out.old }
 {
-    if none_sends(streams, window) {
-        put_alone(book, streams, &stream, size, window, out)
-    } else {
-        put_among(book, streams, stream, size, window, out)
+    if !none_sends(streams, window) {
+        return put_among(book, streams, stream, size, window, out);
     }
+    if octets_waiting(&stream) > 0 {
+        return put_alone(book, streams, &stream, size, window, out);
+    }
+    streams.put(stream)?;
+    Ok(0)
 }
 
 /// A record is put where no other stream can send: its stream alone sends, and its record is put once, as it is then.

@@ -9,9 +9,8 @@ use Rattle.h2_spec.specs.Request.{trailers_fault}
 use Rattle.h2_spec.specs.declared.streams.Stream.{Stream}
 use Rattle.h2_spec.specs.Stream.{is_live, kind_of, stream_at}
 use Rattle.h2_rules.specs.Sound.{HasBody, IsCalm, IsSoundStream, in_force}
-use Rattle.h2_block.proofs.BlockLaws.{peer-open-live}
 use Rattle.h2_block.proofs.RequestOutcomeLaws.{trailers-turn}
-use Rattle.h2_rules.proofs.SoundLaws.{found-sound, live-put, live-recorded}
+use Rattle.h2_rules.proofs.SoundLaws.{found-sound, live-put, live-recorded, peer-open-live}
 use Rattle.h2_block.proofs.block_end.trailers_end.Goals as goal
 
 pub returns-clause-rule : goal.returns-clause-rule

@@ -5,8 +5,8 @@ use Rattle.h2_fields.specs.Rests.{IsCounted}
 use Rattle.h2_spec.proofs.BlockLaws.{LeadsTo}
 use Rattle.h2_fields.proofs.fragment.decode.Given as goal
 
-abbrev pub invariant-loop-shape : goal.invariant-loop-shape
-invariant-loop-shape g l = record {
+abbrev pub invariant-loop-index : goal.invariant-loop-index
+invariant-loop-index g l = record {
   base : l.draft.base ≡ l.fn.draft.base;
   leads : LeadsTo l.fn.draft.base.limit (progress_in l.fn.collected l.fn.draft) l.octets l.at (progress_in l.collected l.draft);
   grows : Grows l.fn.collected l.collected;
@@ -15,5 +15,5 @@ invariant-loop-shape g l = record {
   counted : IsCounted l.fn.from.passed (l.at + l.point.passed) l.at l.fn.ticks l.ticks;
 }
 
-abbrev pub decreases-loop-shape : goal.decreases-loop-shape
-decreases-loop-shape g l = length l.octets - l.at
+abbrev pub decreases-loop-index : goal.decreases-loop-index
+decreases-loop-index g l = length l.octets - l.at

@@ -1,7 +1,32 @@
-use Rattle.std.proofs.Common.{rules}
+use Rattle.std.proofs.Common.{◌≡◌, ◌++◌, ◌∙◌, List, ap, append-nil, arith, rules, sym}
+use Rattle.h2_spec.specs.declared.streams.Stream.{Stream}
+use Rattle.h2_spec.specs.Frame.{Frame, frames_octets}
+use Rattle.h2_spec.specs.Stream.{Records, octets_waiting, put, with_record}
 use Rattle.h2_rules.specs.Sound.{HasBody}
-use Rattle.h2_send.proofs.AloneLaws.{all-put}
+use Rattle.h2_send.proofs.AloneLaws.{after-none, all-put, left-none, none-put, sent-none}
 use Rattle.h2_send.proofs.send_update.put_and_send.Goals as goal
 
 pub put_alone-requires : goal.put_alone-requires
-put_alone-requires g c = λ k. (search rules, (c.requires.size, (c.requires.few, (c.requires.made, (all-put (HasBody c.args.book.now) c.args.stream c.args.streams.now.streams c.requires.bodies, c.none_sends.ensures c.if-none_sends.true)))))
+put_alone-requires g c = λ k. (search rules, (c.requires.size, (c.requires.few, (c.requires.made, (all-put (HasBody c.args.book.now) c.args.stream c.args.streams.now.streams c.requires.bodies, c.none_sends.ensures c.if-not-none_sends.false)))))
+
+pub returns-clause-count : goal.returns-clause-count
+returns-clause-count g c =
+    let a = c.args in
+    let nothing : octets_waiting a.stream ≡ 0 = omega (arith, c.octets_waiting.ensures, c.if-octets_waiting-gt0.false) in
+    let left = left-none a.window (put a.stream a.streams.now.streams) (none-put a.window a.stream a.streams.now.streams nothing (c.none_sends.ensures c.if-not-none_sends.false)) in
+    (omega (arith, left), omega arith)
+
+pub returns-clause-sent : goal.returns-clause-sent
+returns-clause-sent g c =
+    let a = c.args in
+    let out = g.O.Outgoing.octets a.out.now in
+    let nothing : octets_waiting a.stream ≡ 0 = omega (arith, c.octets_waiting.ensures, c.if-octets_waiting-gt0.false) in
+    let none = none-put a.window a.stream a.streams.now.streams nothing (c.none_sends.ensures c.if-not-none_sends.false) in
+    sym (ap (λ (fs : List Frame). out ++ frames_octets fs) (sent-none a.book.now a.size a.window (put a.stream a.streams.now.streams) none) ∙ append-nil out)
+
+pub returns-clause-records : goal.returns-clause-records
+returns-clause-records g c =
+    let a = c.args in
+    let nothing : octets_waiting a.stream ≡ 0 = omega (arith, c.octets_waiting.ensures, c.if-octets_waiting-gt0.false) in
+    let none = none-put a.window a.stream a.streams.now.streams nothing (c.none_sends.ensures c.if-not-none_sends.false) in
+    c.in_ok-put.ensures.ok ∙ sym (ap (λ (ss : List Stream). let r : Records = record (with_record a.stream a.streams.now) { streams = ss } in r) (after-none a.window (put a.stream a.streams.now.streams) none))

@@ -18,8 +18,8 @@ commit-requires g c =
     let edit = c.args.edit.now in
     let table = c.self.inside.table in
     let change = c.args.change.now in
-    let same : table.table ≡ s.table = ap (λ (x : State). x.table) c.self.view_is ∙ same-table s c.apply_change.new.self change (g.O.Outgoing.octets c.args.out.now) (g.O.Outgoing.octets c.apply_change.new.out) c.in-Ok.ensures.ok in
-    let own = same-settings s c.apply_change.new.self change (g.O.Outgoing.octets c.args.out.now) (g.O.Outgoing.octets c.apply_change.new.out) c.requires.sound c.in-Ok.ensures.ok in
+    let same : table.table ≡ s.table = ap (λ (x : State). x.table) c.self.view_is ∙ same-table s c.apply_in_place.new.self change (g.O.Outgoing.octets c.args.out.now) (g.O.Outgoing.octets c.apply_in_place.new.out) c.in-Ok.ensures.ok in
+    let own = same-settings s c.apply_in_place.new.self change (g.O.Outgoing.octets c.args.out.now) (g.O.Outgoing.octets c.apply_in_place.new.out) c.requires.sound c.in-Ok.ensures.ok in
     let limit : table.limit ≡ s.core.own.table = c.self.invariant.1 ∙ ap (λ (x : State). x.core.own.table) c.self.view_is ∙ ap (λ (o : LocalSettings). o.table) own in
     record { belongs = subst (λ (l : ℕ). IsEdit (limited l table.table) edit) (sym limit) (subst (λ (t : Table). IsEdit (limited s.core.own.table t) edit) (sym same) c.requires.belongs) }
 
@@ -32,7 +32,7 @@ invariant_of-self g c =
     let after = after_of c.args.decoding.now c.args.tentative in
     let held = ap (λ (x : State). x.streams) (sym c.self.view_is) in
     let is = c.leave_open.ensures ∙ ap (block_after shown) c.take_over.ensures in
-    let opened = open-then s c.apply_change.new.self inside.streams change (block_after shown after) (g.O.Outgoing.octets c.args.out.now) (g.O.Outgoing.octets c.apply_change.new.out) c.requires.sound c.requires.known c.in-Ok.ensures.ok
+    let opened = open-then s c.apply_in_place.new.self inside.streams change (block_after shown after) (g.O.Outgoing.octets c.args.out.now) (g.O.Outgoing.octets c.apply_in_place.new.out) c.requires.sound c.requires.known c.in-Ok.ensures.ok
     held (c.self.invariant.0.last ∙ ap (λ (x : State). x.core.last) c.self.view_is) in
     (c.self.invariant.0, ap (λ (t : LimitedTable). t.limit) c.commit.ensures ∙ c.self.invariant.1, subst (λ (b : Option OpenBlock). IsOpenFor inside.streams b) (sym is) opened, c.self.invariant.3)
 
@@ -46,12 +46,12 @@ returns-in-Ok-clause-ok g c =
     let out = (g.O.Outgoing.octets c.args.out.now) in
     let inside = c.self.inside in
     let held : State = record { book = inside.book.now; config = inside.config; core = inside.core; block = inside.block; table = inside.table.table; streams = inside.streams.streams } in
-    let did = subst (λ (x : State). Does (then_sent change.core.phase (made s change)) out x (g.O.Outgoing.octets c.apply_change.new.out)) (sym c.self.view_is) c.in-Ok.ensures.ok in
+    let did = subst (λ (x : State). Does (then_sent change.core.phase (made s change)) out x (g.O.Outgoing.octets c.apply_in_place.new.out)) (sym c.self.view_is) c.in-Ok.ensures.ok in
     let after = edited s.table.entries edit in
     let block = block_after shown now in
     let is = c.leave_open.ensures ∙ ap (block_after shown) c.take_over.ensures in
-    let kept : c.commit.new.self.table ≡ after = ap (λ (t : LimitedTable). t.table) c.commit.ensures ∙ ap (λ (t : Table). edited t.entries edit) (same-table s held change out (g.O.Outgoing.octets c.apply_change.new.out) did) in
+    let kept : c.commit.new.self.table ≡ after = ap (λ (t : LimitedTable). t.table) c.commit.ensures ∙ ap (λ (t : Table). edited t.entries edit) (same-table s held change out (g.O.Outgoing.octets c.apply_in_place.new.out) did) in
     let changed : State = record s { block = block; table = after } in
-    subst (λ (b : Option OpenBlock). Does (then_sent change.core.phase (made changed change)) out (record held { block = b; table = c.commit.new.self.table }) (g.O.Outgoing.octets c.apply_change.new.out)) (sym is)
-    (subst (λ (t : Table). Does (then_sent change.core.phase (made changed change)) out (record held { block = block; table = t }) (g.O.Outgoing.octets c.apply_change.new.out)) (sym kept)
-    (rebound s held change block after out (g.O.Outgoing.octets c.apply_change.new.out) did))
+    subst (λ (b : Option OpenBlock). Does (then_sent change.core.phase (made changed change)) out (record held { block = b; table = c.commit.new.self.table }) (g.O.Outgoing.octets c.apply_in_place.new.out)) (sym is)
+    (subst (λ (t : Table). Does (then_sent change.core.phase (made changed change)) out (record held { block = block; table = t }) (g.O.Outgoing.octets c.apply_in_place.new.out)) (sym kept)
+    (rebound s held change block after out (g.O.Outgoing.octets c.apply_in_place.new.out) did))

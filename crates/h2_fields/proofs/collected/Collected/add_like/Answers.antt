@@ -2,7 +2,7 @@ use Rattle.std.proofs.Common.{◌≡◌, ◌++◌, ◌∷◌, [], ap, ◌∙◌}
 use Rattle.h2_list.specs.Listed.{Listed}
 use Rattle.h2_table.specs.Lent.{field_lent}
 use Rattle.h2_fields.proofs.Applying.{marks-added, size-behind}
-use Rattle.h2_fields.proofs.collected.Collected.add_indexed.Goals as goal
+use Rattle.h2_fields.proofs.collected.Collected.add_like.Goals as goal
 
 pub invariant_of-self-2 : goal.invariant_of-self-2
 invariant_of-self-2 g c =
