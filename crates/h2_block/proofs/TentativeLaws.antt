@@ -4,7 +4,7 @@ use Rattle.std.specs.Prelude.{IfErr, OnOk}
 use Rattle.std.proofs.lemmas.List.{append-nil}
 use Rattle.std.proofs.Math.Seq.{take-append_seam}
 use Rattle.h2_fields.specs.Blocks.{faulted}
-use Rattle.h2_fields.specs.Drafts.{Grows, IsStopped}
+use Rattle.h2_fields.specs.Applied.{Grows, IsStopped}
 use Rattle.h2_fields.specs.declared.fault.BlockFault.{BlockFault}
 use Rattle.h2_fields.specs.declared.fault.BlockFault.TheVariants as fault
 use Rattle.h2_fields.specs.declared.collected.Savepoint.{Savepoint}

@@ -5,10 +5,12 @@
 
 mod block_end;
 mod decoding;
+mod kept_block;
 mod open_block;
 mod tentative;
 
 pub use block_end::{block_ends, opening};
 pub use decoding::Decoding;
+pub use kept_block::{KeptBlock, keep_open, restore_open};
 pub use open_block::{OpenBlock, copy_of, fresh_block, leave_open};
 pub use tentative::Tentative;

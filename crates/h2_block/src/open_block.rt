@@ -17,11 +17,11 @@ use std::mem;
 #[derive(Drop)]
 pub struct OpenBlock<A: Allocator> {
     /// The block as the state shows it.
-    shown: BlockView,
+    pub(crate) shown: BlockView,
     /// How far it is decoded where it goes on; else memory alone.
-    decoding: Decoding<A>,
+    pub(crate) decoding: Decoding<A>,
     /// Whether it is decoded further: not after the end of the connection, and not while its decoding is taken out.
-    goes_on: bool,
+    pub(crate) goes_on: bool,
 }
 
 impl<A: Allocator> Model for OpenBlock<A> {

@@ -9,6 +9,7 @@ mod InsideLaws
 pub mod FollowsLaws
 mod ApplyChangeLaws
 mod PartLaws
+mod PlainDataLaws
 pub mod Phases
 mod Plays
 mod RestoreLaws

@@ -9,7 +9,6 @@ ghost use Rattle.h2_block.specs.Fragments.{IsSized, IsUntouched, after_of, befor
 
 use crate::state::State;
 use h2_block::{Decoding, Tentative};
-use h2_fields::fragment::without_changes;
 use h2_rules::block::{fault_cause, is_block_too_large};
 use h2_spec::causes::Cause;
 use h2_spec::connection::BlockView;
@@ -43,7 +42,7 @@ impl<'b, A: Allocator + Copy> State<'b, A> {
     {
         let count = shown.octets as usize + octets.len();
         if is_block_too_large(count) {
-            without_changes(&self.table, edit, decoding.collected.allocator());
+            edit.begin(&self.table);
             return Ok(Err(Cause::BlockTooLarge));
         }
         match decoding.decode(&self.table, edit, tentative, octets) {

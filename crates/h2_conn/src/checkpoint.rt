@@ -11,24 +11,25 @@ ghost use Rattle.h2_conn.specs.Follows.{Follows, is_reset_by};
 
 use crate::conn::Conn;
 use crate::state::State;
-use h2_block::{OpenBlock, copy_of};
+use h2_block::{KeptBlock, OpenBlock, keep_open, restore_open};
 use h2_request::book::Book;
 use h2_spec::connection::{Config, ConnectionState, Purpose};
-use h2_streams::Stream;
+use h2_streams::KeptStreams;
 use h2_table::KeptTable;
 use std::alloc::{AllocError, Allocator};
 use std::marker::Model;
 
 /// A checkpoint of a connection: its counts, its open block, its header table, how many records of streams it has, and those
-/// of them that can still change. Entries of the table and the first fields of a long block are shared with other checkpoints.
+/// of them that can still change. These records, entries of the table, the first fields of a long block and the octets of a long
+/// string are shared with other checkpoints.
 pub struct Checkpoint<'b, A: Allocator> {
     book: &'b Book<A>,
     config: Config,
     core: ConnectionState,
-    block: Option<OpenBlock<A>>,
+    block: Option<KeptBlock<A>>,
     table: KeptTable<A>,
     count: usize,
-    changing: Vec<Stream, A>,
+    changing: KeptStreams<A>,
 }
 
 impl<'b, A: Allocator> Model for Checkpoint<'b, A> {
@@ -39,7 +40,7 @@ impl<'b, A: Allocator> Model for Checkpoint<'b, A> {
 
     ghost Value = { CheckpointView };
 
-    ghost view = { λ m. record { book = m.book.now; config = m.config; core = m.core; block = m.block; table = m.table.table; count = m.count; changing = m.changing.items } };
+    ghost view = { λ m. record { book = m.book.now; config = m.config; core = m.core; block = m.block; table = m.table.table; count = m.count; changing = m.changing } };
 
     ghost invariant = { λ m. (m.table.limit ≡ m.core.own.table) × AreInRange (configured m.config) };
 }
@@ -91,18 +92,38 @@ fn table_of<'m, A: Allocator>(
     }
 }
 
+/// The open block of a checkpoint, if there is a checkpoint and it has one.
+fn block_of<'m, A: Allocator>(
+    checkpoint: Option<&'m Checkpoint<'_, A>>,
+) -> Option<&'m KeptBlock<A>> {
+    match checkpoint {
+        Some(checkpoint) => checkpoint.block.as_ref(),
+        None => None,
+    }
+}
+
+/// The records of streams in a checkpoint, if there is a checkpoint.
+fn changing_of<'m, A: Allocator>(
+    checkpoint: Option<&'m Checkpoint<'_, A>>,
+) -> Option<&'m KeptStreams<A>> {
+    match checkpoint {
+        Some(checkpoint) => Some(&checkpoint.changing),
+        None => None,
+    }
+}
+
 impl<'b, A: Allocator + Copy> State<'b, A> {
-    /// A checkpoint of the state, which shares entries of the header table with an earlier one; `AllocError` where memory for
-    /// it is refused.
+    /// A checkpoint of the state, which shares with an earlier one what both have; `AllocError` where memory for it is refused.
     fn checkpoint(
         &self,
         earlier: Option<&Checkpoint<'b, A>>,
     ) -> Result<Checkpoint<'b, A>, AllocError>
         ensures { IfOk result (λ checkpoint. checkpoint ≡ checkpoint_of self.now) }
     {
-        let changing = self.streams.live_or(reset_by(&self.block))?;
+        let reset = reset_by(&self.block);
+        let changing = self.streams.keep(reset, changing_of(earlier))?;
         let table = self.table.keep(table_of(earlier))?;
-        let block = copy_of(&self.block)?;
+        let block = keep_open(&self.block, block_of(earlier))?;
         Ok(Checkpoint {
             book: self.book,
             config: self.config,
@@ -122,10 +143,11 @@ impl<'b, A: Allocator + Copy> Checkpoint<'b, A> {
         ensures { IfOk result (λ state. (s : states.State) → self.now ≡ checkpoint_of s → Follows s later.now → state ≡ s) }
     {
         later.consistent();
-        let changing = self.changing.as_slice();
+        let kept = self.changing.list()?;
+        let changing = kept.as_slice();
         let table = self.table.restore()?;
         let streams = later.streams.rebuilt(self.count, self.core.last, changing)?;
-        let block = copy_of(&self.block)?;
+        let block = restore_open(&self.block)?;
         Ok(State {
             book: self.book,
             config: self.config,

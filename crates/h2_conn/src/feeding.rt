@@ -2,6 +2,7 @@
 //! piece itself, and what makes no whole item is held (RFC 9113, 3.4). Definitions: `specs/Runs.antt`.
 
 ghost use Rattle.std.specs.Prelude.{◌≡◌, ◌++◌, ◌≤◌, [], false, true, length, IfOk, IsOk, OnOk, OnErr};
+ghost use Rattle.h2_frame.specs.Items.{IsDataCompleted};
 ghost use Rattle.h2_spec.specs.Trace.{left_by};
 ghost use Rattle.h2_conn.specs.Connection.{Fits, going, halted, is_ended, IsAtRest};
 ghost use Rattle.h2_conn.specs.Runs.{Advances, Feeds, FeedsOne, Halts};
@@ -12,6 +13,7 @@ use crate::one::One;
 use crate::scratch::Scratch;
 use crate::state::State;
 use h2_frame::{Outgoing, Splitter};
+use h2_spec::frames::Head;
 use h2_spec::octets::{octets_from, octets_up_to};
 use std::alloc::{AllocError, Allocator};
 
@@ -39,6 +41,31 @@ fn advance<'b, A: Allocator + Copy, O: Outgoing<'b, A>>(
     }
 }
 
+/// Takes a frame of DATA without padding that octets complete after those held. They are not put together with those: of the
+/// payload its length alone matters.
+fn take_completed<'b, A: Allocator + Copy, O: Outgoing<'b, A>>(
+    splitter: &mut Splitter<A>,
+    state: &mut State<'b, A>,
+    head: &Head,
+    octets: &[u8],
+    out: &mut O,
+) -> Result<bool, AllocError>
+    requires fits { Fits splitter.old state.old.core.phase }
+    requires goes { is_ended state.old.core.phase ≡ false }
+    requires completed { IsDataCompleted state.old.core.own.frame splitter.old octets.now head.now }
+    ensures ok { IfOk result (Advances state.old (splitter.old.octets ++ octets.now) (O.octets out.old) state.new splitter.new.octets (O.octets out.new)) }
+    ensures fits { OnOk result (Fits splitter.new state.new.core.phase) }
+    ensures err { OnErr result ((state.new ≡ state.old) × (O.octets out.new ≡ O.octets out.old)) }
+{
+    match state.on_plain_data(head, out) {
+        Ok(_) => {
+            splitter.forget_frame();
+            Ok(true)
+        }
+        Err(error) => Err(error),
+    }
+}
+
 /// Takes the item that octets complete after those held, if they do, and says whether.
 fn offer<'b, A: Allocator + Copy, O: Outgoing<'b, A>>(
     splitter: &mut Splitter<A>,
@@ -47,11 +74,15 @@ fn offer<'b, A: Allocator + Copy, O: Outgoing<'b, A>>(
     octets: &[u8],
     out: &mut O,
 ) -> Result<bool, AllocError>
-    requires { Fits splitter.old state.old.core.phase }
+    requires fits { Fits splitter.old state.old.core.phase }
+    requires goes { is_ended state.old.core.phase ≡ false }
     ensures ok { IfOk result (Advances state.old (splitter.old.octets ++ octets.now) (O.octets out.old) state.new splitter.new.octets (O.octets out.new)) }
     ensures fits { OnOk result (Fits splitter.new state.new.core.phase) }
     ensures err { OnErr result ((state.new ≡ state.old) × (O.octets out.new ≡ O.octets out.old)) }
 {
+    if let Some(head) = splitter.data_completed_by(octets, state.limit()) {
+        return take_completed(splitter, state, &head, octets, out);
+    }
     splitter.push(octets)?;
     advance(splitter, state, scratch, out)
 }

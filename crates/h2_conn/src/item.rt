@@ -1,7 +1,7 @@
 //! What one item does: the checks, the rule of its frame's type, and then the pending output is sent (RFC 9113, 5 and
 //! 6). Definitions: `effect` of h2_spec's `specs/Effect.antt`, `step` of `specs/Trace.antt`.
 
-ghost use Rattle.std.specs.Prelude.{◌≡◌, ℕ, true, ◌<◌, ◌^◌, ◌==◌, [], length, None, Some, Ok, IfOk, OnOk, OnErr, if◌then◌else◌};
+ghost use Rattle.std.specs.Prelude.{◌≡◌, ℕ, List, true, false, ◌<◌, ◌^◌, ◌==◌, [], length, None, Some, Ok, IfOk, OnOk, OnErr, if◌then◌else◌};
 ghost use Rattle.h2_frame.specs.Items.{item_of};
 ghost use Rattle.h2_frame.specs.Parts.{data_seen, part_seen, settings_in};
 ghost use Rattle.h2_spec.specs.Answer.{picked};
@@ -9,6 +9,7 @@ ghost use Rattle.h2_spec.specs.Change as changes;
 ghost use Rattle.h2_spec.specs.Checks as checks;
 ghost use Rattle.h2_spec.specs.Effect as rule;
 ghost use Rattle.h2_spec.specs.Frame.{WholeFrame};
+ghost use Rattle.h2_spec.specs.FrameType.{DATA, END_STREAM, PADDED, has};
 ghost use Rattle.h2_spec.specs.Headers.{makes};
 ghost use Rattle.h2_spec.specs.Ignored.{ignored_of};
 ghost use Rattle.h2_spec.specs.Payload.{OfData, part_of};
@@ -35,7 +36,7 @@ use h2_frame::{DataPart, FrameRef, Item, Outgoing, Part, SettingsPart, part_of};
 use h2_rules::change::only_counts;
 use h2_rules::checks::{oversize, refusal};
 use h2_rules::control::{ignore, on_goaway, on_ping};
-use h2_rules::data::{on_data, only_takes, take};
+use h2_rules::data::{on_data, only_takes, take, take_last};
 use h2_rules::reset::on_reset;
 use h2_rules::settings::settings_rule;
 use h2_rules::window_update::{connection_window, on_window, only_raises, raise};
@@ -58,6 +59,17 @@ fn incoming(head: &Head, payload: &[u8], part: DataPart<'_>) -> ReceivedData
     ReceivedData {
         octets: payload.len() as u32,
         content,
+        ends: head.has(END_STREAM),
+    }
+}
+
+/// What a frame of DATA without padding brings: all of its payload is content.
+fn plain_incoming(head: &Head) -> ReceivedData
+    ensures { result ≡ record { octets = head.now.length; content = head.now.length; ends = has head.now.flags END_STREAM } }
+{
+    ReceivedData {
+        octets: head.length,
+        content: head.length,
         ends: head.has(END_STREAM),
     }
 }
@@ -101,16 +113,13 @@ impl<'b, A: Allocator + Copy> State<'b, A> {
 
     /// DATA.
     #[inline(always)]
-    fn on_data(&self, head: &Head, payload: &[u8], part: DataPart<'_>) -> Reaction
-        requires fits { length payload.now < 2 ^ 24 }
-        requires part { part_of head.now payload.now ≡ Ok (OfData (data_seen part)) }
-        ensures rule { result ≡ rule.on_data self.now.config self.now.core (rule.body_length self.now.book (stream_at self.now.core.last self.now.streams head.now.stream)) (rule.incoming head.now payload.now (data_seen part.entry)) (stream_at self.now.core.last self.now.streams head.now.stream) }
+    fn on_data(&self, id: u32, incoming: ReceivedData) -> Reaction
+        ensures rule { result ≡ rule.on_data self.now.config self.now.core (rule.body_length self.now.book (stream_at self.now.core.last self.now.streams id)) incoming (stream_at self.now.core.last self.now.streams id) }
         ensures counts { IsCounted self.now.core result }
         ensures sound { IsSound self.now.book (records self.now) (in_force self.now.core) result }
     {
-        let stream = self.stream_at(head.stream);
+        let stream = self.stream_at(id);
         let body = self.body_length(&stream);
-        let incoming = incoming(head, payload, part);
         on_data(self.config, self.core(), body, incoming, stream)
     }
 
@@ -121,11 +130,28 @@ impl<'b, A: Allocator + Copy> State<'b, A> {
         requires sound { IsSoundStream (in_force self.now.core) stream }
         requires waits { HasBody self.now.book stream }
         requires takes { only_takes self.now.core incoming stream ≡ true }
+        requires stays { incoming.ends ≡ false }
         ensures rule { (body : ℕ) → result ≡ rule.on_data self.now.config self.now.core body incoming stream }
         ensures counts { IsCounted self.now.core result }
         ensures sound { IsSound self.now.book (records self.now) (in_force self.now.core) result }
     {
         take(self.config, self.core(), incoming, stream)
+    }
+
+    /// DATA that its stream takes, and that ends the peer's side.
+    #[inline(always)]
+    fn on_last_taken(&self, incoming: ReceivedData, stream: Stream) -> Reaction
+        requires found { stream ≡ stream_at self.now.core.last self.now.streams stream.id }
+        requires sound { IsSoundStream (in_force self.now.core) stream }
+        requires waits { HasBody self.now.book stream }
+        requires takes { only_takes self.now.core incoming stream ≡ true }
+        requires ends { incoming.ends ≡ true }
+        ensures rule { result ≡ rule.on_data self.now.config self.now.core (rule.body_length self.now.book stream) incoming stream }
+        ensures counts { IsCounted self.now.core result }
+        ensures sound { IsSound self.now.book (records self.now) (in_force self.now.core) result }
+    {
+        let body = self.body_length(&stream);
+        take_last(self.config, self.core(), body, incoming, stream)
     }
 
     /// RST_STREAM.
@@ -268,55 +294,89 @@ impl<'b, A: Allocator + Copy> State<'b, A> {
         }
     }
 
-    /// DATA is taken.
-    #[inline(never)]
+    /// DATA is taken. That which ends the peer's side has a function of its own, so that neither sets up locals for the other.
+    #[inline(always)]
     fn take_data<O: Outgoing<'b, A>>(
         &mut self,
-        head: &Head,
-        part: DataPart<'_>,
-        payload: &[u8],
+        id: u32,
+        incoming: ReceivedData,
         out: &mut O,
     ) -> Result<Verdict, AllocError>
-        requires fits { length payload.now < 2 ^ 24 }
-        requires part { part_of head.now payload.now ≡ Ok (OfData (data_seen part)) }
         requires stopped { IsStopped self.old.block }
-        ensures ok { OnOk result (Does (stepped (rule.concluded self.old (makes self.old (rule.on_data self.old.config self.old.core (rule.body_length self.old.book (stream_at self.old.core.last self.old.streams head.now.stream)) (rule.incoming head.now payload.now (data_seen part.entry)) (stream_at self.old.core.last self.old.streams head.now.stream))))) (O.octets out.old) self.new (O.octets out.new)) }
-        ensures verdict { IfOk result (λ verdict. verdict ≡ rule.effect_verdict (makes self.old (rule.on_data self.old.config self.old.core (rule.body_length self.old.book (stream_at self.old.core.last self.old.streams head.now.stream)) (rule.incoming head.now payload.now (data_seen part.entry)) (stream_at self.old.core.last self.old.streams head.now.stream)))) }
+        ensures ok { OnOk result (Does (stepped (rule.concluded self.old (makes self.old (rule.on_data self.old.config self.old.core (rule.body_length self.old.book (stream_at self.old.core.last self.old.streams id)) incoming (stream_at self.old.core.last self.old.streams id))))) (O.octets out.old) self.new (O.octets out.new)) }
+        ensures verdict { IfOk result (λ verdict. verdict ≡ rule.effect_verdict (makes self.old (rule.on_data self.old.config self.old.core (rule.body_length self.old.book (stream_at self.old.core.last self.old.streams id)) incoming (stream_at self.old.core.last self.old.streams id)))) }
         ensures err { OnErr result ((self.new ≡ self.old) × (O.octets out.new ≡ O.octets out.old)) }
     {
-        if head.has(END_STREAM) {
-            return self.take_other_data(head, part, payload, out);
+        if incoming.ends {
+            self.take_last_data(id, incoming, out)
+        } else {
+            self.take_more_data(id, incoming, out)
         }
-        self.look_up(head.stream);
-        let stream = self.stream_at(head.stream);
-        let incoming = incoming(head, payload, part);
+    }
+
+    /// DATA is taken after which more may come on its stream.
+    #[inline(never)]
+    fn take_more_data<O: Outgoing<'b, A>>(
+        &mut self,
+        id: u32,
+        incoming: ReceivedData,
+        out: &mut O,
+    ) -> Result<Verdict, AllocError>
+        requires stopped { IsStopped self.old.block }
+        requires stays { incoming.ends ≡ false }
+        ensures ok { OnOk result (Does (stepped (rule.concluded self.old (makes self.old (rule.on_data self.old.config self.old.core (rule.body_length self.old.book (stream_at self.old.core.last self.old.streams id)) incoming (stream_at self.old.core.last self.old.streams id))))) (O.octets out.old) self.new (O.octets out.new)) }
+        ensures verdict { IfOk result (λ verdict. verdict ≡ rule.effect_verdict (makes self.old (rule.on_data self.old.config self.old.core (rule.body_length self.old.book (stream_at self.old.core.last self.old.streams id)) incoming (stream_at self.old.core.last self.old.streams id)))) }
+        ensures err { OnErr result ((self.new ≡ self.old) × (O.octets out.new ≡ O.octets out.old)) }
+    {
+        self.look_up(id);
+        let stream = self.stream_at(id);
         if only_takes(&self.core, incoming, &stream) {
             let reaction = self.on_taken(incoming, stream);
             self.conclude_in_place(reaction, out)
         } else {
-            self.take_other_data(head, part, payload, out)
+            self.take_other_data(id, incoming, out)
         }
     }
 
-    /// DATA is taken where more comes of it than `only_takes` says: it ends the peer's side, or is refused or ignored. It is
-    /// apart, so that what is frequent moves no values for it.
+    /// DATA is taken that ends the peer's side of its stream.
+    #[inline(never)]
+    fn take_last_data<O: Outgoing<'b, A>>(
+        &mut self,
+        id: u32,
+        incoming: ReceivedData,
+        out: &mut O,
+    ) -> Result<Verdict, AllocError>
+        requires stopped { IsStopped self.old.block }
+        requires ends { incoming.ends ≡ true }
+        ensures ok { OnOk result (Does (stepped (rule.concluded self.old (makes self.old (rule.on_data self.old.config self.old.core (rule.body_length self.old.book (stream_at self.old.core.last self.old.streams id)) incoming (stream_at self.old.core.last self.old.streams id))))) (O.octets out.old) self.new (O.octets out.new)) }
+        ensures verdict { IfOk result (λ verdict. verdict ≡ rule.effect_verdict (makes self.old (rule.on_data self.old.config self.old.core (rule.body_length self.old.book (stream_at self.old.core.last self.old.streams id)) incoming (stream_at self.old.core.last self.old.streams id)))) }
+        ensures err { OnErr result ((self.new ≡ self.old) × (O.octets out.new ≡ O.octets out.old)) }
+    {
+        self.look_up(id);
+        let stream = self.stream_at(id);
+        if only_takes(&self.core, incoming, &stream) {
+            let reaction = self.on_last_taken(incoming, stream);
+            self.conclude_in_place(reaction, out)
+        } else {
+            self.take_other_data(id, incoming, out)
+        }
+    }
+
+    /// DATA is taken that is refused or ignored. It is apart, so that what is frequent moves no values for it.
     #[inline(never)]
     fn take_other_data<O: Outgoing<'b, A>>(
         &mut self,
-        head: &Head,
-        part: DataPart<'_>,
-        payload: &[u8],
+        id: u32,
+        incoming: ReceivedData,
         out: &mut O,
     ) -> Result<Verdict, AllocError>
-        requires fits { length payload.now < 2 ^ 24 }
-        requires part { part_of head.now payload.now ≡ Ok (OfData (data_seen part)) }
         requires stopped { IsStopped self.old.block }
-        ensures ok { OnOk result (Does (stepped (rule.concluded self.old (makes self.old (rule.on_data self.old.config self.old.core (rule.body_length self.old.book (stream_at self.old.core.last self.old.streams head.now.stream)) (rule.incoming head.now payload.now (data_seen part.entry)) (stream_at self.old.core.last self.old.streams head.now.stream))))) (O.octets out.old) self.new (O.octets out.new)) }
-        ensures verdict { IfOk result (λ verdict. verdict ≡ rule.effect_verdict (makes self.old (rule.on_data self.old.config self.old.core (rule.body_length self.old.book (stream_at self.old.core.last self.old.streams head.now.stream)) (rule.incoming head.now payload.now (data_seen part.entry)) (stream_at self.old.core.last self.old.streams head.now.stream)))) }
+        ensures ok { OnOk result (Does (stepped (rule.concluded self.old (makes self.old (rule.on_data self.old.config self.old.core (rule.body_length self.old.book (stream_at self.old.core.last self.old.streams id)) incoming (stream_at self.old.core.last self.old.streams id))))) (O.octets out.old) self.new (O.octets out.new)) }
+        ensures verdict { IfOk result (λ verdict. verdict ≡ rule.effect_verdict (makes self.old (rule.on_data self.old.config self.old.core (rule.body_length self.old.book (stream_at self.old.core.last self.old.streams id)) incoming (stream_at self.old.core.last self.old.streams id)))) }
         ensures err { OnErr result ((self.new ≡ self.old) × (O.octets out.new ≡ O.octets out.old)) }
     {
-        self.look_up(head.stream);
-        let reaction = self.on_data(head, payload, part);
+        self.look_up(id);
+        let reaction = self.on_data(id, incoming);
         self.conclude_in_place(reaction, out)
     }
 
@@ -507,7 +567,7 @@ impl<'b, A: Allocator + Copy> State<'b, A> {
         ensures err { OnErr result ((self.new ≡ self.old) × (O.octets out.new ≡ O.octets out.old)) }
     {
         match part {
-            Part::Data(part) => self.take_data(head, part, payload, out),
+            Part::Data(part) => { self.take_data(head.stream, incoming(head, payload, part), out) }
             Part::Headers(part) => self.on_headers(head, part, scratch, out),
             Part::Priority => self.take_ignored(Ignored::Priority, out),
             Part::RstStream(_) => self.take_reset(head.stream, out),
@@ -543,6 +603,24 @@ impl<'b, A: Allocator + Copy> State<'b, A> {
                 Err(cause) => self.fail(cause, out),
                 Ok(part) => self.on_part(&frame.head, frame.payload, part, scratch, out),
             },
+        }
+    }
+
+    /// A frame of DATA without padding, of whose payload its length alone matters: the checks of its head, and then the rule.
+    #[tactic(auto, unfolding(h2_spec::specs::Effect::effect, h2_spec::specs::Trace::step))]
+    pub(crate) fn on_plain_data<O: Outgoing<'b, A>>(
+        &mut self,
+        head: &Head,
+        out: &mut O,
+    ) -> Result<Verdict, AllocError>
+        requires kind { head.now.kind ≡ DATA }
+        requires unpadded { has head.now.flags PADDED ≡ false }
+        ensures ok { OnOk result ((payload : List ℕ) → length payload ≡ head.now.length → Does (step self.old (WholeFrame head.now payload)) (O.octets out.old) self.new (O.octets out.new)) }
+        ensures err { OnErr result ((self.new ≡ self.old) × (O.octets out.new ≡ O.octets out.old)) }
+    {
+        match refusal(self.block_stream(), self.core.phase, head) {
+            Some(cause) => self.fail(cause, out),
+            None => self.take_data(head.stream, plain_incoming(head), out),
         }
     }
 

@@ -5,7 +5,7 @@ use Rattle.std.proofs.lemmas.Bool.Decides.{leb_tells}
 use Rattle.std.proofs.Math.Seq.{take-append_seam, drop-append_seam}
 use Rattle.std.proofs.lemmas.List.{map-append}
 use Rattle.h2_spec.specs.Block.{Fault, FieldsSoFar, Progress, applied, list_size, name_of, table_after, text_result}
-use Rattle.h2_spec.specs.DynamicTable.{Table, entry_at, field_at}
+use Rattle.h2_spec.specs.DynamicTable.{LimitedTable, Table, entry_at, field_at}
 use Rattle.h2_spec.specs.Field.{Field, field, size}
 use Rattle.h2_spec.specs.Instruction.{Mode, WithoutIndexing, NeverIndexed, NameRef, Str, Literal, text_of}
 use Rattle.h2_spec.specs.StaticTable.{static_field}
@@ -13,9 +13,9 @@ use Rattle.h2_spec.proofs.BlockLaws.{applied-literal, applied-name_refused, appl
 use Rattle.h2_spec.proofs.TableLaws.{total_size-append}
 use Rattle.h2_mark.specs.Mark.{mark_of}
 use Rattle.h2_mark.specs.declared.mark.FieldMark.{FieldMark}
-use Rattle.h2_table.specs.Edits.{Drafted}
+use Rattle.h2_table.specs.Edits.{EditOf, edited}
 use Rattle.h2_list.specs.Listed.{Listed}
-use Rattle.h2_fields.specs.Drafts.{first_refusal, progress_in}
+use Rattle.h2_fields.specs.Applied.{first_refusal, progress_in}
 use Rattle.h2_fields.specs.Faults.{refusal, fault_of}
 use Rattle.h2_fields.specs.declared.fault.BlockFault.{BlockFault}
 
@@ -111,9 +111,10 @@ literal-refused limit p mode name value f due h = by (name_of name p.table.entri
     by (Ok n) e (Ok v) k h = absurd cc
 
 -- and is added, and enters the table where its mode says so
-pub literal-applied : (limit : ℕ) (s now : FieldsSoFar) (d after : Drafted) (mode : Mode) (name : NameRef Str) (value : Str) (f : Field) → s.due ≡ false → name_of name d.table.entries ≡ Ok f.name → text_result (text_of value) ≡ Ok f.value →
-    now ≡ record s { fields = s.fields ++ f ∷ [] } → after.table ≡ table_after mode d.table f → applied limit (progress_in s d) (Literal mode name value) ≡ Ok (progress_in now after)
-literal-applied limit s now d after mode name value f due n v h t = applied-literal limit (progress_in s d) mode name value f.name f.value due n v ∙ rw (h, t) refl
+pub literal-applied : (limit : ℕ) (s now : FieldsSoFar) (base : LimitedTable) (e after : EditOf) (mode : Mode) (name : NameRef Str) (value : Str) (f : Field) → s.due ≡ false →
+    name_of name (edited base.table.entries e).entries ≡ Ok f.name → text_result (text_of value) ≡ Ok f.value → now ≡ record s { fields = s.fields ++ f ∷ [] } →
+    edited base.table.entries after ≡ table_after mode (edited base.table.entries e) f → applied limit (progress_in s base e) (Literal mode name value) ≡ Ok (progress_in now base after)
+literal-applied limit s now base e after mode name value f due n v h t = applied-literal limit (progress_in s base e) mode name value f.name f.value due n v ∙ rw (h, t) refl
 
 pub not_entered : (mode : Mode) (table : Table) (f : Field) → (mode ≡ WithoutIndexing) ⊎ (mode ≡ NeverIndexed) → table ≡ table_after mode table f
 not_entered mode table f (inl e) = rw e refl

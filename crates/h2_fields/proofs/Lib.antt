@@ -1,8 +1,9 @@
 mod Appending
 mod BatchLaws
 mod Applying
+mod Chunking
 mod Counting
-mod Drafting
+mod Stopping
 mod Lengths
 mod Reading
 mod Responding

@@ -3,7 +3,7 @@ pub mod Rests
 pub mod Resume
 pub mod Batches
 pub mod Blocks
-pub mod Drafts
+pub mod Applied
 pub mod Faults
 pub mod Instructions
 pub mod Shapes

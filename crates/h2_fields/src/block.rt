@@ -10,7 +10,7 @@ ghost use Rattle.h2_spec.specs.Block.{Unfinished, carried_on, progress_with};
 ghost use Rattle.h2_spec.specs.Instruction.{instr_at};
 ghost use Rattle.h2_spec.specs.Read.{More};
 ghost use Rattle.h2_fields.specs.Blocks.{TicksRise, answer_of, decoded_with, finish_of};
-ghost use Rattle.h2_fields.specs.Drafts.{IsStopped};
+ghost use Rattle.h2_fields.specs.Applied.{IsStopped};
 ghost use Rattle.h2_fields.specs.Rests.{most_ticks};
 ghost use Rattle.h2_fields.specs.declared.fault.BlockFault.TheVariants as faults;
 

@@ -7,7 +7,7 @@ ghost use Rattle.h2_spec.specs.Block.{has_fields, list_size, text_result};
 ghost use Rattle.h2_spec.specs.Field.{Field, field, size};
 ghost use Rattle.h2_spec.specs.Huffman.{Text};
 ghost use Rattle.h2_spec.specs.Instruction.{text_of};
-ghost use Rattle.h2_fields.specs.Drafts.{IsReadAs};
+ghost use Rattle.h2_fields.specs.Applied.{IsReadAs};
 ghost use Rattle.h2_fields.specs.Faults.{refusal};
 ghost use Rattle.h2_fields.specs.Shapes.{string_of};
 ghost use Rattle.h2_fields.specs.declared.fault.BlockFault.TheVariants as faults;

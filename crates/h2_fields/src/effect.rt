@@ -8,8 +8,9 @@ ghost use Rattle.h2_spec.specs.DynamicTable.{field_at, insert};
 ghost use Rattle.h2_spec.specs.Field.{Field};
 ghost use Rattle.h2_spec.specs.Instruction as spec;
 ghost use Rattle.h2_spec.specs.Instruction.{text_of};
+ghost use Rattle.h2_table.specs.Edits.{IsEdit, edited};
 ghost use Rattle.h2_table.specs.Lent.{field_lent, IsMarked};
-ghost use Rattle.h2_fields.specs.Drafts.{Grows, IsApplied, IsReadAs, progress_in};
+ghost use Rattle.h2_fields.specs.Applied.{Grows, IsApplied, IsReadAs, progress_in};
 ghost use Rattle.h2_fields.specs.Faults.{fault_of};
 ghost use Rattle.h2_fields.specs.Shapes.{mode_of, string_of, name_of, shape_of};
 
@@ -17,24 +18,28 @@ use crate::collected::Collected;
 use crate::fault::BlockFault;
 use crate::instruction::Mode;
 use crate::shape::{RawName, RawString, Shape};
-use h2_table::{Draft, LentField, static_entry};
+use h2_table::{DynTable, Edit, LentField, static_entry};
 use std::alloc::{AllocError, Allocator};
 
-/// Does what an instruction says, or refuses it. A refusal leaves the fields and the draft as they were, except where
-/// memory was refused: then the fields before it stay, others may be after them, and the draft may have changed.
+/// Does what an instruction says, or refuses it. A refusal leaves the fields and the edit as they were, except where
+/// memory was refused: then the fields before it stay, others may be after them, and the edit may have changed.
 pub fn apply<A: Allocator + Copy>(
     collected: &mut Collected<A>,
-    draft: &mut Draft<'_, A>,
+    table: &DynTable<A>,
+    edit: &mut Edit<A>,
     shape: Shape<'_>,
 ) -> Result<(), BlockFault>
-    ensures applied { IsApplied draft.old.base.limit (progress_in collected.old draft.old) (shape_of shape.entry) (progress_in collected.new draft.new) result }
-    ensures base { draft.new.base ≡ draft.old.base }
+    requires belongs { IsEdit table.now edit.old }
+    ensures belongs { IsEdit table.now edit.new }
+    ensures applied { IsApplied table.now.limit (progress_in collected.old table.now edit.old) (shape_of shape.entry) (progress_in collected.new table.now edit.new) result }
     ensures grows { Grows collected.old collected.new }
 {
     match shape {
-        Shape::Indexed(index) => apply_indexed(collected, draft, index),
-        Shape::Update(max) => apply_update(collected, draft, max),
-        Shape::Literal(mode, name, value) => apply_literal(collected, draft, mode, name, value),
+        Shape::Indexed(index) => apply_indexed(collected, table, edit, index),
+        Shape::Update(max) => apply_update(collected, table, edit, max),
+        Shape::Literal(mode, name, value) => apply_literal(
+            collected, table, edit, mode, name, value,
+        ),
     }
 }
 
@@ -42,18 +47,20 @@ pub fn apply<A: Allocator + Copy>(
 #[inline(always)]
 pub(crate) fn apply_indexed<A: Allocator + Copy>(
     collected: &mut Collected<A>,
-    draft: &Draft<'_, A>,
+    table: &DynTable<A>,
+    edit: &Edit<A>,
     index: u64,
 ) -> Result<(), BlockFault>
-    ensures applied { IsApplied draft.now.base.limit (progress_in collected.old draft.now) (spec.Indexed index) (progress_in collected.new draft.now) result }
+    requires belongs { IsEdit table.now edit.now }
+    ensures applied { IsApplied table.now.limit (progress_in collected.old table.now edit.now) (spec.Indexed index) (progress_in collected.new table.now edit.now) result }
     ensures grows { Grows collected.old collected.new }
 {
     if collected.is_due() {
         return Err(BlockFault::MissingUpdate);
     }
-    match field_found(draft, index) {
+    match field_found(table, edit, index) {
         Some(found) => {
-            collected.add_indexed(index, draft.limit(), found)?;
+            collected.add_indexed(index, table.limit(), found)?;
             Ok(())
         }
         None => Err(index_fault(index)),
@@ -74,17 +81,19 @@ fn index_fault(index: u64) -> BlockFault
 /// A new maximum of the table, before any field of the block (RFC 7541, 4.2 and 6.3).
 fn apply_update<A: Allocator + Copy>(
     collected: &mut Collected<A>,
-    draft: &mut Draft<'_, A>,
+    table: &DynTable<A>,
+    edit: &mut Edit<A>,
     max: u64,
 ) -> Result<(), BlockFault>
-    ensures applied { IsApplied draft.old.base.limit (progress_in collected.old draft.old) (spec.Update max) (progress_in collected.new draft.new) result }
-    ensures base { draft.new.base ≡ draft.old.base }
+    requires belongs { IsEdit table.now edit.old }
+    ensures belongs { IsEdit table.now edit.new }
+    ensures applied { IsApplied table.now.limit (progress_in collected.old table.now edit.old) (spec.Update max) (progress_in collected.new table.now edit.new) result }
     ensures grows { Grows collected.old collected.new }
 {
     if !collected.is_empty() {
         return Err(BlockFault::LateUpdate);
     }
-    match draft.set_max(max) {
+    match edit.set_max(table, max) {
         Ok(()) => {
             collected.update_came();
             Ok(())
@@ -96,21 +105,23 @@ fn apply_update<A: Allocator + Copy>(
 /// A field that is spelled, its name perhaps by an index (RFC 7541, 6.2).
 fn apply_literal<A: Allocator + Copy>(
     collected: &mut Collected<A>,
-    draft: &mut Draft<'_, A>,
+    table: &DynTable<A>,
+    edit: &mut Edit<A>,
     mode: Mode,
     name: RawName<'_>,
     value: RawString<'_>,
 ) -> Result<(), BlockFault>
-    ensures applied { IsApplied draft.old.base.limit (progress_in collected.old draft.old) (spec.Literal (mode_of mode) (name_of name.entry) (string_of value.entry)) (progress_in collected.new draft.new) result }
-    ensures base { draft.new.base ≡ draft.old.base }
+    requires belongs { IsEdit table.now edit.old }
+    ensures belongs { IsEdit table.now edit.new }
+    ensures applied { IsApplied table.now.limit (progress_in collected.old table.now edit.old) (spec.Literal (mode_of mode) (name_of name.entry) (string_of value.entry)) (progress_in collected.new table.now edit.new) result }
     ensures grows { Grows collected.old collected.new }
 {
     if collected.is_due() {
         return Err(BlockFault::MissingUpdate);
     }
-    read_literal(collected, draft, name, value)?;
+    read_literal(collected, table, edit, name, value)?;
     match mode {
-        Mode::IncrementalIndexing => Ok(enter_last(collected, draft)?),
+        Mode::IncrementalIndexing => Ok(enter_last(collected, table, edit)?),
         Mode::WithoutIndexing | Mode::NeverIndexed => Ok(()),
     }
 }
@@ -119,15 +130,17 @@ fn apply_literal<A: Allocator + Copy>(
 /// (RFC 7541, 4.4).
 fn read_literal<A: Allocator + Copy>(
     collected: &mut Collected<A>,
-    draft: &Draft<'_, A>,
+    table: &DynTable<A>,
+    edit: &Edit<A>,
     name: RawName<'_>,
     value: RawString<'_>,
 ) -> Result<(), BlockFault>
-    ensures { IsReadAs (block.name_of (name_of name.entry) draft.now.table.entries) (text_result (text_of (string_of value.entry))) collected.old collected.new result }
+    requires belongs { IsEdit table.now edit.now }
+    ensures { IsReadAs (block.name_of (name_of name.entry) (edited table.now.table.entries edit.now).entries) (text_result (text_of (string_of value.entry))) collected.old collected.new result }
 {
     match name {
-        RawName::Ref(index) => match field_found(draft, index) {
-            Some(named) => collected.add_named(index, draft.limit(), named, value),
+        RawName::Ref(index) => match field_found(table, edit, index) {
+            Some(named) => collected.add_named(index, table.limit(), named, value),
             None => Err(BlockFault::Index),
         },
         RawName::Named(name) => collected.add_spelled(name, value),
@@ -137,31 +150,35 @@ fn read_literal<A: Allocator + Copy>(
 /// Enters the last field into the table (RFC 7541, 6.2.1).
 fn enter_last<A: Allocator + Copy>(
     collected: &mut Collected<A>,
-    draft: &mut Draft<'_, A>,
+    table: &DynTable<A>,
+    edit: &mut Edit<A>,
 ) -> Result<(), AllocError>
-    ensures table { OnOk result ((fields : List Field) (f : Field) → collected.old.fields ≡ fields ++ f ∷ [] → draft.new ≡ record draft.old { table = insert draft.old.table f }) }
-    ensures base { draft.new.base ≡ draft.old.base }
+    requires belongs { IsEdit table.now edit.old }
+    ensures belongs { IsEdit table.now edit.new }
+    ensures table { OnOk result ((fields : List Field) (f : Field) → collected.old.fields ≡ fields ++ f ∷ [] → edited table.now.table.entries edit.new ≡ insert (edited table.now.table.entries edit.old) f) }
     ensures fields { collected.new ≡ collected.old }
 {
     let Some(last) = collected.last() else {
         return Ok(());
     };
-    draft.insert(last.name, last.value, last.mark)?;
-    collected.entry_added(draft.limit())
+    edit.insert(table, last.name, last.value, last.mark)?;
+    collected.entry_added(table.limit())
 }
 
 /// The field at an index of the tables, with its mark: 1 to 61 are static, 62 is the newest entry (RFC 7541, 2.3.3).
 #[inline(always)]
-fn field_found<'d, A: Allocator + Copy>(
-    draft: &'d Draft<'_, A>,
+fn field_found<'t, A: Allocator + Copy>(
+    table: &'t DynTable<A>,
+    edit: &'t Edit<A>,
     index: u64,
-) -> Option<LentField<'d>>
-    ensures field { option_map field_lent result ≡ field_at index draft.now.table.entries }
+) -> Option<LentField<'t>>
+    requires belongs { IsEdit table.now edit.now }
+    ensures field { option_map field_lent result ≡ field_at index (edited table.now.table.entries edit.now).entries }
     ensures marked { IfSome result IsMarked }
 {
     if index <= 61 {
         static_entry(index as usize)
     } else {
-        draft.get((index - 61) as usize)
+        edit.get(table, (index - 61) as usize)
     }
 }

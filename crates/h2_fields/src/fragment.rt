@@ -1,13 +1,13 @@
 //! Decoding the octets of a field block (RFC 7541, 3; RFC 9113, 4.3): its whole instructions, one after another. The
 //! definition is `decoded` of `h2_spec`, specs/Block.antt.
 
-ghost use Rattle.std.specs.Prelude.{◌≡◌, ◌≤◌, ◌+◌, [], ◌++◌, length, drop, min, IfOk, IfErr, IsErrOf, OnOk};
+ghost use Rattle.std.specs.Prelude.{◌≡◌, ◌≤◌, ◌+◌, [], ◌++◌, length, drop, min, IfOk, IfErr, IsErrOf, OnOk, OnErr};
 ghost use Rattle.h2_spec.specs.Block as block;
 ghost use Rattle.h2_spec.specs.Block.{Unfinished, progress_with};
 ghost use Rattle.h2_spec.specs.Instruction.{instr_at};
 ghost use Rattle.h2_spec.specs.Read.{More};
 ghost use Rattle.h2_table.specs.Edits.{IsEdit, edited};
-ghost use Rattle.h2_fields.specs.Drafts.{Grows, IsStopped, progress_in};
+ghost use Rattle.h2_fields.specs.Applied.{Grows, IsStopped, progress_in};
 ghost use Rattle.h2_fields.specs.Resume.{IsPoint, IsRest, huffman_octets};
 ghost use Rattle.h2_fields.specs.Rests.{IsCounted, IsFresh, IsTicked, most_ticks};
 ghost use Rattle.h2_fields.specs.Shapes.{shape_of};
@@ -19,36 +19,44 @@ use crate::fault::BlockFault;
 use crate::rest::RestChange;
 use crate::shape::{Point, Shape, ShapeFault, shape_from, short_index};
 use h2_spec::octets::octets_from;
-use h2_table::{Draft, DynTable, Edit};
-use std::alloc::Allocator;
-use std::mem;
+use h2_table::{DynTable, Edit};
+use std::alloc::{AllocError, Allocator};
 
 /// Does what the whole instructions at the front of the octets say; reading goes on from a point of the first one.
-/// Returns how many octets they take, and the point where reading goes on after them, and counts the steps. An index of
-/// one octet, which is most frequent, is read by itself: the value of all that an instruction can be goes through memory.
+/// Returns how many octets they take, makes `next` the point where reading goes on after them, and counts the steps. An
+/// index of one octet, which is most frequent, is read by itself: the value of all that an instruction can be goes through
+/// memory. So is the end of octets that end with an instruction.
 fn decode<A: Allocator + Copy>(
     collected: &mut Collected<A>,
-    draft: &mut Draft<'_, A>,
+    table: &DynTable<A>,
+    edit: &mut Edit<A>,
     ticks: &mut u64,
+    next: &mut Point,
     from: Point,
     octets: &[u8],
-) -> Result<(usize, Point), BlockFault>
+) -> Result<usize, BlockFault>
+    requires belongs { IsEdit table.now edit.old }
     requires point { IsPoint octets.now from }
     requires passed { from.passed ≤ length octets.now }
-    ensures used { IfOk result (λ end. (end.0 ≤ length octets.now) × (block.decoded draft.old.base.limit (progress_in collected.old draft.old) octets.now ≡ record { progress = progress_in collected.new draft.new; outcome = Unfinished (drop end.0 octets.now) })) }
-    ensures cut { IfOk result (λ end. instr_at (drop end.0 octets.now) ≡ More) }
-    ensures rest { IfOk result (λ end. IsRest (drop end.0 octets.now) end.1) }
-    ensures ticks { IfOk result (λ end. IsCounted from.passed (length octets.now) end.0 ticks.old ticks.new) }
-    ensures fault { IfErr result (λ fault. IsStopped draft.old.base.limit (progress_in collected.old draft.old) octets.now (progress_in collected.new draft.new) fault) }
-    ensures base { draft.new.base ≡ draft.old.base }
+    ensures belongs { IsEdit table.now edit.new }
+    ensures used { IfOk result (λ used. (used ≤ length octets.now) × (block.decoded table.now.limit (progress_in collected.old table.now edit.old) octets.now ≡ record { progress = progress_in collected.new table.now edit.new; outcome = Unfinished (drop used octets.now) })) }
+    ensures cut { IfOk result (λ used. instr_at (drop used octets.now) ≡ More) }
+    ensures rest { IfOk result (λ used. IsRest (drop used octets.now) next.new) }
+    ensures ticks { IfOk result (λ used. IsCounted from.passed (length octets.now) used ticks.old ticks.new) }
+    ensures fault { IfErr result (λ fault. IsStopped table.now.limit (progress_in collected.old table.now edit.old) octets.now (progress_in collected.new table.now edit.new) fault) }
+    ensures stays { IfErr result (λ _. next.new ≡ next.old) }
     ensures grows { Grows collected.old collected.new }
 {
     let mut at = 0;
     let mut point = from;
     loop {
         let left = octets_from(octets, at);
+        if left.is_empty() {
+            *next = Point::start();
+            return Ok(at);
+        }
         if let Some(index) = short_index(point, left) {
-            apply_indexed(collected, draft, index)?;
+            apply_indexed(collected, table, edit, index)?;
             *ticks = with_instruction(*ticks, 1 - point.passed, Shape::Indexed(index));
             at += 1;
             point = Point::start();
@@ -56,14 +64,15 @@ fn decode<A: Allocator + Copy>(
         }
         match shape_from(point, left) {
             Ok((shape, used)) => {
-                apply(collected, draft, shape)?;
+                apply(collected, table, edit, shape)?;
                 *ticks = with_instruction(*ticks, used - point.passed, shape);
                 at += used;
                 point = Point::start();
             }
-            Err(ShapeFault::More(next)) => {
+            Err(ShapeFault::More(stop)) => {
                 *ticks = ticks.saturating_add((left.len() - point.passed) as u64);
-                return Ok((at, next));
+                *next = stop;
+                return Ok(at);
             }
             Err(ShapeFault::TooLong) => return Err(BlockFault::Integer),
         }
@@ -115,30 +124,15 @@ fn attempt<A: Allocator + Copy>(
     ensures grows { Grows collected.old collected.new }
 {
     let savepoint = collected.savepoint();
-    let none = Edit::new(collected.allocator());
-    let mut draft = Draft::start(table, mem::replace(edit, none));
-    let answer = decode(collected, &mut draft, ticks, from, octets);
-    *edit = draft.into_edit();
-    match answer {
-        Ok((used, stop)) => {
-            *next = stop;
-            Ok(used)
-        }
+    edit.begin(table);
+    match decode(collected, table, edit, ticks, next, from, octets) {
+        Ok(used) => Ok(used),
         Err(BlockFault::NoMemory) => {
             collected.restore(savepoint);
             Err(BlockFault::NoMemory)
         }
         Err(fault) => Err(fault),
     }
-}
-
-/// The edit becomes one without changes of the table. It may be of any table: its memory is used again.
-#[inline(never)]
-pub fn without_changes<A: Allocator + Copy>(table: &DynTable<A>, edit: &mut Edit<A>, alloc: A)
-    ensures belongs { IsEdit table.now edit.new }
-    ensures same { edited table.now.table.entries edit.new ≡ table.now.table }
-{
-    *edit = Draft::start(table, mem::replace(edit, Edit::new(alloc))).into_edit();
 }
 
 /// Decodes a fragment of a block: the octets of `rest`, which the fragments before it left, from the point where reading
@@ -197,7 +191,7 @@ fn decode_behind<A: Allocator + Copy>(
 {
     rest.kept = rest.octets.len();
     if rest.octets.extend_from_slice(piece).is_err() {
-        without_changes(table, edit, collected.allocator());
+        edit.begin(table);
         return Err(BlockFault::NoMemory);
     }
     rest.ticks = 0;
@@ -220,6 +214,18 @@ fn decode_behind<A: Allocator + Copy>(
             Err(fault)
         }
     }
+}
+
+/// Puts octets after the others, where there are any: most fragments end with an instruction.
+#[inline(always)]
+fn append<A: Allocator>(octets: &mut Vec<u8, A>, more: &[u8]) -> Result<(), AllocError>
+    ensures ok { OnOk result (octets.new.items ≡ octets.old.items ++ more.now) }
+    ensures err { OnErr result (octets.new.items ≡ octets.old.items) }
+{
+    if more.is_empty() {
+        return Ok(());
+    }
+    octets.extend_from_slice(more)
 }
 
 /// Decodes a fragment where nothing is left of those before it: only what does not end an instruction is copied.
@@ -252,11 +258,7 @@ fn decode_alone<A: Allocator + Copy>(
         piece,
     ) {
         Ok(used) => {
-            if rest
-                .octets
-                .extend_from_slice(octets_from(piece, used))
-                .is_err()
-            {
+            if append(&mut rest.octets, octets_from(piece, used)).is_err() {
                 collected.restore(before);
                 rest.next = rest.point;
                 return Err(BlockFault::NoMemory);

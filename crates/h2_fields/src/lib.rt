@@ -11,6 +11,7 @@ pub mod field;
 pub mod fragment;
 mod hints;
 pub mod instruction;
+pub mod kept_rest;
 pub mod laws;
 pub mod octets;
 pub mod response;

@@ -1,4 +1,5 @@
 mod Agreeing
+mod CompletedLaws
 pub mod LoanLaws
 pub mod MissingLaws
 mod MissingRows

@@ -1,10 +1,12 @@
 -- The items that a splitter finds (RFC 9113, 3.4, 4.1 and 4.2).
-use Rattle.std.specs.Prelude.{ℕ, ◌+◌, ◌-◌, ◌++◌, Bool, true, false, List, length, drop, nat_lt, if◌then◌else◌, Option, Some, None}
+use Rattle.std.specs.Prelude.{◌≡◌, ℕ, ◌+◌, ◌-◌, ◌++◌, Bool, true, false, not, ◌||◌, ◌==◌, List, [], length, drop, nat_lt, if◌then◌else◌, Option, Some, None}
 use Rattle.h2_frame.specs.declared.splitter.Item.{Item}
 use Rattle.h2_frame.specs.declared.splitter.Item.TheVariants as code
 use Rattle.h2_frame.specs.Rest.{Rest}
+use Rattle.h2_spec.specs.declared.frames.Head.{Head}
 use Rattle.h2_spec.specs.Frame as spec
 use Rattle.h2_spec.specs.Frame.{Next, NoItem, Got, head_of, next}
+use Rattle.h2_spec.specs.FrameType.{DATA, PADDED, has}
 
 -- an item with its payload as a list
 abbrev pub item_of : Item → spec.Item
@@ -67,3 +69,25 @@ missing false limit b = missing_of_frame limit b
 -- how many octets the first item lacks, and none where no item follows
 abbrev pub missing_in : ℕ → Rest → ℕ
 missing_in limit r = if r.is_over then 0 else missing r.expects_preface limit r.octets
+
+-- a head that is held, where its frame is DATA without padding, within the limit, and these octets are what it lacks (6.1)
+abbrev pub completed_head : ℕ → ℕ → ℕ → Head → Option Head
+completed_head limit held more h =
+    if not (h.kind == DATA) || has h.flags PADDED then None
+    else if nat_lt limit h.length || not (9 + h.length == held + more) then None
+    else Some h
+
+-- the head of the frame that is held, where that is such a frame
+abbrev pub data_completed : ℕ → Rest → List ℕ → Option Head
+data_completed limit r more =
+    if r.is_over || r.expects_preface then None
+    else if nat_lt (length r.octets) 9 then None
+    else completed_head limit (length r.octets) (length more) (head_of r.octets)
+
+-- with these octets more, what is held is one whole frame with this head: DATA without padding (6.1)
+pub record IsDataCompleted (limit : ℕ) (r : Rest) (more : List ℕ) (h : Head) : Type 0 where
+  pub is : next_in limit (with_more r more) ≡ Some (spec.WholeFrame h (drop 9 (r.octets ++ more)))
+  pub rest : rest_after limit (with_more r more) ≡ record { octets = []; expects_preface = false; is_over = false }
+  pub count : length (drop 9 (r.octets ++ more)) ≡ h.length
+  pub kind : h.kind ≡ DATA
+  pub unpadded : has h.flags PADDED ≡ false

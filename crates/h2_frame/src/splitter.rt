@@ -7,11 +7,11 @@ ghost use Rattle.std.specs.Option.{option_map};
 ghost use Rattle.std.specs.Borrow.{sem};
 ghost use Rattle.std.specs.Io.BufRead.{Rests};
 ghost use Rattle.h2_spec.specs.Frame.{next, preface, frame_item};
-ghost use Rattle.h2_frame.specs.Items.{item_of, ends_items, found_in, missing_in, missing_of_frame, missing_of_preface, next_in, rest_after, with_more};
+ghost use Rattle.h2_frame.specs.Items.{IsDataCompleted, data_completed, item_of, ends_items, found_in, missing_in, missing_of_frame, missing_of_preface, next_in, rest_after, with_more};
 ghost use Rattle.h2_frame.specs.contracts.splitter.Splitter.{the_row};
 
 use crate::head::{FrameRef, first_head};
-use h2_spec::frames::{Head, PREFACE};
+use h2_spec::frames::{DATA, Head, PADDED, PREFACE};
 use h2_spec::octets::{drop_front, octets_from, octets_up_to};
 use std::alloc::{AllocError, Allocator};
 use std::marker::Model;
@@ -112,6 +112,39 @@ impl<A: Allocator> Splitter<A> {
         } else {
             missing_of_frame(held, limit)
         }
+    }
+
+    /// The head of the frame that is held, where that is DATA without padding and `more` is what it lacks: then its payload
+    /// need not be in one place, since all of it is content (RFC 9113, 6.1).
+    pub fn data_completed_by(&self, more: &[u8], limit: u32) -> Option<Head>
+        ensures value { result ≡ data_completed limit self.now more.now }
+        ensures completed { IfSome result (λ head. IsDataCompleted limit self.now more.now head) }
+    {
+        if self.is_over || self.expects_preface {
+            return None;
+        }
+        let held = octets_from(self.buffer.as_slice(), self.offset);
+        if held.len() < 9 {
+            return None;
+        }
+        let head = first_head(held);
+        if head.kind != DATA || head.has(PADDED) {
+            return None;
+        }
+        if head.length > limit || 9 + head.length as usize != held.len() + more.len() {
+            return None;
+        }
+        Some(head)
+    }
+
+    /// Forgets the octets that are held, of a frame that was taken with what it lacked. The memory is kept.
+    pub fn forget_frame(&mut self)
+        ensures { self.new ≡ record { octets = []; expects_preface = false; is_over = false } }
+    {
+        self.buffer.clear();
+        self.offset = 0;
+        self.expects_preface = false;
+        self.is_over = false;
     }
 
     /// Takes the next item, if the octets held begin with a whole one; a frame is oversized when its length is above

@@ -18,11 +18,11 @@ use Rattle.h2_spec.specs.Window.{is_above_max}
 abbrev pub only_raises : ℕ → Stream → Bool
 only_raises increment st = is_live st.kind && not (increment == 0) && not (is_above_max (st.numbers.send +ℤ pos increment))
 
--- DATA without END_STREAM: both windows hold it, and it is not more than was declared (RFC 9113, 6.1 and 8.1.1)
+-- DATA on a stream whose peer's side is open: both windows hold it, and it is what was declared (RFC 9113, 6.1 and 8.1.1)
 abbrev pub only_takes : ConnectionState → ReceivedData → Stream → Bool
 only_takes core d st =
-    is_peer_open st.kind && not d.ends && not (int_lt core.recv (pos d.octets)) && not (nat_lt 0 d.octets && int_lt st.numbers.recv (pos d.octets)) &&
-    not (is_some (length_broken st.numbers.declared (content_with st.numbers.content_received d.content) false))
+    is_peer_open st.kind && not (int_lt core.recv (pos d.octets)) && not (nat_lt 0 d.octets && int_lt st.numbers.recv (pos d.octets)) &&
+    not (is_some (length_broken st.numbers.declared (content_with st.numbers.content_received d.content) d.ends))
 
 -- a request by its fields: they are not too many and not malformed, and it has the content that it declares (RFC 9113, 8.1.1)
 abbrev pub is_well_formed : Bool → BlockSummary → Bool

@@ -1,7 +1,7 @@
 //! The rule for DATA (RFC 9113, 6.1 and 6.9). Definitions: h2_spec's `specs/Data.antt`, and `on_data` of
 //! `specs/Effect.antt`.
 
-ghost use Rattle.std.specs.Prelude.{◌≡◌, ℕ, ◌<◌, ◌≤◌, true, List, length, pos, ◌≤ℤ◌, ◌&&◌, nat_lt, int_lt};
+ghost use Rattle.std.specs.Prelude.{◌≡◌, ℕ, ◌<◌, ◌≤◌, true, false, List, length, pos, ◌≤ℤ◌, ◌&&◌, nat_lt, int_lt};
 ghost use Rattle.h2_spec.specs.Answer.{Entry, picked};
 ghost use Rattle.h2_spec.specs.Data as rule;
 ghost use Rattle.h2_spec.specs.Effect as effect;
@@ -195,25 +195,24 @@ fn is_peer_open(kind: StreamState) -> bool
     }
 }
 
-/// Whether DATA only moves numbers of its stream and of the connection: the peer's side is open and stays so, both receive
-/// windows hold it, and it is not more than was declared (RFC 9113, 6.1, 6.9 and 8.1.1).
+/// Whether DATA is taken by its stream and nothing is wrong with it: the peer's side is open, both receive windows hold it,
+/// and it is what was declared (RFC 9113, 6.1, 6.9 and 8.1.1).
 #[inline(always)]
 pub fn only_takes(core: &ConnectionState, incoming: ReceivedData, stream: &Stream) -> bool
     ensures { result ≡ only_takes core.now incoming stream.now }
 {
     is_peer_open(stream.kind)
-        && !incoming.ends
         && !core.recv.is_below(incoming.octets)
         && !exceeds(stream.numbers.recv, incoming.octets)
         && length_broken(
             stream.numbers.declared,
             content_with(stream, incoming),
-            false,
+            incoming.ends,
         )
         .is_none()
 }
 
-/// DATA on a stream, as `on_data`, where it only moves numbers.
+/// DATA on a stream, as `on_data`, where it is taken and more may come: it only moves numbers.
 #[inline(always)]
 pub fn take(
     config: Config,
@@ -224,11 +223,33 @@ pub fn take(
     requires core { IsSoundConnectionState core }
     requires stream { IsSoundStream (in_force core) stream }
     requires takes { only_takes core incoming stream ≡ true }
+    requires stays { incoming.ends ≡ false }
     ensures rule { (body : ℕ) → result ≡ effect.on_data config core body incoming stream }
     ensures sound { (book : List Entry) (r : Records) → HasBody book stream → stream ≡ stream_at r.last r.streams stream.id → r.last ≡ core.last → IsSound book r (in_force core) result }
 {
     let change = counted(config.credit, core, incoming.octets);
     let outcome = returned(config.credit, taken(stream, incoming));
+    Reaction::Continues(with_outcome(change, outcome))
+}
+
+/// DATA on a stream, as `on_data`, where it is taken and ends the peer's side.
+#[inline(always)]
+pub fn take_last(
+    config: Config,
+    core: ConnectionState,
+    body: u64,
+    incoming: ReceivedData,
+    stream: Stream,
+) -> Reaction
+    requires core { IsSoundConnectionState core }
+    requires stream { IsSoundStream (in_force core) stream }
+    requires takes { only_takes core incoming stream ≡ true }
+    requires ends { incoming.ends ≡ true }
+    ensures rule { result ≡ effect.on_data config core body incoming stream }
+    ensures sound { (book : List Entry) (r : Records) → body ≡ length (picked book stream.pick).body → HasBody book stream → stream ≡ stream_at r.last r.streams stream.id → r.last ≡ core.last → IsSound book r (in_force core) result }
+{
+    let change = counted(config.credit, core, incoming.octets);
+    let outcome = peer_ended(body, taken(stream, incoming));
     Reaction::Continues(with_outcome(change, outcome))
 }
 

@@ -3,4 +3,5 @@ mod LiveLaws
 pub mod PlaceLaws
 mod ReadyRows
 pub mod RebuiltLaws
+mod SendLaws
 mod ShiftLaws

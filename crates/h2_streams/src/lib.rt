@@ -6,15 +6,18 @@
 mod greatest;
 mod hash;
 mod ids;
+mod kept;
 mod kinds;
 mod live;
 mod places;
 mod rebuilt;
 mod records;
+mod sends;
 mod shift;
 mod walks;
 
 pub use h2_spec::errors::FlowFault;
 pub use h2_spec::streams::{Numbers, Pick, Stream, StreamState, is_live};
+pub use kept::KeptStreams;
 pub use kinds::{not_live, octets_waiting, server_ended};
 pub use records::Streams;

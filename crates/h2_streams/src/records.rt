@@ -104,7 +104,7 @@ impl<A: Allocator + Copy> Streams<A> {
     /// The records that are live, and that of one more stream, if it has one; in the order of opening.
     ///
     /// `AllocError` where memory for the list is refused.
-    pub fn live_or(&self, other: Option<u32>) -> Result<Vec<Stream, A>, AllocError>
+    pub(crate) fn live_or(&self, other: Option<u32>) -> Result<Vec<Stream, A>, AllocError>
         ensures { IfOk result (λ list. list.items ≡ filter (earlier.is_live_or other) self.now.streams) }
     {
         let alloc = *self.records.allocator();

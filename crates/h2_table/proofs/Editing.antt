@@ -3,9 +3,8 @@ use Rattle.std.proofs.Common.{◌≡◌, ℕ, zero, suc, ◌+◌, ◌-◌, ◌<�
 use Rattle.std.proofs.lemmas.List.{take_more, append_assoc}
 use Rattle.std.proofs.lemmas.Option.{slice_get_within, get_or_from_slice_get}
 use Rattle.h2_spec.specs.Field.{Field, size}
-use Rattle.h2_spec.specs.DynamicTable.{LimitedTable, total_size, fit, entry_at, insert, resize}
+use Rattle.h2_spec.specs.DynamicTable.{Table, total_size, fit, entry_at, insert, resize}
 use Rattle.h2_spec.proofs.TableLaws.{fit-cons, fit-none, fit-zero, fit-evict, total_size-append, total_size-length}
-use Rattle.h2_table.specs.Edits.{Drafted}
 use Rattle.h2_table.specs.Held.{places_for}
 
 -- the last of the entries that are still there
@@ -45,26 +44,26 @@ no_entry (x ∷ es) (suc (suc n)) h l e = no_entry es (suc n) (omega arith) (ome
 pub moved : (added rest ring : List Field) (x : Field) → added ≡ rest ++ x ∷ [] → rest ++ x ∷ ring ≡ added ++ ring
 moved added rest ring x split = sym (append_assoc rest (x ∷ []) ring) ∙ ap (λ a. a ++ ring) (sym split)
 
--- ---- the table of a draft
+-- ---- the edited table
 
-abbrev pub draft : LimitedTable → List Field → ℕ → Drafted
-draft base entries max = record { base = base; table = record { entries = entries; max = max } }
+abbrev pub table : List Field → ℕ → Table
+table entries max = record { entries = entries; max = max }
 
-pub resized-draft : (base : LimitedTable) (entries now : List Field) (max n : ℕ) (d : Drafted) → draft base entries max ≡ d → now ≡ fit entries n → draft base now n ≡ record d { table = resize d.table n }
+pub resized-table : (entries now : List Field) (max n : ℕ) → now ≡ fit entries n → table now n ≡ resize (table entries max) n
 unfolding resize
-resized-draft base entries now max n d v e = ap (λ x. draft base x n) e ∙ ap (λ (y : Drafted). let r : Drafted = record y { table = resize y.table n } in r) v
+resized-table entries now max n e = ap (λ es. table es n) e
 
-inserted-draft : (base : LimitedTable) (entries now : List Field) (max : ℕ) (f : Field) (d : Drafted) → draft base entries max ≡ d → now ≡ fit (f ∷ entries) max → draft base now max ≡ record d { table = insert d.table f }
+inserted-table : (entries now : List Field) (max : ℕ) (f : Field) → now ≡ fit (f ∷ entries) max → table now max ≡ insert (table entries max) f
 unfolding insert
-inserted-draft base entries now max f d v e = ap (λ x. draft base x max) e ∙ ap (λ (y : Drafted). let r : Drafted = record y { table = insert y.table f } in r) v
+inserted-table entries now max f e = ap (λ es. table es max) e
 
 -- a field that counts too much empties the table
-pub emptied-draft : (base : LimitedTable) (entries now : List Field) (max : ℕ) (f : Field) (d : Drafted) → draft base entries max ≡ d → now ≡ fit entries 0 → max < size f → draft base now max ≡ record d { table = insert d.table f }
-emptied-draft base entries now max f d v e over = inserted-draft base entries now max f d v (e ∙ fit-zero entries ∙ sym (fit-none f entries max over))
+pub emptied-table : (entries now : List Field) (max : ℕ) (f : Field) → now ≡ fit entries 0 → max < size f → table now max ≡ insert (table entries max) f
+emptied-table entries now max f e over = inserted-table entries now max f (e ∙ fit-zero entries ∙ sym (fit-none f entries max over))
 
--- a field that has available enters
-pub entered-draft : (base : LimitedTable) (entries left now : List Field) (max : ℕ) (f : Field) (d : Drafted) → draft base entries max ≡ d → left ≡ fit entries (max - size f) → now ≡ f ∷ left → size f ≤ max → draft base now max ≡ record d { table = insert d.table f }
-entered-draft base entries left now max f d v e k fits = inserted-draft base entries now max f d v (k ∙ ap (λ r. f ∷ r) e ∙ sym (fit-cons f entries max fits))
+-- a field that has space enters
+pub entered-table : (entries left now : List Field) (max : ℕ) (f : Field) → left ≡ fit entries (max - size f) → now ≡ f ∷ left → size f ≤ max → table now max ≡ insert (table entries max) f
+entered-table entries left now max f e k fits = inserted-table entries now max f (k ∙ ap (λ r. f ∷ r) e ∙ sym (fit-cons f entries max fits))
 
 -- entries within the limit have places
 pub have_places : (es : List Field) (limit : ℕ) → total_size es ≤ limit → length es ≤ places_for limit

@@ -56,7 +56,7 @@ impl<A: Allocator> Model for Edit<A> {
 }
 
 impl<A: Allocator> Edit<A> {
-    /// An edit for `Draft::start`. Takes no memory.
+    /// An edit for `begin`. Takes no memory.
     pub fn new(alloc: A) -> Self
     where
         A: Copy,
@@ -72,70 +72,23 @@ impl<A: Allocator> Edit<A> {
     }
 }
 
-/// A dynamic table with an edit of it: look-ups and changes are those of the edited table, and the table itself does
-/// not change.
-#[derive(Drop)]
-pub struct Draft<'t, A: Allocator> {
-    base: &'t DynTable<A>,
-    added: VecDeque<TableEntry<A>, A>,
-    spare: Vec<TableEntry<A>, A>,
-    kept: usize,
-    size: usize,
-    max: u32,
-}
-
-impl<'t, A: Allocator> Model for Draft<'t, A> {
-    ghost use Rattle.h2_table.specs.Edits.{Drafted, IsEdit, edited};
-
-    ghost Value = { Drafted };
-
-    ghost view = { λ d. record { base = d.base.now; table = edited d.base.now.table.entries (record { added = d.added.items; kept = d.kept; size = d.size; max = d.max }) } };
-
-    ghost invariant = { λ d. IsEdit d.base.now (record { added = d.added.items; kept = d.kept; size = d.size; max = d.max }) };
-}
-
-impl<'t, A: Allocator + Copy> Draft<'t, A> {
-    /// The table with no changes yet. `edit` may be of any table: its entries are dropped, and its places and the memory
-    /// of its evicted entries are used again. Takes no memory.
-    pub fn start(base: &'t DynTable<A>, edit: Edit<A>) -> Self
-        ensures { result ≡ record { base = base.now; table = base.now.table } }
+impl<A: Allocator + Copy> Edit<A> {
+    /// Makes it an edit of a table without changes. It may have been of any table: its entries are dropped, and its places
+    /// and the memory of its evicted entries are used again. Takes no memory.
+    pub fn begin(&mut self, base: &DynTable<A>)
+        ensures belongs { IsEdit base.now self.new }
+        ensures same { edited base.now.table.entries self.new ≡ base.now.table }
     {
-        let mut added = edit.added;
-        added.clear();
-        Draft {
-            base,
-            added,
-            spare: edit.spare,
-            kept: base.len(),
-            size: base.size(),
-            max: base.max(),
-        }
+        self.added.clear();
+        self.kept = base.len();
+        self.size = base.size();
+        self.max = base.max();
     }
 
-    /// The edit, which belongs to the table: `DynTable::commit` makes its changes there.
-    pub fn into_edit(self) -> Edit<A>
-        ensures same { edited self.entry.base.table.entries result ≡ self.entry.table }
-        ensures belongs { IsEdit self.entry.base result }
-    {
-        Edit {
-            added: self.added,
-            spare: self.spare,
-            kept: self.kept,
-            size: self.size,
-            max: self.max,
-        }
-    }
-
-    /// The most that the maximum may be set to, in octets.
-    pub fn limit(&self) -> u32
-        ensures { result ≡ self.now.base.limit }
-    {
-        self.base.limit()
-    }
-
-    /// The `i`-th entry with its mark, counted from 1, the newest; none past the oldest, and none for 0.
-    pub fn get(&self, i: usize) -> Option<LentField<'_>>
-        ensures field { option_map field_lent result ≡ entry_at i self.now.table.entries }
+    /// The `i`-th entry of the edited table with its mark, counted from 1, the newest; none past the oldest, and none for 0.
+    pub fn get<'e>(&'e self, base: &'e DynTable<A>, i: usize) -> Option<LentField<'e>>
+        requires belongs { IsEdit base.now self.now }
+        ensures field { option_map field_lent result ≡ entry_at i (edited base.now.table.entries self.now).entries }
         ensures marked { IfSome result IsMarked }
     {
         if i == 0 {
@@ -148,21 +101,24 @@ impl<'t, A: Allocator + Copy> Draft<'t, A> {
         if i - count > self.kept {
             return None;
         }
-        self.base.entry(i - count)
+        base.entry(i - count)
     }
 
-    /// Sets the maximum to `n` octets, and evicts the oldest entries until the others are within it (RFC 7541, 4.3).
+    /// Sets the maximum of the edited table to `n` octets, and evicts the oldest entries until the others are within it
+    /// (RFC 7541, 4.3).
     ///
     /// # Errors
     ///
     /// `OverLimit` where `n` is above the limit of the table; nothing has changed. No memory is taken.
-    pub fn set_max(&mut self, n: u64) -> Result<(), TableFault>
-        ensures over_limit { IsErr result ↔ (self.old.base.limit < n) }
-        ensures resized { OnOk result (self.new ≡ record self.old { table = resize self.old.table n }) }
+    pub fn set_max(&mut self, base: &DynTable<A>, n: u64) -> Result<(), TableFault>
+        requires belongs { IsEdit base.now self.old }
+        ensures belongs { IsEdit base.now self.new }
+        ensures over_limit { IsErr result ↔ (base.now.limit < n) }
+        ensures resized { OnOk result (edited base.now.table.entries self.new ≡ resize (edited base.now.table.entries self.old) n) }
         ensures fault { IfErr result (λ fault. fault ≡ faults.OverLimit) }
         ensures unchanged { OnErr result (self.new ≡ self.old) }
     {
-        let is_over = n > u64::from(self.base.limit());
+        let is_over = n > u64::from(base.limit());
         if is_over {
             return Err(TableFault::OverLimit);
         }
@@ -170,7 +126,7 @@ impl<'t, A: Allocator + Copy> Draft<'t, A> {
         let (kept, left) = evict_oldest(
             &mut self.added,
             &mut self.spare,
-            self.base,
+            base,
             self.kept,
             self.size,
             max as usize,
@@ -181,15 +137,23 @@ impl<'t, A: Allocator + Copy> Draft<'t, A> {
         Ok(())
     }
 
-    /// Adds a field as the newest entry, once the oldest ones have made space for it; one that counts more than the
-    /// maximum empties the table and is no error (RFC 7541, 4.4). `mark` is the mark of the field.
+    /// Adds a field as the newest entry of the edited table, once the oldest ones have made space for it; one that counts
+    /// more than the maximum empties the table and is no error (RFC 7541, 4.4). `mark` is the mark of the field.
     ///
     /// # Errors
     ///
     /// `AllocError` where memory was refused; nothing has changed.
-    pub fn insert(&mut self, name: &[u8], value: &[u8], mark: FieldMark) -> Result<(), AllocError>
+    pub fn insert(
+        &mut self,
+        base: &DynTable<A>,
+        name: &[u8],
+        value: &[u8],
+        mark: FieldMark,
+    ) -> Result<(), AllocError>
+        requires belongs { IsEdit base.now self.old }
         requires marked { mark ≡ mark_of (field name.now value.now) }
-        ensures ok { OnOk result (self.new ≡ record self.old { table = insert self.old.table (field name.now value.now) }) }
+        ensures belongs { IsEdit base.now self.new }
+        ensures ok { OnOk result (edited base.now.table.entries self.new ≡ insert (edited base.now.table.entries self.old) (field name.now value.now)) }
         ensures err { OnErr result (self.new ≡ self.old) }
     {
         let size = name.len().saturating_add(value.len()).saturating_add(32);
@@ -198,7 +162,7 @@ impl<'t, A: Allocator + Copy> Draft<'t, A> {
             let (kept, left) = evict_oldest(
                 &mut self.added,
                 &mut self.spare,
-                self.base,
+                base,
                 self.kept,
                 self.size,
                 0,
@@ -212,7 +176,7 @@ impl<'t, A: Allocator + Copy> Draft<'t, A> {
         let (kept, left) = evict_oldest(
             &mut self.added,
             &mut self.spare,
-            self.base,
+            base,
             self.kept,
             self.size,
             max - size,

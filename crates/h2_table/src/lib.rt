@@ -13,7 +13,7 @@ pub mod lent;
 pub mod static_table;
 
 pub use dynamic_table::DynTable;
-pub use edit::{Draft, Edit};
+pub use edit::Edit;
 pub use fault::TableFault;
 pub use kept::KeptTable;
 pub use lent::LentField;

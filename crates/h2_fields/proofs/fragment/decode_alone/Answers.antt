@@ -1,7 +1,7 @@
 use Rattle.std.proofs.Common.{ap}
 use Rattle.h2_spec.specs.Block.{FieldsSoFar}
 use Rattle.h2_fields.specs.declared.collected.Savepoint.{Savepoint}
-use Rattle.h2_fields.proofs.Drafting.{grows-restored}
+use Rattle.h2_fields.proofs.Stopping.{grows-restored}
 use Rattle.h2_fields.proofs.fragment.decode_alone.Goals as goal
 
 pub returns-then-is_err-clause-grows : goal.returns-then-is_err-clause-grows

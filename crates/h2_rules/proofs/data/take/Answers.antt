@@ -7,7 +7,7 @@ use Rattle.h2_spec.specs.Change.{with_outcome}
 use Rattle.h2_spec.specs.Data.{counted, returned, taken}
 use Rattle.h2_spec.specs.Stream.{is_live}
 use Rattle.h2_rules.specs.Sound.{in_force}
-use Rattle.h2_rules.proofs.PlainLaws.{takes-live, takes-rule}
+use Rattle.h2_rules.proofs.PlainLaws.{more-rule, takes-live}
 use Rattle.h2_rules.proofs.SoundLaws.{live-credit, live-put, live-recorded}
 use Rattle.h2_rules.proofs.data.take.Goals as goal
 
@@ -23,7 +23,7 @@ returns-clause-rule c = λ body.
     let a = c.args in
     ap (λ (change : Change). Continues change) (c.with_outcome.ensures.rule ∙ ap (λ (change : Change). with_outcome change c.returned-outcome.result) c.counted-change.ensures.rule
     ∙ ap (λ (o : StreamOutcome). with_outcome (counted a.config.credit a.core a.incoming.octets) o) (c.returned-outcome.ensures.rule ∙ ap (λ (st : Stream). returned a.config.credit st) c.taken.ensures.rule))
-    ∙ sym (takes-rule a.config a.core body a.incoming a.stream c.requires.takes)
+    ∙ sym (more-rule a.config a.core body a.incoming a.stream c.requires.takes c.requires.stays)
 
 pub returns-clause-sound : goal.returns-clause-sound
 returns-clause-sound c = λ book r has found last.

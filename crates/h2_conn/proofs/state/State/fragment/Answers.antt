@@ -45,8 +45,8 @@ returns-in-Some-clause-belongs g c =
 pub returns-then-is_block_too_large-clause-belongs : goal.returns-then-is_block_too_large-clause-belongs
 returns-then-is_block_too_large-clause-belongs g c =
     let table = c.self.inside.table in
-    let edit = c.without_changes.new.edit in
-    let held = subst (λ (l : ℕ). IsEdit (limited l table.table) edit) c.self.invariant.1 c.without_changes.ensures.belongs in
+    let edit = c.begin.new.self in
+    let held = subst (λ (l : ℕ). IsEdit (limited l table.table) edit) c.self.invariant.1 c.begin.ensures.belongs in
     subst (λ (x : State). IsEdit (limited x.core.own.table x.table) edit) c.self.view_is held
 
 pub returns-in-Some-clause-effect : goal.returns-in-Some-clause-effect

@@ -6,7 +6,7 @@ use Rattle.h2_conn.proofs.state.State.on_part.Goals as goal
 pub take_data-requires : goal.take_data-requires
 take_data-requires g c =
     let other : IsNoContinuation c.args.part = search rules in
-    λ k. (search rules, (c.requires.fits, (search rules, part-outside _ _ c.args.head.now c.args.payload.now c.args.part c.requires.passed c.requires.part other)))
+    λ k. (search rules, part-outside _ _ c.args.head.now c.args.payload.now c.args.part c.requires.passed c.requires.part other)
 
 pub on_headers-requires : goal.on_headers-requires
 on_headers-requires g c =

@@ -1,13 +1,14 @@
 -- How far the loop over the instructions has got.
-use Rattle.std.proofs.Common.{◌≡◌, ◌≢◌, ℕ, List, [], ◌++◌, length, take, drop, Some, ap, ◌∙◌, sym}
+use Rattle.std.proofs.Common.{◌≡◌, ◌==◌, true, ◌≢◌, ℕ, List, [], ◌∷◌, ◌++◌, length, take, drop, Some, refl, ap, ◌∙◌, sym, arith}
+use Rattle.std.proofs.lemmas.Bool.{eqb-true}
 use Rattle.std.proofs.lemmas.List.{append-nil, append_assoc}
 use Rattle.std.proofs.Math.Seq.{take-append_seam}
 use Rattle.h2_spec.specs.Block.{FieldsSoFar, Progress, applied}
 use Rattle.h2_spec.specs.Instruction.{Shape, instr_at}
-use Rattle.h2_spec.specs.Read.{Whole, TooLong}
+use Rattle.h2_spec.specs.Read.{Whole, More, TooLong}
 use Rattle.h2_spec.proofs.BlockLaws.{LeadsTo, leads-refused, leads-too_long}
 use Rattle.h2_fields.specs.Blocks.{faulted}
-use Rattle.h2_fields.specs.Drafts.{Grows, IsStopped}
+use Rattle.h2_fields.specs.Applied.{Grows, IsStopped}
 use Rattle.h2_fields.specs.Faults.{refusal}
 use Rattle.h2_fields.specs.declared.fault.BlockFault.{BlockFault}
 use Rattle.h2_fields.specs.declared.fault.BlockFault.TheVariants as faults
@@ -40,3 +41,9 @@ pub too_long-stopped : (limit : ℕ) (p q : Progress) (b : List ℕ) (at : ℕ) 
 too_long-stopped limit p q b at s e = record {
   exact = λ _. let d = leads-too_long limit p q b at s e in (ap (λ x. x.progress) d, ap (λ x. faulted x.outcome) d);
 }
+
+-- where there are no octets, more are needed
+pub empty-more : (b : List ℕ) → (length b == 0) ≡ true → instr_at b ≡ More
+unfolding instr_at
+empty-more [] e = refl
+empty-more (o ∷ b) e = absurd (let none = eqb-true (length (o ∷ b)) 0 e in omega (arith, none))

@@ -1,17 +1,18 @@
--- What the decoder does over a draft of the table.
+-- What the decoder does over a table with an edit of it.
 use Rattle.std.specs.Prelude.{◌≡◌, ◌≢◌, ℕ, List, [], ◌∷◌, ◌++◌, Option, Some, Result, Ok, Err}
 use Rattle.h2_fields.specs.Faults.{fault_of, refusal}
 use Rattle.h2_fields.specs.Blocks.{faulted}
 use Rattle.h2_fields.specs.declared.fault.BlockFault.{BlockFault}
 use Rattle.h2_fields.specs.declared.fault.BlockFault.TheVariants as fault
 use Rattle.h2_spec.specs.Block.{Fault, Progress, FieldsSoFar, applied, decoded, progress_with}
+use Rattle.h2_spec.specs.DynamicTable.{LimitedTable}
 use Rattle.h2_spec.specs.Field.{Field}
 use Rattle.h2_spec.specs.Instruction.{Shape}
-use Rattle.h2_table.specs.Edits.{Drafted}
+use Rattle.h2_table.specs.Edits.{EditOf, edited}
 
--- how far a block has got over a draft
-abbrev pub progress_in : FieldsSoFar → Drafted → Progress
-progress_in s d = progress_with d.table s
+-- how far a block has got over an edited table
+abbrev pub progress_in : FieldsSoFar → LimitedTable → EditOf → Progress
+progress_in s base e = progress_with (edited base.table.entries e) s
 
 -- one instruction was done, or refused; where memory was refused nothing is said
 abbrev pub IsApplied : ℕ → Progress → Shape → Progress → Result (Unit {0}) BlockFault → Type 0
