@@ -1,17 +1,16 @@
 -- DATA without padding: all of its payload is content, so of the payload its length alone matters.
-use Rattle.std.proofs.Common.{◌≡◌, ℕ, ◌-◌, Bool, false, List, [], length, take, drop, Option, Some, None, Result, Ok, refl, ap, ◌∙◌, subst, sym, arith, le-ltb}
+use Rattle.std.proofs.Common.{◌≡◌, ℕ, ◌-◌, false, List, [], length, drop, Option, None, Result, Ok, refl, ap, ◌∙◌, arith, le-ltb}
 use Rattle.std.specs.Prelude.{◌==◌}
 use Rattle.std.proofs.lemmas.List.{drop_all, take_all}
 use Rattle.h2_spec.specs.declared.causes.Cause.{Cause}
 use Rattle.h2_spec.specs.declared.frames.Head.{Head}
 use Rattle.h2_spec.specs.declared.reactions.ReceivedData.{ReceivedData}
-use Rattle.h2_spec.specs.Change.{Step}
 use Rattle.h2_spec.specs.Checks.{refusal}
 use Rattle.h2_spec.specs.Effect.{block_stream, body_length, checked_effect, concluded, effect, on_data, part_effect}
 use Rattle.h2_spec.specs.Frame.{WholeFrame}
-use Rattle.h2_spec.specs.FrameType.{DATA, END_STREAM, PADDED, frame_type, has}
+use Rattle.h2_spec.specs.FrameType.{DATA, END_STREAM, PADDED, has}
 use Rattle.h2_spec.specs.Headers.{makes}
-use Rattle.h2_spec.specs.Payload.{DataPart, OfData, Part, data_part, part_as, part_of}
+use Rattle.h2_spec.specs.Payload.{OfData, Part, data_part, part_as, part_of}
 use Rattle.h2_spec.specs.State.{State}
 use Rattle.h2_spec.specs.Stream.{stream_at}
 use Rattle.h2_conn.specs.Blocks.{IsStopped}

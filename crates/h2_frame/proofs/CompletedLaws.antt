@@ -1,8 +1,8 @@
 -- DATA that is held, and what completes it: together they are one whole frame.
-use Rattle.std.proofs.Common.{◌≡◌, ℕ, ◌+◌, ◌-◌, ◌≤◌, Bool, false, cond, List, [], ◌++◌, length, drop, refl, sym, ap, subst, ◌∙◌, arith, length-append, length-drop, ltb, le-ltb}
+use Rattle.std.proofs.Common.{◌≡◌, ℕ, ◌+◌, ◌-◌, ◌≤◌, false, List, ◌++◌, length, drop, refl, sym, ap, subst, ◌∙◌, arith, length-append, length-drop, le-ltb}
 use Rattle.std.proofs.lemmas.List.{drop_all, take_all}
 use Rattle.h2_spec.specs.declared.frames.Head.{Head}
-use Rattle.h2_spec.specs.Frame.{WholeFrame, Next, NoItem, Got, next, frame_item, head_of}
+use Rattle.h2_spec.specs.Frame.{WholeFrame, Got, next, frame_item, head_of}
 use Rattle.h2_spec.specs.FrameType.{DATA, PADDED, has}
 use Rattle.h2_frame.specs.Items.{IsDataCompleted, found, item_in, rest_behind, with_more}
 use Rattle.h2_frame.specs.Rest.{Rest}

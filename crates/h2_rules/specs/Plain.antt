@@ -1,5 +1,5 @@
 -- What is most frequent: frames that move numbers of a live stream, and requests that open one.
-use Rattle.std.specs.Prelude.{ℕ, Bool, false, not, ◌&&◌, ◌==◌, nat_lt, int_lt, pos, ◌+ℤ◌, if◌then◌else◌}
+use Rattle.std.specs.Prelude.{ℕ, Bool, not, ◌&&◌, ◌==◌, nat_lt, int_lt, pos, ◌+ℤ◌, if◌then◌else◌}
 use Rattle.std.specs.Option.{is_some}
 use Rattle.h2_spec.specs.declared.connection.ConnectionState.{ConnectionState}
 use Rattle.h2_spec.specs.declared.reactions.BlockSummary.{BlockSummary}

@@ -1,4 +1,4 @@
-use Rattle.std.proofs.Common.{rules, ◌≡◌, ◌++◌, ap, ◌∙◌, drop, subst, sym}
+use Rattle.std.proofs.Common.{rules, ◌∙◌, drop, subst, sym}
 use Rattle.h2_spec.specs.Frame.{WholeFrame}
 use Rattle.h2_frame.specs.Items.{with_more}
 use Rattle.h2_frame.specs.Rest.{Rest}

@@ -1,6 +1,5 @@
 use Rattle.std.proofs.Common.{◌≡◌, ℕ, Err, refl, ap, ◌∙◌, sym, subst, arith, length, drop, ◌+◌, length-drop}
 use Rattle.std.proofs.lemmas.Result.{err_from_is_err_and}
-use Rattle.h2_spec.specs.Block.{applied}
 use Rattle.h2_spec.specs.Instruction as spec
 use Rattle.h2_spec.specs.Instruction.{Indexed, instr_at}
 use Rattle.h2_spec.proofs.BlockLaws.{leads-start, leads-step, leads-more}

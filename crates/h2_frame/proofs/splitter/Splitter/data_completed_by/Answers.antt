@@ -1,4 +1,4 @@
-use Rattle.std.proofs.Common.{◌≡◌, ◌∙◌, ◌+◌, List, ℕ, ap, sym, drop, length, arith}
+use Rattle.std.proofs.Common.{◌∙◌, List, ℕ, ap, sym, drop, length, arith}
 use Rattle.h2_spec.specs.Frame.{head_of}
 use Rattle.h2_frame.specs.Rest.{Rest}
 use Rattle.h2_frame.proofs.CompletedLaws.{completed}
