@@ -1,5 +1,5 @@
 -- DATA without padding: all of its payload is content, so of the payload its length alone matters.
-use Rattle.std.proofs.Common.{◌≡◌, ℕ, ◌-◌, false, List, [], length, drop, Option, None, Result, Ok, refl, ap, ◌∙◌, arith, le-ltb}
+use Rattle.std.proofs.Common.{◌≡◌, ℕ, ◌-◌, Bool, false, List, [], length, drop, Option, None, Result, Ok, refl, ap, ◌∙◌, arith, le-ltb}
 use Rattle.std.specs.Prelude.{◌==◌}
 use Rattle.std.proofs.lemmas.List.{drop_all, take_all}
 use Rattle.h2_spec.specs.declared.causes.Cause.{Cause}
@@ -13,6 +13,7 @@ use Rattle.h2_spec.specs.Headers.{makes}
 use Rattle.h2_spec.specs.Payload.{OfData, Part, data_part, part_as, part_of}
 use Rattle.h2_spec.specs.State.{State}
 use Rattle.h2_spec.specs.Stream.{stream_at}
+use Rattle.h2_frame.specs.Rest.{Rest}
 use Rattle.h2_conn.specs.Blocks.{IsStopped}
 use Rattle.h2_conn.proofs.InsideLaws.{no-block}
 
@@ -38,3 +39,9 @@ plain-effect s h p passed kind plain count =
 -- it passes the checks only where no block is open
 pub plain-outside : (s : State) (h : Head) → refusal (block_stream s.block) s.core.phase h ≡ None → h.kind ≡ DATA → IsStopped s.block
 plain-outside s h passed kind = no-block s.block s.core.phase h passed (ap (λ (k : ℕ). k == 9) kind)
+
+-- ---- what was held of the frame is forgotten
+
+pub forgotten : (r : Rest) → r.is_over ≡ false → r.expects_preface ≡ false → record r { octets = [] } ≡ record { octets = []; expects_preface = false; is_over = false }
+forgotten r going past =
+    ap (λ (p : Bool). let left : Rest = record { octets = []; expects_preface = p; is_over = r.is_over } in left) past ∙ ap (λ (o : Bool). let left : Rest = record { octets = []; expects_preface = false; is_over = o } in left) going

@@ -33,6 +33,8 @@ completed limit r more h is going past held small whole kind plain =
       is = ap item_in got;
       rest = ap (rest_behind (with_more r more)) got ∙ ap (λ (octets : List ℕ). let left : Rest = record { octets = octets; expects_preface = false; is_over = false } in left) (drop_all (9 + h.length) b (omega (arith, sum, whole)));
       count = omega (arith, sum, whole, length-drop 9 b);
+      going = going;
+      past = past;
       kind = kind;
       unpadded = plain;
     }

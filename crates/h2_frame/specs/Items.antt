@@ -89,5 +89,7 @@ pub record IsDataCompleted (limit : ℕ) (r : Rest) (more : List ℕ) (h : Head)
   pub is : next_in limit (with_more r more) ≡ Some (spec.WholeFrame h (drop 9 (r.octets ++ more)))
   pub rest : rest_after limit (with_more r more) ≡ record { octets = []; expects_preface = false; is_over = false }
   pub count : length (drop 9 (r.octets ++ more)) ≡ h.length
+  pub going : r.is_over ≡ false
+  pub past : r.expects_preface ≡ false
   pub kind : h.kind ≡ DATA
   pub unpadded : has h.flags PADDED ≡ false

@@ -139,12 +139,10 @@ impl<A: Allocator> Splitter<A> {
 
     /// Forgets the octets that are held, of a frame that was taken with what it lacked. The memory is kept.
     pub fn forget_frame(&mut self)
-        ensures { self.new ≡ record { octets = []; expects_preface = false; is_over = false } }
+        ensures { self.new ≡ record self.old { octets = [] } }
     {
         self.buffer.clear();
         self.offset = 0;
-        self.expects_preface = false;
-        self.is_over = false;
     }
 
     /// Takes the next item, if the octets held begin with a whole one; a frame is oversized when its length is above
