@@ -10,11 +10,12 @@ use Rattle.h2_fields.specs.Instructions.{IsWritableField}
 use Rattle.h2_spec.specs.DynamicTable.{Table, field_at, resize}
 use Rattle.h2_spec.specs.Field.{Field}
 use Rattle.h2_spec.specs.Instruction.{Shape, WithoutIndexing, Ref, Named, Update, IsSpellable, instr_at, spell}
-use Rattle.h2_spec.specs.Read.{Whole, More}
+use Rattle.h2_spec.specs.Read.{Whole}
 use Rattle.h2_spec.specs.StaticTable.{static_field, static_entries}
 use Rattle.h2_spec.proofs.BlockLaws.{leads-start, leads-step, applied-update, applied-indexed, applied-literal, decoded-more}
 use Rattle.h2_spec.proofs.InstructionLaws.{whole-stays}
 use Rattle.h2_spec.proofs.InstructionWriting.{shape-written}
+use Rattle.h2_fields.proofs.Stopping.{empty-more}
 
 -- ---- one instruction after another
 
@@ -26,12 +27,8 @@ step limit p q i more h e =
     let count : length (spell i) ≡ 0 + length (spell i) = omega arith in
     s.rest ∙ ap (decoded limit q) (drop_at (spell i) more (0 + length (spell i)) count)
 
-nothing : instr_at [] ≡ More
-unfolding instr_at
-nothing = refl
-
 ends : (limit : ℕ) (p : Progress) → decoded limit p [] ≡ record { progress = p; outcome = Unfinished [] }
-ends limit p = decoded-more limit p [] nothing
+ends limit p = decoded-more limit p [] (empty-more [] refl)
 
 -- ---- fields
 
