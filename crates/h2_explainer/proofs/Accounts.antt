@@ -9,7 +9,7 @@ use Rattle.std.specs.Ordering.{nat_cmp}
 use Rattle.h2_spec.specs.State.{State}
 use Rattle.h2_spec.specs.declared.streams.Stream.{Stream}
 use Rattle.h2_describe.specs.Sent.{FirstFrame, first_frame}
-use Rattle.h2_explain.specs.Account.{KeepsBlocks, ListsChanges, NotesItem, begun_after, block_end_with, changes_of_sent, changes_on, changes_since, moves_windows, noted_with, notes_of_sent, notes_on, streams_of, streams_then}
+use Rattle.h2_explainer.specs.Account.{KeepsBlocks, ListsChanges, NotesItem, begun_after, block_end_with, changes_of_sent, changes_on, changes_since, moves_windows, noted_with, notes_of_sent, notes_on, streams_of, streams_then}
 use Rattle.h2_changes.specs.Changes.{Differs, connection_changes, stream_changes}
 use Rattle.h2_item.specs.Item.{head_in}
 use Rattle.h2_item.specs.Notes.{AreNotes, Sees, is_noted, note_of, note_or, noted, with_later_note, with_note}

@@ -1,7 +1,7 @@
 use Rattle.h2_item.specs.Notes.{note_of}
 use Rattle.std.proofs.Common.{◌∙◌}
-use Rattle.h2_explain.proofs.Accounts.{keeps_blocks, lists, notes_after, notes_on-same}
-use Rattle.h2_explain.proofs.explainer.Explainer.changes.Goals as goal
+use Rattle.h2_explainer.proofs.Accounts.{keeps_blocks, lists, notes_after, notes_on-same}
+use Rattle.h2_explainer.proofs.explainer.Explainer.changes.Goals as goal
 
 pub returns-clause-changes : goal.returns-clause-changes
 returns-clause-changes g c =

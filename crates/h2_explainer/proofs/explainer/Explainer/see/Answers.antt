@@ -1,6 +1,6 @@
 use Rattle.std.proofs.lemmas.Result.{on_ok_weaker}
-use Rattle.h2_explain.proofs.Accounts.{keeps_blocks, later_notes}
-use Rattle.h2_explain.proofs.explainer.Explainer.see.Goals as goal
+use Rattle.h2_explainer.proofs.Accounts.{keeps_blocks, later_notes}
+use Rattle.h2_explainer.proofs.explainer.Explainer.see.Goals as goal
 
 pub returns-clause-notes : goal.returns-clause-notes
 returns-clause-notes g c =

@@ -1,6 +1,6 @@
 use Rattle.std.proofs.Common.{◌∙◌}
-use Rattle.h2_explain.proofs.Accounts.{keeps_blocks}
-use Rattle.h2_explain.proofs.moved.note_live.Goals as goal
+use Rattle.h2_explainer.proofs.Accounts.{keeps_blocks}
+use Rattle.h2_explainer.proofs.moved.note_live.Goals as goal
 
 pub loop-stream-preserved : goal.loop-stream-preserved
 loop-stream-preserved g c =

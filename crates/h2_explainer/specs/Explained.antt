@@ -1,5 +1,5 @@
 -- An item that was taken, with what was before it and what is after it.
-use Rattle.std.specs.Prelude.{◌≡◌, ℕ, ◌≤◌, List, [], length, take, Option, Some, None, option_map}
+use Rattle.std.specs.Prelude.{◌≡◌, ℕ, ◌≤◌, Bool, true, false, List, [], length, take, Option, Some, None, option_map}
 use Rattle.h2_spec.specs.declared.connection.Phase.{Phase}
 use Rattle.h2_spec.specs.declared.connection.Phase.TheVariants.{Preface, Settings, Running, Ended}
 use Rattle.h2_spec.specs.declared.frames.Head.{Head}
@@ -13,9 +13,10 @@ use Rattle.h2_spec.specs.View.{shown_block}
 use Rattle.h2_conn.specs.Connection.{Connection, going}
 use Rattle.h2_conn.specs.Reports.{reported}
 use Rattle.h2_conn.specs.declared.report.TakenItem.{TakenItem}
+use Rattle.h2_account.specs.Lines.{EndsLine, Words, lines_of}
 use Rattle.h2_item.specs.declared.item.Explained.{Explained}
 use Rattle.h2_item.specs.declared.item.Moment.{Moment}
-use Rattle.h2_explain.specs.declared.taking.Taking.{Taking}
+use Rattle.h2_explainer.specs.declared.taking.Taking.{Taking}
 
 -- what is looked at of a state, with one of its streams
 abbrev pub moment_of : State → ℕ → Moment
@@ -76,3 +77,8 @@ Keeps s b t (Some x) = KeepsItem s b t x
 -- how many octets it takes
 abbrev pub used_of : Option Taking → Option ℕ
 used_of taking = option_map (λ (x : Taking). x.taken.used) taking
+
+-- the text of an item: a line of JSON, or its lines
+abbrev pub IsTextOf : (json color : Bool) → Explained → List ℕ → Type 0
+IsTextOf true color x t = EndsLine false t
+IsTextOf false color x t = (w : Words) × (t ≡ lines_of color x w)

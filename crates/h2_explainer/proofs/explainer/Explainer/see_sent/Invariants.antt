@@ -1,8 +1,8 @@
 use Rattle.std.specs.Prelude.{◌≡◌, ◌-◌, ◌++◌, ℕ, length}
 use Rattle.h2_spec.specs.Stream.{stream_at}
-use Rattle.h2_explain.specs.Account.{KeepsBlocks, changes_of_sent, changes_on, notes_of_sent, notes_on, streams_of}
+use Rattle.h2_explainer.specs.Account.{KeepsBlocks, changes_of_sent, changes_on, notes_of_sent, notes_on, streams_of}
 use Rattle.h2_item.specs.Notes.{note_of}
-use Rattle.h2_explain.proofs.explainer.Explainer.see_sent.Given as goal
+use Rattle.h2_explainer.proofs.explainer.Explainer.see_sent.Given as goal
 
 abbrev pub invariant-loop-frame : goal.invariant-loop-frame
 invariant-loop-frame g l = record {

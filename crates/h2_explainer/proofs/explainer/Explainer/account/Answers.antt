@@ -1,9 +1,9 @@
 use Rattle.std.proofs.Common.{subst}
-use Rattle.h2_explain.specs.Account.{ListsChanges}
-use Rattle.h2_explain.proofs.Accounts.{notes-item}
+use Rattle.h2_explainer.specs.Account.{ListsChanges}
+use Rattle.h2_explainer.proofs.Accounts.{notes-item}
 use Rattle.h2_item.specs.Notes.{note_of}
 use Rattle.h2_item.specs.declared.notes.Notes.{Notes}
-use Rattle.h2_explain.proofs.explainer.Explainer.account.Goals as goal
+use Rattle.h2_explainer.proofs.explainer.Explainer.account.Goals as goal
 
 pub returns-clause-changes : goal.returns-clause-changes
 returns-clause-changes g c =

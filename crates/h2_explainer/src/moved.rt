@@ -3,7 +3,7 @@
 //! state can be made again from the changes alone. No definition speaks of it; what is noted: `specs/Account.antt`.
 
 ghost use Rattle.std.specs.Prelude.{◌≡◌, false, OnOk};
-ghost use Rattle.h2_explain.specs.Account.{KeepsBlocks, moves_windows};
+ghost use Rattle.h2_explainer.specs.Account.{KeepsBlocks, moves_windows};
 
 use h2_changes::changes::Moved;
 use h2_changes::count::Count;

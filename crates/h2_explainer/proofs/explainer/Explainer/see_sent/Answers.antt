@@ -2,8 +2,8 @@ use Rattle.std.proofs.Common.{◌≡◌, ◌∙◌, ◌-◌, ◌+◌, suc, lengt
 use Rattle.h2_describe.specs.Sent.{first_seen}
 use Rattle.h2_spec.specs.Stream.{stream_at}
 use Rattle.h2_item.specs.Notes.{note_of}
-use Rattle.h2_explain.proofs.Accounts.{none_left, none_noted, one_more, one_noted, streams-none, streams-zero}
-use Rattle.h2_explain.proofs.explainer.Explainer.see_sent.Goals as goal
+use Rattle.h2_explainer.proofs.Accounts.{none_left, none_noted, one_more, one_noted, streams-none, streams-zero}
+use Rattle.h2_explainer.proofs.explainer.Explainer.see_sent.Goals as goal
 
 pub loop-frame-init : goal.loop-frame-init
 loop-frame-init g c =

@@ -4,7 +4,7 @@
 ghost use Rattle.std.specs.Prelude.{◌≡◌, [], IfOk, OnErr};
 ghost use Rattle.h2_conn.specs.Connection.{going};
 ghost use Rattle.h2_conn.specs.First.{TakesIfAny};
-ghost use Rattle.h2_explain.specs.Explained.{Keeps, moment_of, stream_ahead, used_of};
+ghost use Rattle.h2_explainer.specs.Explained.{Keeps, moment_of, stream_ahead, used_of};
 
 use h2_conn::{Conn, TakenItem};
 use h2_frame::read_head;
