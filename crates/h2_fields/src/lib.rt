@@ -11,3 +11,11 @@ mod hints;
 pub mod kept_rest;
 pub mod laws;
 pub mod rest;
+
+pub use h2_instruction::fault::BlockFault;
+pub use h2_instruction::field::Field;
+pub use h2_instruction::instruction::{
+    HpackString, Instr, InstrRead, Mode, Name, read_instr, write_instr,
+};
+pub use h2_instruction::octets::Octets;
+pub use h2_instruction::response::response_block;

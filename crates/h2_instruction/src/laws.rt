@@ -1,6 +1,6 @@
 //! A law of what is written and read here, on a function with an empty body: what is written is read back as what it was
-//! written for. It rests on the lemmas from which `h2_laws::block_laws` is proved too, and which are in `h2_spec` as
-//! the definitions are.
+//! written for. Its lemmas are those from which `h2_laws::block_laws` is proved too, and are in `h2_spec` as the
+//! definitions are.
 
 ghost use Rattle.std.specs.Prelude.{◌≡◌, ℕ, List, ◌++◌, length, Some};
 ghost use Rattle.h2_instruction.specs.Instructions.{IsWritable};
