@@ -6,14 +6,14 @@ ghost use Rattle.std.specs.BTreeMap.{IsEmpty};
 ghost use Rattle.std.specs.Option.{option_map};
 ghost use Rattle.h2_spec.specs.Stream.{stream_at};
 ghost use Rattle.h2_item.specs.Item.{frame_in, head_in, part_in};
-ghost use Rattle.h2_explainer.specs.Account.{KeepsBlocks, ListsChanges, NotesItem, begun_after, block_end_with, changes_of_sent, changes_since, ended_with, unread, fragment_in, is_compression, is_of_block, is_of_fields, moves_windows, noted_with, notes_of_sent, reads_fields, shows_fields_with};
+ghost use Rattle.h2_explainer.specs.Account.{KeepsBlocks, ListsChanges, NotesItem, begun_after, block_end_with, changes_of_sent, changes_since, ended_with, unread, fragment_in, is_compression, is_of_block, is_of_fields, moves_windows, noted_with, notes_of_sent, opening_if, reads_fields, shows_fields_with};
 ghost use Rattle.h2_item.specs.Notes.{AreNotes, note_of, with_later_note};
 ghost use Rattle.h2_facts.specs.Warnings.{AreWarnings};
 
 use crate::moved::{moved_by, note_moved};
 use h2_account::account::Account;
 use h2_changes::changes::{Changes, connection_changes, stream_changes};
-use h2_conn::{Conn, is_ended};
+use h2_conn::{Conn, is_ended, write_opening};
 use h2_describe::say::TextBuilder;
 use h2_describe::sent::next_frame;
 use h2_describe::spelled::BlockReader;
@@ -114,6 +114,21 @@ fn reads_fields(item: &Explained<'_>) -> bool
         None => true,
         Some(cause) => !is_ended(item.after.counts.phase) || is_of_fields(cause),
     }
+}
+
+/// The frames that the server sends before it reads anything, where they are asked for; else none.
+pub fn opening_of<A: Allocator + Copy>(
+    alloc: A,
+    conn: &Conn<'_, A>,
+    is_asked: bool,
+) -> Result<Vec<u8, A>, AllocError>
+    ensures { IfOk result (λ opening. opening.items ≡ opening_if conn.now.state.config is_asked) }
+{
+    let mut opening = Vec::new(alloc);
+    if is_asked {
+        write_opening(conn.config(), &mut opening)?;
+    }
+    Ok(opening)
 }
 
 impl<A: Allocator + Copy> Explainer<A> {
