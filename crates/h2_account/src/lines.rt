@@ -2,20 +2,20 @@
 //! of its error or of why it is ignored, of the frames that were sent, and of what changed. Definitions:
 //! `specs/Lines.antt`, the format: docs/FORMATS.md.
 
-ghost use Rattle.std.specs.Prelude.{◌≡◌, IfOk};
+ghost use Rattle.std.specs.Prelude.{◌≡◌, None, OnOk};
 ghost use Rattle.h2_account.specs.Lines.{Words as Said, blanks, cause_lines, error_lines, first_line, ignored_lines, is_silent, lines, lines_of, reason_lines, rule_lines, scope};
 ghost use Rattle.h2_facts.specs.Special.{rule_of_cause, rule_of_reason};
 
 use crate::account::Account;
 use crate::paint::{Paint, Role};
 use crate::text::{
-    say_all_moved, say_also, say_changes, say_entries, say_fields, say_item, say_opening, say_sent,
+    answer_reader, say_all_moved, say_also, say_changes, say_entries, say_fields, say_item, say_opening, say_sent,
 };
 use crate::warning_words::say_warnings;
 use h2_describe::names::{error_name, scope_word};
 use h2_describe::say::TextBuilder;
 use h2_describe::spelled::BlockReader;
-use h2_device::{DeviceFault, Number, Output, Text, octets_with, texts};
+use h2_device::{DeviceFault, Gathered, Number, Output, Text, texts};
 use h2_facts::special::{Rule, case_of_error, case_of_reason, rule_of_cause, rule_of_reason};
 use h2_item::item::Explained;
 use h2_spec::causes::Cause;
@@ -23,7 +23,8 @@ use h2_spec::connection::Phase;
 use h2_spec::frames::ItemHead;
 use h2_spec::ignored::Ignored;
 use h2_spec::special_cases::SpecialCase;
-use std::alloc::{AllocError, Allocator};
+use std::alloc::{AllocError, Allocator, Global};
+use std::marker::Model;
 
 /// The beginning of each line below the first one of an item.
 const INDENT: &str = "        ";
@@ -267,17 +268,18 @@ fn opening_text<A: Allocator + Copy>(
     paint: Paint,
 ) -> Result<String<A>, AllocError> {
     let mut words = TextBuilder::new(alloc);
-    say_opening(alloc, opening, paint, &mut words);
+    say_opening(opening, paint, &mut words);
     words.finish()
 }
 
-/// The words of an item.
+/// The words of an item; `answers` reads the fields of answers.
 fn words_of<A: Allocator + Copy>(
     alloc: A,
     item: &Explained<'_>,
     account: &Account<A>,
     reader: &BlockReader<A>,
     paint: Paint,
+    answers: &mut BlockReader<A>,
 ) -> Result<ItemWords<A>, AllocError> {
     let mut words = account.words(alloc);
     say_item(item, &mut words);
@@ -287,7 +289,7 @@ fn words_of<A: Allocator + Copy>(
     say_also(account.also.as_slice(), paint, &mut words);
     let also = words.len();
     say_warnings(account.warnings, paint, &mut words);
-    say_sent(alloc, item.sent, paint, &mut words);
+    say_sent(alloc, item.sent, paint, answers, &mut words);
     let sent = words.len();
     say_all_changes(account, paint, &mut words);
     Ok(ItemWords {
@@ -299,26 +301,52 @@ fn words_of<A: Allocator + Copy>(
     })
 }
 
-/// How many octets the lines of an item take, about: those of its words, of its opening and of its sentence, some for its
-/// number and its offset, and those of the rule, where it is an error or ignored.
-fn room_for(has_rule: bool, words: usize, opening: &str, sentence: &str) -> usize {
-    let rule = if has_rule { 400 } else { 40 };
-    words
-        .saturating_add(opening.len())
-        .saturating_add(sentence.len())
-        .saturating_add(rule)
+/// Puts a text in the place of what was gathered.
+///
+/// `AllocError` where memory for it is refused.
+fn gather<A: Allocator, T: Text>(text: &T, out: &mut Gathered<A>) -> Result<(), AllocError>
+    ensures { OnOk result (out.new.octets.items ≡ T.text text.now) }
+{
+    out.octets.clear();
+    out.failed = false;
+    match text.write_to(out) {
+        Ok(()) => Ok(()),
+        Err(_) => Err(AllocError),
+    }
+}
+
+/// The lines of an item with these words that is no error and not ignored.
+fn plain_lines<A: Allocator>(
+    item: &Explained<'_>,
+    words: &ItemWords<A>,
+    opening: &str,
+    paint: Paint,
+    out: &mut Gathered<A>,
+) -> Result<(), AllocError>
+    requires no_cause { item.now.cause ≡ None }
+    requires no_reason { item.now.ignored ≡ None }
+    ensures { OnOk result ((w : Said) × (out.new.octets.items ≡ lines paint.0 item.now w)) }
+{
+    let first = FirstLine {
+        paint,
+        number: item.number,
+        offset: item.offset as u64,
+        words: words.part(0, words.item),
+    };
+    let rest = words.part(words.item, words.text.len());
+    gather(&texts!(opening, first, rest), out)
 }
 
 /// The lines of an item with these words.
 fn lines_with<A: Allocator + Copy>(
-    alloc: A,
     item: &Explained<'_>,
     words: &ItemWords<A>,
     account: &Account<A>,
     opening: &str,
     paint: Paint,
-) -> Result<Vec<u8, A>, AllocError>
-    ensures { IfOk result (λ octets. (w : Said) × (octets.items ≡ lines paint.0 item.now w)) }
+    out: &mut Gathered<A>,
+) -> Result<(), AllocError>
+    ensures { OnOk result ((w : Said) × (out.new.octets.items ≡ lines paint.0 item.now w)) }
 {
     let first = FirstLine {
         paint,
@@ -343,12 +371,9 @@ fn lines_with<A: Allocator + Copy>(
     let also = words.part(words.fields, words.also);
     let sent = words.part(words.also, words.sent);
     let changes = words.part(words.sent, words.text.len());
-    let has_rule = item.cause.is_some() || item.ignored.is_some();
-    let room = room_for(has_rule, words.text.len(), opening, sentence);
-    octets_with(
-        alloc,
-        room,
+    gather(
         &texts!(opening, first, fields, cause, also, reason, sent, changes),
+        out,
     )
 }
 
@@ -362,23 +387,79 @@ fn is_silent(item: ItemHead) -> bool
     }
 }
 
-/// The octets of the text of an item, before it that of the server's opening, if the item is the first; that of the
-/// preface itself is empty. `reader` has the fields of its block.
-///
-/// `AllocError` where memory is refused.
-pub fn lines_of<A: Allocator + Copy>(
-    alloc: A,
-    item: &Explained<'_>,
-    account: &Account<A>,
-    reader: &BlockReader<A>,
-    paint: Paint,
-) -> Result<Vec<u8, A>, AllocError>
-    ensures { IfOk result (λ octets. (w : Said) × (octets.items ≡ lines_of paint.0 item.now w)) }
-{
-    let opening = opening_text(alloc, account.opening.as_slice(), paint)?;
-    if is_silent(item.what) {
-        return Ok(opening.into_bytes());
+/// The text of an item, and memory that is used again for those after it.
+pub struct ItemLines<A: Allocator = Global> {
+    /// The text.
+    text: Gathered<A>,
+    /// The reader of the fields of answers.
+    answers: BlockReader<A>,
+}
+
+/// By hand, so that a function that drops one makes one call.
+impl<A: Allocator> Drop for ItemLines<A> {
+    fn drop(self) {
+        let Self {
+            text: _,
+            answers: _,
+        } = self;
     }
-    let words = words_of(alloc, item, account, reader, paint)?;
-    lines_with(alloc, item, &words, account, opening.as_str(), paint)
+}
+
+impl<A: Allocator> Model for ItemLines<A> {
+    ghost use Rattle.std.specs.Prelude.{ℕ, List};
+
+    ghost Value = { List ℕ };
+
+    ghost view = { λ l. l.text.octets.items };
+}
+
+impl<A: Allocator + Copy> ItemLines<A> {
+    /// No text yet.
+    pub fn new(alloc: A) -> Result<ItemLines<A>, AllocError> {
+        Ok(ItemLines {
+            text: Gathered::new(alloc),
+            answers: answer_reader(alloc)?,
+        })
+    }
+
+    /// The octets of the text.
+    pub fn octets(&self) -> &[u8]
+        ensures { result.now ≡ self.now }
+    {
+        self.text.octets.as_slice()
+    }
+
+    /// Puts octets in the place of those before.
+    pub fn set(&mut self, octets: Vec<u8, A>)
+        ensures { self.new ≡ octets.items }
+    {
+        self.text.octets = octets;
+    }
+
+    /// Puts the text of an item in the place of that before, and first that of the server's opening, if the item is the
+    /// first; that of the preface itself is empty. `reader` has the fields of its block.
+    ///
+    /// `AllocError` where memory is refused.
+    pub fn put(
+        &mut self,
+        alloc: A,
+        item: &Explained<'_>,
+        account: &Account<A>,
+        reader: &BlockReader<A>,
+        paint: Paint,
+    ) -> Result<(), AllocError>
+        ensures { OnOk result ((w : Said) × (self.new ≡ lines_of paint.0 item.now w)) }
+    {
+        let opening = opening_text(alloc, account.opening.as_slice(), paint)?;
+        if is_silent(item.what) {
+            return gather(&opening.as_str(), &mut self.text);
+        }
+        let words = words_of(alloc, item, account, reader, paint, &mut self.answers)?;
+        let (opening, out) = (opening.as_str(), &mut self.text);
+        if item.cause.is_none() && item.ignored.is_none() {
+            plain_lines(item, &words, opening, paint, out)
+        } else {
+            lines_with(item, &words, account, opening, paint, out)
+        }
+    }
 }

@@ -12,7 +12,7 @@ ghost use Rattle.h2_facts.specs.Warnings.{AreWarnings};
 
 use crate::moved::{moved_by, note_moved};
 use h2_account::account::Account;
-use h2_changes::changes::{Changes, connection_changes, stream_changes};
+use h2_changes::changes::{Changes, connection_changes, is_same_stream, stream_changes};
 use h2_conn::{Conn, is_ended, write_opening};
 use h2_describe::say::TextBuilder;
 use h2_describe::sent::next_frame;
@@ -224,6 +224,9 @@ impl<A: Allocator + Copy> Explainer<A> {
             return Ok(());
         };
         let now = conn.stream(stream);
+        if now.id == stream && note.is_settled() && is_same_stream(&note.seen, &now) {
+            return Ok(());
+        }
         stream_changes(&note.seen, &now, item.after.counts.send, out)?;
         self.notes.see(item.number, item.number, now)
     }

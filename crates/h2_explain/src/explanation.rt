@@ -20,7 +20,7 @@ use crate::recorder::Recorder;
 use crate::run::{ExplainFault, Form, Summary};
 use crate::taking::take_next;
 use crate::verdict::{Tally, verdict_at};
-use h2_account::lines::lines_of;
+use h2_account::lines::ItemLines;
 use h2_account::paint::Paint;
 use h2_conn::{Conn, is_ended};
 use h2_describe::sent::first_of;
@@ -45,25 +45,27 @@ fn write<O: Output>(output: &mut O, octets: &[u8]) -> Result<(), ExplainFault>
     }
 }
 
-/// The octets of the text of an item.
+/// Makes the text of an item.
 fn item_text<A: Allocator + Copy>(
     alloc: A,
     form: Form,
     explainer: &mut Explainer<A>,
     tally: &mut Tally<A>,
+    lines: &mut ItemLines<A>,
     conn: &Conn<'_, A>,
     item: &Explained<'_>,
-) -> Result<Vec<u8, A>, AllocError>
-    ensures text { IfOk result (λ octets. IsItemText form item.now octets.items) }
+) -> Result<(), AllocError>
+    ensures text { OnOk result (IsItemText form item.now lines.new) }
     ensures tally { OnOk result (TalliesItem tally.old item.now tally.new) }
 {
     let account = explainer.account(alloc, conn, item)?;
     tally.note(item, account.facts, account.warnings)?;
     let reader = &explainer.reader;
     if form.json {
-        json_of(alloc, item, &account, reader)
+        lines.set(json_of(alloc, item, &account, reader)?);
+        Ok(())
     } else {
-        lines_of(alloc, item, &account, reader, Paint(form.color))
+        lines.put(alloc, item, &account, reader, Paint(form.color))
     }
 }
 
@@ -73,6 +75,7 @@ fn write_item<A: Allocator + Copy, O: Output>(
     form: Form,
     explainer: &mut Explainer<A>,
     tally: &mut Tally<A>,
+    lines: &mut ItemLines<A>,
     conn: &Conn<'_, A>,
     item: &Explained<'_>,
     output: &mut O,
@@ -83,8 +86,8 @@ fn write_item<A: Allocator + Copy, O: Output>(
     ensures flag { O.has_failed output.new ≡ not_written result }
     ensures name { O.name output.new ≡ O.name output.old }
 {
-    match item_text(alloc, form, explainer, tally, conn, item) {
-        Ok(octets) => write(output, octets.as_slice()),
+    match item_text(alloc, form, explainer, tally, lines, conn, item) {
+        Ok(()) => write(output, lines.octets()),
         Err(_) => Err(ExplainFault::NoMemory),
     }
 }
@@ -135,6 +138,8 @@ pub struct Explanation<A: Allocator = Global> {
     form: Form,
     explainer: Explainer<A>,
     tally: Tally<A>,
+    /// The text of the last item, whose memory is used again.
+    lines: ItemLines<A>,
     /// How many items there were.
     items: u64,
     /// How many octets they have.
@@ -152,6 +157,7 @@ impl<A: Allocator> Drop for Explanation<A> {
             form: _,
             explainer: _,
             tally: _,
+            lines: _,
             items: _,
             offset: _,
             held: _,
@@ -171,6 +177,7 @@ impl<A: Allocator + Copy> Explanation<A> {
             form,
             explainer,
             tally: Tally::new(alloc),
+            lines: ItemLines::new(alloc)?,
             items: 0,
             offset: 0,
             held: Vec::new(alloc),
@@ -230,6 +237,7 @@ impl<A: Allocator + Copy> Explanation<A> {
             self.form,
             &mut self.explainer,
             &mut self.tally,
+            &mut self.lines,
             conn,
             &item,
             output,

@@ -19,16 +19,20 @@ use std::collections::BTreeMap;
 /// The streams that are live, by their identifiers.
 pub(crate) type Live<A> = BTreeMap<u32, (), A>;
 
-/// The streams of the frames that were sent for an item.
-fn sent_streams<A: Allocator + Copy>(alloc: A, sent: &[u8]) -> Result<Live<A>, AllocError> {
+/// The streams of the frames that were sent for an item, but for the one that the item is on, which is looked at anyway.
+fn sent_streams<A: Allocator + Copy>(
+    alloc: A,
+    item: &Explained<'_>,
+) -> Result<Live<A>, AllocError> {
     let mut streams = BTreeMap::new(alloc);
-    let mut rest = sent;
-    for _frame in 0..sent.len() {
+    let own = item.after.stream.id;
+    let mut rest = item.sent;
+    for _frame in 0..item.sent.len() {
         let Some((frame, after)) = next_frame(rest) else {
             return Ok(streams);
         };
         rest = after;
-        if frame.head.stream != 0 {
+        if frame.head.stream != 0 && frame.head.stream != own {
             streams.insert(frame.head.stream, ())?;
         }
     }
@@ -202,7 +206,7 @@ pub(crate) fn moved_by<A: Allocator + Copy>(
     live: &Live<A>,
 ) -> Result<Vec<Moved, A>, AllocError> {
     let mut list = Vec::new(alloc);
-    let sent = sent_streams(alloc, item.sent)?;
+    let sent = sent_streams(alloc, item)?;
     if item.after.stream.id != 0 {
         let initial = item.after.counts.peer.window;
         put_listed(&item.before.stream, &item.after.stream, initial, &mut list)?;
@@ -260,7 +264,7 @@ pub(crate) fn note_moved<A: Allocator + Copy>(
     if item.after.stream.id != 0 {
         keep_live(&item.after.stream, live)?;
     }
-    let sent = sent_streams(alloc, item.sent)?;
+    let sent = sent_streams(alloc, item)?;
     for stream in sent.keys() {
         keep_live(&conn.stream(*stream), live)?;
     }
