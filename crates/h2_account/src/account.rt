@@ -51,6 +51,22 @@ impl<A: Allocator> Drop for Account<A> {
 }
 
 impl<A: Allocator + Copy> Account<A> {
+    /// Nothing is said yet. Takes no memory.
+    pub fn new(alloc: A) -> Account<A> {
+        Account {
+            sentence: String::new(alloc),
+            also: Vec::new(alloc),
+            facts: CaseFacts::none(),
+            warnings: Warnings::none(),
+            shows_fields: false,
+            changes: Vec::new(alloc),
+            moved: Vec::new(alloc),
+            entries: Vec::new(alloc),
+            opening: Vec::new(alloc),
+            is_full: false,
+        }
+    }
+
     /// A text in words that is empty yet; long texts are shown in it as they are asked for.
     pub fn words(&self, alloc: A) -> TextBuilder<A> {
         TextBuilder::with(alloc, self.is_full)

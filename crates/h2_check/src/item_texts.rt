@@ -11,6 +11,7 @@ ghost use Rattle.h2_cases.specs.Lines.{line_said};
 ghost use Rattle.h2_check.specs.declared.verdict.CaseFault.TheVariants.{BadConfig, NoMemory};
 
 use crate::verdict::CaseFault;
+use h2_account::account::Account;
 use h2_account::lines::ItemLines;
 use h2_account::paint::Paint;
 use h2_cases::{Line, line_of};
@@ -111,10 +112,11 @@ fn text_of(
 ) -> Result<String, AllocError>
     ensures { IfOk result (λ text. IsTextOf false false item.now (string_bytes text)) }
 {
-    let account = match explainer.account(alloc, conn, item) {
-        Ok(account) => account,
+    let mut account = Account::new(alloc);
+    match explainer.account(alloc, conn, item, &mut account) {
+        Ok(()) => {}
         Err(error) => return Err(error),
-    };
+    }
     let mut lines = match ItemLines::new(alloc) {
         Ok(lines) => lines,
         Err(error) => return Err(error),

@@ -18,6 +18,7 @@ use crate::end::{End, rest_of};
 use crate::recorder::Recorder;
 use crate::run::{ExplainFault, Form, Summary};
 use crate::verdict::{Tally, verdict_at};
+use h2_account::account::Account;
 use h2_account::lines::ItemLines;
 use h2_account::paint::Paint;
 use h2_conn::{Conn, is_ended};
@@ -45,27 +46,46 @@ fn write<O: Output>(output: &mut O, octets: &[u8]) -> Result<(), ExplainFault>
     }
 }
 
+/// What was made of the last item, whose memory is used again.
+struct ItemText<A: Allocator> {
+    /// What there is to say of it.
+    account: Account<A>,
+    /// Its text.
+    lines: ItemLines<A>,
+}
+
+/// By hand, so that a function that drops one makes one call.
+impl<A: Allocator> Drop for ItemText<A> {
+    fn drop(self) {
+        let Self {
+            account: _,
+            lines: _,
+        } = self;
+    }
+}
+
 /// Makes the text of an item.
-fn item_text<A: Allocator + Copy>(
+fn make_text<A: Allocator + Copy>(
     alloc: A,
     form: Form,
     explainer: &mut Explainer<A>,
     tally: &mut Tally<A>,
-    lines: &mut ItemLines<A>,
     conn: &Conn<'_, A>,
     item: &Explained<'_>,
+    text: &mut ItemText<A>,
 ) -> Result<(), AllocError>
-    ensures text { OnOk result (IsItemText form item.now lines.new) }
+    ensures text { OnOk result (IsItemText form item.now text.new.lines) }
     ensures tally { OnOk result (TalliesItem tally.old item.now tally.new) }
 {
-    let account = explainer.account(alloc, conn, item)?;
+    let ItemText { account, lines } = text;
+    explainer.account(alloc, conn, item, account)?;
     tally.note(item, account.facts, account.warnings)?;
     let reader = &explainer.reader;
     if form.json {
-        lines.set(json_of(alloc, item, &account, reader)?);
+        lines.set(json_of(alloc, item, account, reader)?);
         Ok(())
     } else {
-        lines.put(alloc, item, &account, reader, Paint(form.color))
+        lines.put(alloc, item, account, reader, Paint(form.color))
     }
 }
 
@@ -75,9 +95,9 @@ fn write_item<A: Allocator + Copy, O: Output>(
     form: Form,
     explainer: &mut Explainer<A>,
     tally: &mut Tally<A>,
-    lines: &mut ItemLines<A>,
     conn: &Conn<'_, A>,
     item: &Explained<'_>,
+    text: &mut ItemText<A>,
     output: &mut O,
 ) -> Result<(), ExplainFault>
     requires writer { O.has_failed output.old ≡ false }
@@ -86,8 +106,8 @@ fn write_item<A: Allocator + Copy, O: Output>(
     ensures flag { O.has_failed output.new ≡ not_written result }
     ensures name { O.name output.new ≡ O.name output.old }
 {
-    match item_text(alloc, form, explainer, tally, lines, conn, item) {
-        Ok(()) => write(output, lines.octets()),
+    match make_text(alloc, form, explainer, tally, conn, item, text) {
+        Ok(()) => write(output, text.lines.octets()),
         Err(_) => Err(ExplainFault::NoMemory),
     }
 }
@@ -138,8 +158,7 @@ pub struct Explanation<A: Allocator = Global> {
     form: Form,
     explainer: Explainer<A>,
     tally: Tally<A>,
-    /// The text of the last item, whose memory is used again.
-    lines: ItemLines<A>,
+    text: ItemText<A>,
     /// How many items there were.
     items: u64,
     /// How many octets they have.
@@ -157,7 +176,7 @@ impl<A: Allocator> Drop for Explanation<A> {
             form: _,
             explainer: _,
             tally: _,
-            lines: _,
+            text: _,
             items: _,
             offset: _,
             held: _,
@@ -173,11 +192,15 @@ impl<A: Allocator + Copy> Explanation<A> {
     {
         let mut explainer = Explainer::new(alloc)?;
         explainer.is_full = form.full;
+        let text = ItemText {
+            account: Account::new(alloc),
+            lines: ItemLines::new(alloc)?,
+        };
         Ok(Explanation {
             form,
             explainer,
             tally: Tally::new(alloc),
-            lines: ItemLines::new(alloc)?,
+            text,
             items: 0,
             offset: 0,
             held: Vec::new(alloc),
@@ -237,9 +260,9 @@ impl<A: Allocator + Copy> Explanation<A> {
             self.form,
             &mut self.explainer,
             &mut self.tally,
-            &mut self.lines,
             conn,
             &item,
+            &mut self.text,
             output,
         ) {
             Ok(()) => {}

@@ -4,7 +4,6 @@
 ghost use Rattle.std.specs.Prelude.{◌≡◌};
 ghost use Rattle.h2_facts.specs.Warnings.{no_request_facts};
 
-use crate::fields::value_of;
 use h2_describe::spelled::SpelledField;
 use std::alloc::Allocator;
 
@@ -74,9 +73,58 @@ fn is_scheme(octets: &[u8]) -> bool {
     }
 }
 
-/// Whether a request is one of http or https.
-fn is_web<A: Allocator>(fields: &[SpelledField<A>]) -> bool {
-    match value_of(b":scheme", fields) {
+/// The values of a request that are looked at, of each name the first, and how many fields `host` there are.
+#[derive(Clone, Copy)]
+struct Values<'s> {
+    method: Option<&'s [u8]>,
+    scheme: Option<&'s [u8]>,
+    path: Option<&'s [u8]>,
+    authority: Option<&'s [u8]>,
+    hosts: usize,
+}
+
+impl<'s> Values<'s> {
+    /// None of them.
+    fn none() -> Values<'s> {
+        Values {
+            method: None,
+            scheme: None,
+            path: None,
+            authority: None,
+            hosts: 0,
+        }
+    }
+
+    /// With the value of a field more.
+    fn with(self, name: &[u8], value: &'s [u8]) -> Values<'s> {
+        let mut values = self;
+        if name == ":method".as_bytes() {
+            values.method = self.method.or(Some(value));
+        } else if name == ":scheme".as_bytes() {
+            values.scheme = self.scheme.or(Some(value));
+        } else if name == ":path".as_bytes() {
+            values.path = self.path.or(Some(value));
+        } else if name == ":authority".as_bytes() {
+            values.authority = self.authority.or(Some(value));
+        } else if name == "host".as_bytes() {
+            values.hosts = self.hosts.saturating_add(1);
+        }
+        values
+    }
+}
+
+/// The values of these fields that are looked at.
+fn values_in<A: Allocator>(fields: &[SpelledField<A>]) -> Values<'_> {
+    let mut values = Values::none();
+    for field in fields {
+        values = values.with(field.name.as_slice(), field.value.as_slice());
+    }
+    values
+}
+
+/// Whether a request with this scheme is one of http or https.
+fn is_web(scheme: Option<&[u8]>) -> bool {
+    match scheme {
         Some(scheme) => {
             scheme.eq_ignore_ascii_case(b"http") || scheme.eq_ignore_ascii_case(b"https")
         }
@@ -101,11 +149,11 @@ fn is_no_scheme(value: Option<&[u8]>) -> bool {
 }
 
 /// Whether the path of a request of http or https does not begin with a slash, and is not `*` with OPTIONS.
-fn has_bad_path<A: Allocator>(fields: &[SpelledField<A>]) -> bool {
-    let Some(path) = value_of(b":path", fields) else {
+fn has_bad_path(values: Values<'_>) -> bool {
+    let Some(path) = values.path else {
         return false;
     };
-    let options = match value_of(b":method", fields) {
+    let options = match values.method {
         Some(method) => method == "OPTIONS".as_bytes(),
         None => false,
     };
@@ -113,27 +161,16 @@ fn has_bad_path<A: Allocator>(fields: &[SpelledField<A>]) -> bool {
 }
 
 /// Whether an authority has userinfo: an `@` (RFC 3986, 3.2).
-fn has_userinfo<A: Allocator>(fields: &[SpelledField<A>]) -> bool {
-    match value_of(b":authority", fields) {
+fn has_userinfo(authority: Option<&[u8]>) -> bool {
+    match authority {
         Some(authority) => authority.contains(&b'@'),
         None => false,
     }
 }
 
-/// How many fields have this name.
-fn times<A: Allocator>(name: &[u8], fields: &[SpelledField<A>]) -> usize {
-    let mut count = 0usize;
-    for field in fields {
-        if field.name.as_slice() == name {
-            count = count.saturating_add(1);
-        }
-    }
-    count
-}
-
-/// Whether `:authority` is there, and a field `host` is other than it, apart from the case of letters.
-fn do_hosts_differ<A: Allocator>(fields: &[SpelledField<A>]) -> bool {
-    let Some(authority) = value_of(b":authority", fields) else {
+/// Whether the authority is there, and a field `host` is other than it, apart from the case of letters.
+fn do_hosts_differ<A: Allocator>(authority: Option<&[u8]>, fields: &[SpelledField<A>]) -> bool {
+    let Some(authority) = authority else {
         return false;
     };
     for field in fields {
@@ -148,13 +185,14 @@ fn do_hosts_differ<A: Allocator>(fields: &[SpelledField<A>]) -> bool {
 
 /// What is wrong with the request that has these fields.
 pub fn request_facts<A: Allocator>(fields: &[SpelledField<A>]) -> RequestFacts {
-    let web = is_web(fields);
+    let values = values_in(fields);
+    let web = is_web(values.scheme);
     RequestFacts {
-        bad_method: is_no_token(value_of(b":method", fields)),
-        bad_scheme: is_no_scheme(value_of(b":scheme", fields)),
-        bad_path: web && has_bad_path(fields),
-        userinfo: web && has_userinfo(fields),
-        host_twice: times(b"host", fields) > 1,
-        host_differs: do_hosts_differ(fields),
+        bad_method: is_no_token(values.method),
+        bad_scheme: is_no_scheme(values.scheme),
+        bad_path: web && has_bad_path(values),
+        userinfo: web && has_userinfo(values.authority),
+        host_twice: values.hosts > 1,
+        host_differs: values.hosts > 0 && do_hosts_differ(values.authority, fields),
     }
 }
