@@ -315,11 +315,10 @@ fn gather<A: Allocator, T: Text>(text: &T, out: &mut Gathered<A>) -> Result<(), 
     }
 }
 
-/// The lines of an item with these words that is no error and not ignored.
+/// The lines of an item with these words that is no error and not ignored, without those of an opening.
 fn plain_lines<A: Allocator>(
     item: &Explained<'_>,
     words: &ItemWords<A>,
-    opening: &str,
     paint: Paint,
     out: &mut Gathered<A>,
 ) -> Result<(), AllocError>
@@ -334,7 +333,7 @@ fn plain_lines<A: Allocator>(
         words: words.part(0, words.item),
     };
     let rest = words.part(words.item, words.text.len());
-    gather(&texts!(opening, first, rest), out)
+    gather(&texts!(first, rest), out)
 }
 
 /// The lines of an item with these words.
@@ -450,16 +449,35 @@ impl<A: Allocator + Copy> ItemLines<A> {
     ) -> Result<(), AllocError>
         ensures { OnOk result ((w : Said) × (self.new ≡ lines_of paint.0 item.now w)) }
     {
+        if account.opening.is_empty() && item.cause.is_none() && item.ignored.is_none() {
+            return self.put_plain(alloc, item, account, reader, paint);
+        }
         let opening = opening_text(alloc, account.opening.as_slice(), paint)?;
         if is_silent(item.what) {
             return gather(&opening.as_str(), &mut self.text);
         }
         let words = words_of(alloc, item, account, reader, paint, &mut self.answers)?;
-        let (opening, out) = (opening.as_str(), &mut self.text);
-        if item.cause.is_none() && item.ignored.is_none() {
-            plain_lines(item, &words, opening, paint, out)
-        } else {
-            lines_with(item, &words, account, opening, paint, out)
+        lines_with(item, &words, account, opening.as_str(), paint, &mut self.text)
+    }
+
+    /// The same for an item that is no error and not ignored, after the first one.
+    fn put_plain(
+        &mut self,
+        alloc: A,
+        item: &Explained<'_>,
+        account: &Account<A>,
+        reader: &BlockReader<A>,
+        paint: Paint,
+    ) -> Result<(), AllocError>
+        requires no_cause { item.now.cause ≡ None }
+        requires no_reason { item.now.ignored ≡ None }
+        ensures { OnOk result ((w : Said) × (self.new ≡ lines_of paint.0 item.now w)) }
+    {
+        if is_silent(item.what) {
+            self.text.octets.clear();
+            return Ok(());
         }
+        let words = words_of(alloc, item, account, reader, paint, &mut self.answers)?;
+        plain_lines(item, &words, paint, &mut self.text)
     }
 }
