@@ -73,20 +73,20 @@ fn is_scheme(octets: &[u8]) -> bool {
     }
 }
 
-/// The values of a request that are looked at, of each name the first, and how many fields `host` there are.
+/// The places of the fields of a request that are looked at, of each name the first, and how many fields `host` there are.
 #[derive(Clone, Copy)]
-struct Values<'s> {
-    method: Option<&'s [u8]>,
-    scheme: Option<&'s [u8]>,
-    path: Option<&'s [u8]>,
-    authority: Option<&'s [u8]>,
+struct Places {
+    method: Option<usize>,
+    scheme: Option<usize>,
+    path: Option<usize>,
+    authority: Option<usize>,
     hosts: usize,
 }
 
-impl<'s> Values<'s> {
+impl Places {
     /// None of them.
-    fn none() -> Values<'s> {
-        Values {
+    fn none() -> Places {
+        Places {
             method: None,
             scheme: None,
             path: None,
@@ -95,31 +95,37 @@ impl<'s> Values<'s> {
         }
     }
 
-    /// With the value of a field more.
-    fn with(self, name: &[u8], value: &'s [u8]) -> Values<'s> {
-        let mut values = self;
+    /// Notes that a field of this name is at this place, after the others.
+    fn note(&mut self, name: &[u8], place: usize) {
         if name == ":method".as_bytes() {
-            values.method = self.method.or(Some(value));
+            self.method = self.method.or(Some(place));
         } else if name == ":scheme".as_bytes() {
-            values.scheme = self.scheme.or(Some(value));
+            self.scheme = self.scheme.or(Some(place));
         } else if name == ":path".as_bytes() {
-            values.path = self.path.or(Some(value));
+            self.path = self.path.or(Some(place));
         } else if name == ":authority".as_bytes() {
-            values.authority = self.authority.or(Some(value));
+            self.authority = self.authority.or(Some(place));
         } else if name == "host".as_bytes() {
-            values.hosts = self.hosts.saturating_add(1);
+            self.hosts = self.hosts.saturating_add(1);
         }
-        values
     }
 }
 
-/// The values of these fields that are looked at.
-fn values_in<A: Allocator>(fields: &[SpelledField<A>]) -> Values<'_> {
-    let mut values = Values::none();
-    for field in fields {
-        values = values.with(field.name.as_slice(), field.value.as_slice());
+/// The places in these fields.
+fn places_in<A: Allocator>(fields: &[SpelledField<A>]) -> Places {
+    let mut places = Places::none();
+    for (place, field) in fields.iter().enumerate() {
+        places.note(field.name.as_slice(), place);
     }
-    values
+    places
+}
+
+/// The value of the field at a place.
+fn value_at<A: Allocator>(place: Option<usize>, fields: &[SpelledField<A>]) -> Option<&[u8]> {
+    match fields.get(place?) {
+        Some(field) => Some(field.value.as_slice()),
+        None => None,
+    }
 }
 
 /// Whether a request with this scheme is one of http or https.
@@ -149,11 +155,11 @@ fn is_no_scheme(value: Option<&[u8]>) -> bool {
 }
 
 /// Whether the path of a request of http or https does not begin with a slash, and is not `*` with OPTIONS.
-fn has_bad_path(values: Values<'_>) -> bool {
-    let Some(path) = values.path else {
+fn has_bad_path(path: Option<&[u8]>, method: Option<&[u8]>) -> bool {
+    let Some(path) = path else {
         return false;
     };
-    let options = match values.method {
+    let options = match method {
         Some(method) => method == "OPTIONS".as_bytes(),
         None => false,
     };
@@ -185,14 +191,19 @@ fn do_hosts_differ<A: Allocator>(authority: Option<&[u8]>, fields: &[SpelledFiel
 
 /// What is wrong with the request that has these fields.
 pub fn request_facts<A: Allocator>(fields: &[SpelledField<A>]) -> RequestFacts {
-    let values = values_in(fields);
-    let web = is_web(values.scheme);
+    let places = places_in(fields);
+    let (method, scheme) = (
+        value_at(places.method, fields),
+        value_at(places.scheme, fields),
+    );
+    let authority = value_at(places.authority, fields);
+    let web = is_web(scheme);
     RequestFacts {
-        bad_method: is_no_token(values.method),
-        bad_scheme: is_no_scheme(values.scheme),
-        bad_path: web && has_bad_path(values),
-        userinfo: web && has_userinfo(values.authority),
-        host_twice: values.hosts > 1,
-        host_differs: values.hosts > 0 && do_hosts_differ(values.authority, fields),
+        bad_method: is_no_token(method),
+        bad_scheme: is_no_scheme(scheme),
+        bad_path: web && has_bad_path(value_at(places.path, fields), method),
+        userinfo: web && has_userinfo(authority),
+        host_twice: places.hosts > 1,
+        host_differs: places.hosts > 0 && do_hosts_differ(authority, fields),
     }
 }
