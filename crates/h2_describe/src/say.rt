@@ -1,6 +1,8 @@
 //! Texts that are put together part by part. No definition speaks of them.
 
+use crate::json_text::is_all_plain;
 use crate::sent::first_of;
+use h2_spec::octets::octets_from;
 use itoa::Buffer;
 use std::alloc::{AllocError, Allocator, Global};
 
@@ -8,7 +10,8 @@ use std::alloc::{AllocError, Allocator, Global};
 /// its end asks whether memory was refused.
 #[derive(Drop)]
 pub struct TextBuilder<A: Allocator = Global> {
-    text: String<A>,
+    /// The text in UTF-8: only texts, characters and octets of ASCII are put here.
+    octets: Vec<u8, A>,
     refused: bool,
     /// How many octets of a long text are shown.
     shown: usize,
@@ -24,7 +27,7 @@ impl<A: Allocator> TextBuilder<A> {
     /// No part yet; of a long text the first 100 octets are shown. Takes no memory.
     pub fn new(alloc: A) -> Self {
         Self {
-            text: String::new(alloc),
+            octets: Vec::new(alloc),
             refused: false,
             shown: SHOWN,
         }
@@ -33,18 +36,9 @@ impl<A: Allocator> TextBuilder<A> {
     /// No part yet; long texts are shown whole where this is asked for, else as by `new`. Takes no memory.
     pub fn with(alloc: A, is_whole: bool) -> Self {
         Self {
-            text: String::new(alloc),
+            octets: Vec::new(alloc),
             refused: false,
             shown: if is_whole { usize::MAX } else { SHOWN },
-        }
-    }
-
-    /// No part yet; as much is shown of long texts as here. Takes no memory.
-    pub fn empty(&self, alloc: A) -> Self {
-        Self {
-            text: String::new(alloc),
-            refused: false,
-            shown: self.shown,
         }
     }
 
@@ -59,15 +53,27 @@ impl<A: Allocator> TextBuilder<A> {
     ///
     /// `AllocError` where memory for a part was refused.
     pub fn finish(self) -> Result<String<A>, AllocError> {
+        match String::from_utf8(self.finish_octets()?) {
+            Ok(text) => Ok(text),
+            Err(_) => Err(AllocError),
+        }
+    }
+
+    /// The octets of the text, in UTF-8.
+    ///
+    /// # Errors
+    ///
+    /// `AllocError` where memory for a part was refused.
+    pub fn finish_octets(self) -> Result<Vec<u8, A>, AllocError> {
         if self.refused {
             return Err(AllocError);
         }
-        Ok(self.text)
+        Ok(self.octets)
     }
 
     /// How many octets it has so far.
     pub fn len(&self) -> usize {
-        self.text.len()
+        self.octets.len()
     }
 
     /// Puts an end to it: memory for what belongs into the text was refused.
@@ -75,45 +81,86 @@ impl<A: Allocator> TextBuilder<A> {
         self.refused = true;
     }
 
-    /// Puts a text last. Before the first one there is space for a line or two, so that few parts make the text grow.
-    fn text(&mut self, part: &str) {
-        if self.text.is_empty() && !self.refused {
-            self.refused = self.text.reserve(ROOM).is_err();
-        }
+    /// Takes memory for this many octets more at once.
+    #[inline(never)]
+    pub fn reserve(&mut self, octets: usize) {
         if !self.refused {
-            self.refused = self.text.push_str(part).is_err();
+            self.refused = self.octets.reserve(octets).is_err();
         }
     }
 
-    /// Puts octets last that are all of ASCII.
-    fn ascii(&mut self, octets: &[u8]) {
-        if let Ok(part) = str::from_utf8(octets) {
-            self.text(part);
+    /// Puts octets of UTF-8 last. Before the first ones there is space for a line or two, so that few parts make the text
+    /// grow.
+    #[inline(always)]
+    pub(crate) fn utf8(&mut self, octets: &[u8]) {
+        if self.octets.is_empty() {
+            self.reserve(ROOM);
         }
+        if !self.refused {
+            self.refused = self.octets.extend_from_slice(octets).is_err();
+        }
+    }
+
+    /// Puts an octet of UTF-8 last.
+    #[inline(always)]
+    pub(crate) fn octet(&mut self, octet: u8) {
+        if !self.refused {
+            self.refused = self.octets.push(octet).is_err();
+        }
+    }
+
+    /// Puts a text last.
+    #[inline(always)]
+    pub fn text(&mut self, part: &str) {
+        self.utf8(part.as_bytes());
     }
 
     /// Puts a character last.
+    #[inline(always)]
     fn character(&mut self, part: char) {
-        if !self.refused {
-            self.refused = self.text.push(part).is_err();
-        }
-    }
-
-    /// Puts the digits of octets last, 32 at most.
-    fn digits(&mut self, octets: &[u8]) {
-        let mut digits = [0u8; 64];
-        let space = &mut digits[..2 * octets.len().min(32)];
-        if hex::encode_to_slice(octets, space).is_ok() {
-            self.ascii(space);
-        }
-    }
-
-    /// Puts an octet of a text last.
-    fn octet(&mut self, octet: u8) {
-        if is_plain(octet) {
-            self.character(char::from(octet));
+        if part.is_ascii() {
+            self.octet(part as u8);
         } else {
-            self.text("\\");
+            let mut space = [0u8; 4];
+            self.text(part.encode_utf8(&mut space));
+        }
+    }
+
+    /// Puts the digits of octets last.
+    fn digits(&mut self, octets: &[u8]) {
+        let start = self.octets.len();
+        let end = start.saturating_add(octets.len().saturating_mul(2));
+        if self.refused || self.octets.resize(end, b'0').is_err() {
+            self.refused = true;
+            return;
+        }
+        let space = &mut self.octets[start..end];
+        self.refused = hex::encode_to_slice(octets, space).is_err();
+    }
+
+    /// The octets from a place on.
+    pub(crate) fn octets_from(&self, start: usize) -> &[u8] {
+        octets_from(self.octets.as_slice(), start.min(self.octets.len()))
+    }
+
+    /// The octet at a place, if there is one.
+    pub(crate) fn octet_at(&self, place: usize) -> Option<u8> {
+        self.octets.get(place).copied()
+    }
+
+    /// Takes the octets between two places out.
+    pub(crate) fn remove(&mut self, start: usize, end: usize) {
+        if start <= end && end <= self.octets.len() {
+            self.octets.drain(start..end);
+        }
+    }
+
+    /// Puts an octet of a text last: as it is, or as `\\` and two digits.
+    fn text_octet(&mut self, octet: u8) {
+        if is_plain(octet) {
+            self.octet(octet);
+        } else {
+            self.octet(b'\\');
             self.digits(&[octet]);
         }
     }
@@ -235,9 +282,7 @@ pub struct Hex<'a>(pub &'a [u8]);
 
 impl Say for Hex<'_> {
     fn say<A: Allocator>(self, out: &mut TextBuilder<A>) {
-        for piece in self.0.chunks(32) {
-            out.digits(piece);
-        }
+        out.digits(self.0);
     }
 }
 
@@ -263,12 +308,12 @@ fn is_plain(octet: u8) -> bool {
 
 impl Say for EscapedText<'_> {
     fn say<A: Allocator>(self, out: &mut TextBuilder<A>) {
-        if self.0.iter().all(|octet| is_plain(*octet)) {
-            out.ascii(self.0);
+        if is_all_plain(self.0) {
+            out.utf8(self.0);
             return;
         }
         for octet in self.0 {
-            out.octet(*octet);
+            out.text_octet(*octet);
         }
     }
 }
