@@ -6,12 +6,14 @@ use h2_spec::octets::octets_from;
 use itoa::Buffer;
 use std::alloc::{AllocError, Allocator, Global};
 
-/// A text that grows. Once memory for a part of it is refused, it takes no part more, and there is no text: so only
-/// its end asks whether memory was refused.
+/// A text that grows. Once memory for a part of it is refused, there is no text: so only its end asks whether memory was
+/// refused.
 #[derive(Drop)]
 pub struct TextBuilder<A: Allocator = Global> {
-    /// The text in UTF-8: only texts, characters and octets of ASCII are put here.
+    /// The text in UTF-8, and zeros after it: a part goes in their place, and takes memory only where there are too few.
     octets: Vec<u8, A>,
+    /// How many octets the text has.
+    len: usize,
     refused: bool,
     /// How many octets of a long text are shown.
     shown: usize,
@@ -26,17 +28,14 @@ const ROOM: usize = 1000;
 impl<A: Allocator> TextBuilder<A> {
     /// No part yet; of a long text the first 100 octets are shown. Takes no memory.
     pub fn new(alloc: A) -> Self {
-        Self {
-            octets: Vec::new(alloc),
-            refused: false,
-            shown: SHOWN,
-        }
+        Self::with(alloc, false)
     }
 
     /// No part yet; long texts are shown whole where this is asked for, else as by `new`. Takes no memory.
     pub fn with(alloc: A, is_whole: bool) -> Self {
         Self {
             octets: Vec::new(alloc),
+            len: 0,
             refused: false,
             shown: if is_whole { usize::MAX } else { SHOWN },
         }
@@ -68,12 +67,14 @@ impl<A: Allocator> TextBuilder<A> {
         if self.refused {
             return Err(AllocError);
         }
-        Ok(self.octets)
+        let mut octets = self.octets;
+        octets.truncate(self.len);
+        Ok(octets)
     }
 
     /// How many octets it has so far.
     pub fn len(&self) -> usize {
-        self.octets.len()
+        self.len
     }
 
     /// Puts an end to it: memory for what belongs into the text was refused.
@@ -81,32 +82,61 @@ impl<A: Allocator> TextBuilder<A> {
         self.refused = true;
     }
 
-    /// Takes memory for this many octets more at once.
+    /// Takes memory for this many octets more at once, and for a line or two at first, so that few parts make the text
+    /// grow.
+    #[cold]
     #[inline(never)]
-    pub fn reserve(&mut self, octets: usize) {
-        if !self.refused {
-            self.refused = self.octets.reserve(octets).is_err();
+    pub fn reserve(&mut self, more: usize) {
+        let wanted = self.len.saturating_add(more);
+        let twice = self.octets.len().saturating_mul(2);
+        let size = wanted.max(twice).max(ROOM);
+        if self.refused || self.octets.resize(size, 0).is_err() {
+            self.refused = true;
         }
     }
 
-    /// Puts octets of UTF-8 last. Before the first ones there is space for a line or two, so that few parts make the text
-    /// grow.
+    /// The end of the text with this many octets more, where there is space for them.
+    #[inline(always)]
+    fn end_with(&self, more: usize) -> Option<usize> {
+        match self.len.checked_add(more) {
+            Some(end) if end <= self.octets.len() => Some(end),
+            _ => None,
+        }
+    }
+
+    /// Puts octets of UTF-8 last, if there is space for them.
+    #[inline(always)]
+    fn has_put(&mut self, octets: &[u8]) -> bool {
+        let Some(end) = self.end_with(octets.len()) else {
+            return false;
+        };
+        self.octets[self.len..end].copy_from_slice(octets);
+        self.len = end;
+        true
+    }
+
+    /// Puts octets of UTF-8 last, for which there is no space yet.
+    #[cold]
+    #[inline(never)]
+    fn put_in_more(&mut self, octets: &[u8]) {
+        self.reserve(octets.len());
+        if !self.has_put(octets) {
+            self.refused = true;
+        }
+    }
+
+    /// Puts octets of UTF-8 last.
     #[inline(always)]
     pub(crate) fn utf8(&mut self, octets: &[u8]) {
-        if self.octets.is_empty() {
-            self.reserve(ROOM);
-        }
-        if !self.refused {
-            self.refused = self.octets.extend_from_slice(octets).is_err();
+        if !self.has_put(octets) {
+            self.put_in_more(octets);
         }
     }
 
     /// Puts an octet of UTF-8 last.
     #[inline(always)]
     pub(crate) fn octet(&mut self, octet: u8) {
-        if !self.refused {
-            self.refused = self.octets.push(octet).is_err();
-        }
+        self.utf8(&[octet]);
     }
 
     /// Puts a text last.
@@ -128,19 +158,24 @@ impl<A: Allocator> TextBuilder<A> {
 
     /// Puts the digits of octets last.
     fn digits(&mut self, octets: &[u8]) {
-        let start = self.octets.len();
-        let end = start.saturating_add(octets.len().saturating_mul(2));
-        if self.refused || self.octets.resize(end, b'0').is_err() {
+        let count = octets.len().saturating_mul(2);
+        if self.end_with(count).is_none() {
+            self.reserve(count);
+        }
+        let Some(end) = self.end_with(count) else {
             self.refused = true;
             return;
+        };
+        let space = &mut self.octets[self.len..end];
+        if hex::encode_to_slice(octets, space).is_ok() {
+            self.len = end;
         }
-        let space = &mut self.octets[start..end];
-        self.refused = hex::encode_to_slice(octets, space).is_err();
     }
 
     /// The octets from a place on.
     pub(crate) fn octets_from(&self, start: usize) -> &[u8] {
-        octets_from(self.octets.as_slice(), start.min(self.octets.len()))
+        let octets = first_of(self.octets.as_slice(), self.len);
+        octets_from(octets, start.min(octets.len()))
     }
 
     /// The octet at a place, if there is one.
@@ -150,12 +185,13 @@ impl<A: Allocator> TextBuilder<A> {
 
     /// Takes the octets between two places out.
     pub(crate) fn remove(&mut self, start: usize, end: usize) {
-        if start <= end && end <= self.octets.len() {
+        if start <= end && end <= self.len && self.len <= self.octets.len() {
             self.octets.drain(start..end);
+            self.len -= end - start;
         }
     }
 
-    /// Puts an octet of a text last: as it is, or as `\\` and two digits.
+    /// Puts an octet of a text last: as it is, or as `\` and two digits.
     fn text_octet(&mut self, octet: u8) {
         if is_plain(octet) {
             self.octet(octet);
