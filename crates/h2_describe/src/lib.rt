@@ -6,6 +6,7 @@
 pub mod frame_words;
 pub mod json_text;
 pub mod names;
+mod plain;
 mod reading;
 pub mod say;
 pub mod sent;

@@ -1,6 +1,6 @@
 //! Texts that are put together part by part. No definition speaks of them.
 
-use crate::json_text::is_all_plain;
+use crate::plain::{is_all_plain, is_plain};
 use crate::sent::first_of;
 use h2_spec::octets::octets_from;
 use itoa::Buffer;
@@ -10,7 +10,8 @@ use std::alloc::{AllocError, Allocator, Global};
 /// refused.
 #[derive(Drop)]
 pub struct TextBuilder<A: Allocator = Global> {
-    /// The text in UTF-8, and zeros after it: a part goes in their place, and takes memory only where there are too few.
+    /// The text in UTF-8, and octets after it that mean nothing: a part goes in their place, and takes memory only where
+    /// they are too few.
     octets: Vec<u8, A>,
     /// How many octets the text has.
     len: usize,
@@ -33,8 +34,13 @@ impl<A: Allocator> TextBuilder<A> {
 
     /// No part yet; long texts are shown whole where this is asked for, else as by `new`. Takes no memory.
     pub fn with(alloc: A, is_whole: bool) -> Self {
+        Self::over(Vec::new(alloc), is_whole)
+    }
+
+    /// No part yet, in the memory of these octets; long texts are shown whole where this is asked for.
+    pub fn over(octets: Vec<u8, A>, is_whole: bool) -> Self {
         Self {
-            octets: Vec::new(alloc),
+            octets,
             len: 0,
             refused: false,
             shown: if is_whole { usize::MAX } else { SHOWN },
@@ -52,7 +58,7 @@ impl<A: Allocator> TextBuilder<A> {
     ///
     /// `AllocError` where memory for a part was refused.
     pub fn finish(self) -> Result<String<A>, AllocError> {
-        match String::from_utf8(self.finish_octets()?) {
+        match String::from_utf8(self.into_octets()?) {
             Ok(text) => Ok(text),
             Err(_) => Err(AllocError),
         }
@@ -63,7 +69,7 @@ impl<A: Allocator> TextBuilder<A> {
     /// # Errors
     ///
     /// `AllocError` where memory for a part was refused.
-    pub fn finish_octets(self) -> Result<Vec<u8, A>, AllocError> {
+    pub fn into_octets(self) -> Result<Vec<u8, A>, AllocError> {
         if self.refused {
             return Err(AllocError);
         }
@@ -288,6 +294,10 @@ impl Say for char {
 
 impl Say for u64 {
     fn say<A: Allocator>(self, out: &mut TextBuilder<A>) {
+        if self < 10 {
+            out.octet(b'0' + self as u8);
+            return;
+        }
         let mut buffer = Buffer::new();
         out.text(buffer.format(self));
     }
@@ -336,11 +346,6 @@ impl Say for HexOctet {
 /// Octets as text: those from a blank to `~` as they are, `"`, `\` and each other octet as `\` and two hex digits.
 #[derive(Clone, Copy)]
 pub struct EscapedText<'a>(pub &'a [u8]);
-
-/// Whether an octet is written as it is in a text.
-fn is_plain(octet: u8) -> bool {
-    (32..=126).contains(&octet) && octet != b'"' && octet != b'\\'
-}
 
 impl Say for EscapedText<'_> {
     fn say<A: Allocator>(self, out: &mut TextBuilder<A>) {

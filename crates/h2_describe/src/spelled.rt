@@ -10,6 +10,7 @@ ghost use Rattle.h2_describe.specs.Spelled.{Agrees, begun_with, fields_of, progr
 
 use crate::reading::Reading;
 use h2_fields::instruction::Mode;
+use h2_spec::octets::octets_from;
 use std::alloc::{AllocError, Allocator, Global};
 use std::marker::Model;
 
@@ -124,6 +125,11 @@ impl<A: Allocator + Copy> BlockReader<A> {
     {
         if self.stopped.is_some() {
             return Ok(());
+        }
+        if self.rest.is_empty() {
+            let (used, stopped) = self.reading.read_all(alloc, fragment)?;
+            self.stopped = stopped;
+            return self.rest.extend_from_slice(octets_from(fragment, used));
         }
         self.rest.extend_from_slice(fragment)?;
         let (used, stopped) = self.reading.read_all(alloc, self.rest.as_slice())?;

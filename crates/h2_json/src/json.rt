@@ -600,7 +600,7 @@ pub fn json_of<A: Allocator + Copy>(
     put_warnings(account.warnings, &mut out);
     out.plain(member!("words"), Escaped(ItemWords(item)));
     out.close();
-    let mut octets = out.finish_octets()?;
+    let mut octets = out.into_octets()?;
     octets.push(b'\n')?;
     Ok(octets)
 }

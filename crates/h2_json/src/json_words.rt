@@ -65,8 +65,8 @@ impl<A: Allocator> JsonWords<A> {
     }
 
     /// The octets of the text. `AllocError` where memory for it was refused.
-    pub(crate) fn finish_octets(self) -> Result<Vec<u8, A>, AllocError> {
-        self.words.finish_octets()
+    pub(crate) fn into_octets(self) -> Result<Vec<u8, A>, AllocError> {
+        self.words.into_octets()
     }
 
     /// The text. `AllocError` where memory for it was refused.
