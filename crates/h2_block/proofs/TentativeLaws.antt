@@ -5,8 +5,8 @@ use Rattle.std.proofs.lemmas.List.{append-nil}
 use Rattle.std.proofs.Math.Seq.{take-append_seam}
 use Rattle.h2_fields.specs.Blocks.{faulted}
 use Rattle.h2_fields.specs.Applied.{Grows, IsStopped}
-use Rattle.h2_fields.specs.declared.fault.BlockFault.{BlockFault}
-use Rattle.h2_fields.specs.declared.fault.BlockFault.TheVariants as fault
+use Rattle.h2_instruction.specs.declared.fault.BlockFault.{BlockFault}
+use Rattle.h2_instruction.specs.declared.fault.BlockFault.TheVariants as fault
 use Rattle.h2_fields.specs.declared.collected.Savepoint.{Savepoint}
 use Rattle.h2_spec.specs.Block.{Decoded, FieldsSoFar, Progress, Unfinished, decoded, list_size, progress_with}
 use Rattle.h2_spec.specs.DynamicTable.{Table}

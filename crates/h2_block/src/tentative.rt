@@ -4,16 +4,16 @@
 
 ghost use Rattle.std.specs.Prelude.{◌≡◌, ◌≢◌, ◌++◌, length, IfErr, OnOk};
 ghost use Rattle.h2_spec.specs.Block as block;
-ghost use Rattle.h2_fields.specs.declared.fault.BlockFault.TheVariants.{NoMemory};
+ghost use Rattle.h2_instruction.specs.declared.fault.BlockFault.TheVariants.{NoMemory};
 ghost use Rattle.h2_table.specs.Edits.{IsEdit, edited};
 ghost use Rattle.h2_block.specs.Blocks.{bad_end};
 ghost use Rattle.h2_block.specs.Fragments.{HasFault, IsSized, IsUntouched, after_fragment, after_of, before_fragment, before_of};
 
 use crate::decoding::Decoding;
 use h2_fields::collected::Savepoint;
-use h2_fields::fault::BlockFault;
 use h2_fields::fragment::decode_piece;
 use h2_fields::rest::{Rest, RestChange};
+use h2_instruction::fault::BlockFault;
 use h2_rules::block::refused_end;
 use h2_spec::causes::Cause;
 use h2_table::{DynTable, Edit};

@@ -7,7 +7,7 @@ ghost use Rattle.h2_spec.specs.Field.{field};
 ghost use Rattle.h2_book.specs.Values.{data_at};
 ghost use Rattle.h2_book.specs.Said as spec;
 
-use h2_fields::field::Field;
+use h2_instruction::field::Field;
 use std::alloc::{AllocError, Global};
 use toml::Value;
 

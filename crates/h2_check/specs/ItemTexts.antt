@@ -2,8 +2,8 @@
 use Rattle.std.specs.Prelude.{◌≡◌, ℕ, zero, suc, ◌+◌, Bool, true, false, List, [], ◌∷◌, ◌++◌, length, drop, flat_map, slice_index_or, Option, Some, None}
 use Rattle.std.specs.List.{list_any}
 use Rattle.h2_conn.specs.Connection.{Connection}
-use Rattle.h2_explain.specs.Explained.{ExplainsItem}
-use Rattle.h2_explain.specs.Explains.{IsTextOf}
+use Rattle.h2_explainer.specs.Explained.{ExplainsItem}
+use Rattle.h2_explainer.specs.Explained.{IsTextOf}
 use Rattle.h2_item.specs.declared.item.Explained.{Explained}
 use Rattle.h2_spec.specs.Answer.{Entry}
 use Rattle.h2_spec.specs.Parse.{Stop}

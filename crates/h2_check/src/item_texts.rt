@@ -3,7 +3,7 @@
 
 ghost use Rattle.std.specs.Prelude.{◌≡◌, ◌⊎◌, ◌+◌, ◌++◌, ◌∷◌, [], false, flat_map, length, map, string_bytes, IfErr, IfOk, OnOk};
 ghost use Rattle.h2_conn.specs.Connection.{going};
-ghost use Rattle.h2_explain.specs.Explains.{IsTextOf};
+ghost use Rattle.h2_explainer.specs.Explained.{IsTextOf};
 ghost use Rattle.h2_spec.specs.State.{is_allowed, opening};
 ghost use Rattle.h2_check.specs.ItemTexts.{AreTexts, AreTextsOf, TakesText, have_explained, octets_of_lines, octets_or_none, octets_said, says_explained, text_before};
 ghost use Rattle.h2_check.specs.Frames.{octets_at};
@@ -16,8 +16,9 @@ use h2_account::paint::Paint;
 use h2_cases::{Line, line_of};
 use h2_conn::{Conn, ConnFault};
 use h2_describe::sent::first_of;
-use h2_explain::{Explained, Explainer, take_next};
-use h2_item::item::part_in;
+use h2_explainer::explainer::Explainer;
+use h2_explainer::taking::take_next;
+use h2_item::item::{Explained, part_in};
 use h2_request::book::Book;
 use h2_script::{LineFault, add_line};
 use h2_spec::connection::Config;

@@ -6,8 +6,8 @@ use Rattle.h2_spec.specs.Parse.{Front, Stop, One, Parsed, parse_first, parse_all
 use Rattle.h2_spec.specs.Read.{Read, Whole, More, TooLong, read_map}
 use Rattle.h2_spec.proofs.InstructionLaws.{Within, Takes, instr-within, instr-takes, whole-takes, mapped}
 use Rattle.h2_spec.proofs.ParseLaws as laws
-use Rattle.h2_fields.specs.Instructions.{fault_at}
-use Rattle.h2_fields.specs.declared.fault.BlockFault.{BlockFault}
+use Rattle.h2_instruction.specs.Instructions.{fault_at}
+use Rattle.h2_instruction.specs.declared.fault.BlockFault.{BlockFault}
 use Rattle.h2_describe.specs.declared.spelled.Stopped.{Stopped}
 use Rattle.h2_describe.specs.declared.spelled.Stopped.TheVariants as stop
 use Rattle.h2_describe.specs.Spelled.{BlockRead, Reading, ReadTo, held, read_more, stepped, taken, taken_unless, next_read, read_to, stop_at, IsDone}

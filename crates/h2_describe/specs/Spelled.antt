@@ -9,7 +9,7 @@ use Rattle.h2_spec.specs.Huffman.{HuffRead, Text, Eos, Padding}
 use Rattle.h2_spec.specs.Instruction.{Str, Shape, Indexed, Update, Literal, Mode, NameRef, Ref, Named, text_of, instr_at}
 use Rattle.h2_spec.specs.Parse.{Front, Stop, One, parse_all}
 use Rattle.h2_spec.specs.Read.{Read, Whole, More, TooLong}
-use Rattle.h2_fields.specs.Shapes.{mode_of}
+use Rattle.h2_instruction.specs.Shapes.{mode_of}
 use Rattle.h2_describe.specs.declared.reading.Step.{Step}
 use Rattle.h2_describe.specs.declared.reading.Step.TheVariants as step
 use Rattle.h2_describe.specs.declared.spelled.Spelling as code

@@ -5,14 +5,14 @@ ghost use Rattle.std.specs.Prelude.{◌≡◌, ◌≤◌, [], ◌++◌, ◌∷�
 ghost use Rattle.h2_spec.specs.Block.{has_fields, list_size};
 ghost use Rattle.h2_spec.specs.DynamicTable.{field_at, total_size};
 ghost use Rattle.h2_spec.specs.Instruction.{Shape, Indexed, Update, Literal, Ref, instr_at, instruction_of};
-ghost use Rattle.h2_fields.specs.Instructions.{instr_of, name_text_of};
-ghost use Rattle.h2_fields.specs.Shapes.{mode_of};
+ghost use Rattle.h2_instruction.specs.Instructions.{instr_of, name_text_of};
+ghost use Rattle.h2_instruction.specs.Shapes.{mode_of};
 ghost use Rattle.h2_table.specs.Lent.{lent_field};
 ghost use Rattle.h2_describe.specs.Spelled.{IsDone, IsStep, Spelled, fields_of, keep, literal_added, read_to, spelling_seen, stop_at};
 
 use crate::spelled::{SpelledField, Spelling, Stopped};
-use h2_fields::fault::BlockFault;
-use h2_fields::instruction::{HpackString, Instr, InstrRead, Mode, Name, read_instr};
+use h2_instruction::fault::BlockFault;
+use h2_instruction::instruction::{HpackString, Instr, InstrRead, Mode, Name, read_instr};
 use h2_spec::octets::octets_from;
 use h2_table::{DynTable, static_field};
 use std::alloc::{AllocError, Allocator};

@@ -9,7 +9,7 @@ ghost use Rattle.h2_table.specs.Lent.{lent_field};
 ghost use Rattle.h2_describe.specs.Spelled.{Agrees, begun_with, fields_of, progress_of, read_more};
 
 use crate::reading::Reading;
-use h2_fields::instruction::Mode;
+use h2_instruction::instruction::Mode;
 use h2_spec::octets::octets_from;
 use std::alloc::{AllocError, Allocator, Global};
 use std::marker::Model;

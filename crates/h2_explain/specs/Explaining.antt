@@ -5,7 +5,7 @@ use Rattle.h2_spec.specs.State.{State}
 use Rattle.h2_spec.specs.Trace.{left_by, next_event}
 use Rattle.h2_conn.specs.Connection.{Connection, going}
 use Rattle.h2_conn.specs.First.{TakesFirst}
-use Rattle.h2_explain.specs.Explained.{ExplainsItem}
+use Rattle.h2_explainer.specs.Explained.{ExplainsItem}
 use Rattle.h2_explain.specs.Explains.{AreExplained, Gains, IsExplanation, IsItemText, IsSummary}
 use Rattle.h2_explain.specs.Verdicts.{AreTallied, Tallied, TalliesItem, no_tally}
 use Rattle.h2_explain.specs.declared.explanation.Explanation.{Explanation}

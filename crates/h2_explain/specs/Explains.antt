@@ -5,8 +5,8 @@ use Rattle.h2_spec.specs.Parse.{Stop}
 use Rattle.h2_spec.specs.State.{State, ended_code}
 use Rattle.h2_spec.specs.Trace.{Run, next_event, trace}
 use Rattle.h2_conn.specs.Connection.{Connection}
-use Rattle.h2_explain.specs.Explained.{ExplainsItem}
-use Rattle.h2_account.specs.Lines.{EndsLine, EndsLineIf, Words, lines_of}
+use Rattle.h2_explainer.specs.Explained.{ExplainsItem, IsTextOf}
+use Rattle.h2_account.specs.Lines.{EndsLine, EndsLineIf}
 use Rattle.h2_account.specs.Rest.{is_said}
 use Rattle.h2_item.specs.declared.item.Explained.{Explained}
 use Rattle.h2_explain.specs.declared.verdict.ClientVerdict.{ClientVerdict}
@@ -41,11 +41,7 @@ not_written (Err NotWritten) = true
 abbrev pub Gains : (List ℕ → Type 0) → Option (List ℕ) → Option (List ℕ) → Type 0
 Gains P before after = (held : List ℕ) → before ≡ Some held → (text : List ℕ) × (after ≡ Some (held ++ text)) × P text
 
--- the text of an item: a line of JSON, or its lines
-abbrev pub IsTextOf : (json color : Bool) → Explained → List ℕ → Type 0
-IsTextOf true color x t = EndsLine false t
-IsTextOf false color x t = (w : Words) × (t ≡ lines_of color x w)
-
+-- the text of an item in a form
 abbrev pub IsItemText : Form → Explained → List ℕ → Type 0
 IsItemText form x t = IsTextOf form.json form.color x t
 

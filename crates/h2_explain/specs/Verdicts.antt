@@ -7,7 +7,7 @@ use Rattle.h2_spec.specs.declared.causes.Cause.{Cause}
 use Rattle.h2_spec.specs.declared.rules.ClientDuty.{ClientDuty}
 use Rattle.h2_spec.specs.declared.rules.ClientDuty.TheVariants as client_duty
 use Rattle.h2_conn.specs.Connection.{Connection, is_ended}
-use Rattle.h2_explain.specs.Explained.{ExplainsItem}
+use Rattle.h2_explainer.specs.Explained.{ExplainsItem}
 use Rattle.h2_facts.specs.Warnings.{AreWarnings, duty_of_error, duty_of_reason, is_breach, is_unacknowledged, warning_count}
 use Rattle.h2_item.specs.declared.item.Explained.{Explained}
 use Rattle.h2_facts.specs.declared.special.CaseFacts.{CaseFacts}

@@ -15,16 +15,16 @@ ghost use Rattle.h2_explain.specs.Verdicts.{TalliesItem, verdict_at};
 ghost use Rattle.h2_explain.specs.declared.run.ExplainFault.TheVariants as faults;
 
 use crate::end::{End, rest_of};
-use crate::explainer::Explainer;
 use crate::recorder::Recorder;
 use crate::run::{ExplainFault, Form, Summary};
-use crate::taking::take_next;
 use crate::verdict::{Tally, verdict_at};
 use h2_account::lines::lines_of;
 use h2_account::paint::Paint;
 use h2_conn::{Conn, is_ended};
 use h2_describe::sent::first_of;
 use h2_device::Output;
+use h2_explainer::explainer::Explainer;
+use h2_explainer::taking::take_next;
 use h2_item::item::{Explained, part_in};
 use h2_json::json::json_of;
 use h2_spec::octets::octets_from;

@@ -4,21 +4,19 @@
 #![tactic(auto)]
 
 mod end;
-mod explainer;
 mod explanation;
-mod moved;
 mod recorder;
 mod run;
-mod taking;
 mod verdict;
 mod verdict_words;
 
-pub use explainer::Explainer;
 pub use explanation::Explanation;
 pub use h2_account::account::Account;
 pub use h2_account::waits::{AnswerWait, RequestWait, Wait};
 pub use h2_changes::changes::{Moved, ShownChange};
 pub use h2_changes::count::Count;
+pub use h2_explainer::explainer::Explainer;
+pub use h2_explainer::taking::{Taking, moment_at, take_next};
 pub use h2_facts::request_facts::RequestFacts;
 pub use h2_facts::special::CaseFacts;
 pub use h2_facts::warning::{Warning, Warnings};
@@ -27,5 +25,4 @@ pub use h2_item::item::{Explained, Moment};
 pub use h2_item::notes::{Notes, StreamNote};
 pub use recorder::{NoRecord, Recorder};
 pub use run::{ExplainFault, Form, Summary, explain};
-pub use taking::{Taking, moment_at, take_next};
 pub use verdict::{ClientVerdict, Tally};

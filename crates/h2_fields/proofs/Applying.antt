@@ -16,8 +16,8 @@ use Rattle.h2_mark.specs.declared.mark.FieldMark.{FieldMark}
 use Rattle.h2_table.specs.Edits.{EditOf, edited}
 use Rattle.h2_list.specs.Listed.{Listed}
 use Rattle.h2_fields.specs.Applied.{first_refusal, progress_in}
-use Rattle.h2_fields.specs.Faults.{refusal, fault_of}
-use Rattle.h2_fields.specs.declared.fault.BlockFault.{BlockFault}
+use Rattle.h2_instruction.specs.Faults.{refusal, fault_of}
+use Rattle.h2_instruction.specs.declared.fault.BlockFault.{BlockFault}
 
 pub not-false : (b : Bool) → false ≡ not b → b ≡ true
 not-false true e = refl

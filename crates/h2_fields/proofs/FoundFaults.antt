@@ -7,9 +7,9 @@ use Rattle.h2_spec.specs.Read.{Whole}
 use Rattle.h2_spec.proofs.InstructionLaws.{whole-takes}
 use Rattle.h2_fields.specs.Blocks.{BlockSoFar, answer_of, decoded_with, faulted, outcome_of, progress_so_far}
 use Rattle.h2_fields.specs.Applied.{IsStopped}
-use Rattle.h2_fields.specs.Faults.{fault_of}
-use Rattle.h2_fields.specs.declared.fault.BlockFault.{BlockFault}
-use Rattle.h2_fields.specs.declared.fault.BlockFault.TheVariants as faults
+use Rattle.h2_instruction.specs.Faults.{fault_of}
+use Rattle.h2_instruction.specs.declared.fault.BlockFault.{BlockFault}
+use Rattle.h2_instruction.specs.declared.fault.BlockFault.TheVariants as faults
 
 -- ---- the loop over the instructions
 

@@ -1,15 +1,8 @@
-mod Appending
 mod BatchLaws
 mod Applying
 mod Chunking
 mod Counting
 mod Stopping
-mod Lengths
-mod Reading
-mod Responding
 mod ResponseReading
-mod Resting
-mod Resuming
 mod FoundFaults
-mod Writing
 mod Ticking

@@ -6,7 +6,7 @@ use Rattle.std.specs.List.{AllByRecursion}
 use Rattle.h2_spec.specs.Answer.{plain_string, plain_literal, indexed_statuses, status_digits, status_at, status_instruction, response_block}
 use Rattle.h2_spec.specs.Block.{Progress, Unfinished, applied, decoded, start, name_of}
 use Rattle.h2_fields.specs.ResponseRead.{read_whole, status_field}
-use Rattle.h2_fields.specs.Instructions.{IsWritableField}
+use Rattle.h2_instruction.specs.Instructions.{IsWritableField}
 use Rattle.h2_spec.specs.DynamicTable.{Table, field_at, resize}
 use Rattle.h2_spec.specs.Field.{Field}
 use Rattle.h2_spec.specs.Instruction.{Shape, WithoutIndexing, Ref, Named, Update, IsSpellable, instr_at, spell}

@@ -9,9 +9,9 @@ use Rattle.h2_spec.specs.Read.{Whole, More, TooLong}
 use Rattle.h2_spec.proofs.BlockLaws.{LeadsTo, leads-refused, leads-too_long}
 use Rattle.h2_fields.specs.Blocks.{faulted}
 use Rattle.h2_fields.specs.Applied.{Grows, IsStopped}
-use Rattle.h2_fields.specs.Faults.{refusal}
-use Rattle.h2_fields.specs.declared.fault.BlockFault.{BlockFault}
-use Rattle.h2_fields.specs.declared.fault.BlockFault.TheVariants as faults
+use Rattle.h2_instruction.specs.Faults.{refusal}
+use Rattle.h2_instruction.specs.declared.fault.BlockFault.{BlockFault}
+use Rattle.h2_instruction.specs.declared.fault.BlockFault.TheVariants as faults
 use Rattle.h2_fields.proofs.Applying.{refused}
 
 pub grows-start : (s : FieldsSoFar) → Grows s s

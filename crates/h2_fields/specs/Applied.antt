@@ -1,9 +1,9 @@
 -- What the decoder does over a table with an edit of it.
 use Rattle.std.specs.Prelude.{◌≡◌, ◌≢◌, ℕ, List, [], ◌∷◌, ◌++◌, Option, Some, Result, Ok, Err}
-use Rattle.h2_fields.specs.Faults.{fault_of, refusal}
+use Rattle.h2_instruction.specs.Faults.{fault_of, refusal}
 use Rattle.h2_fields.specs.Blocks.{faulted}
-use Rattle.h2_fields.specs.declared.fault.BlockFault.{BlockFault}
-use Rattle.h2_fields.specs.declared.fault.BlockFault.TheVariants as fault
+use Rattle.h2_instruction.specs.declared.fault.BlockFault.{BlockFault}
+use Rattle.h2_instruction.specs.declared.fault.BlockFault.TheVariants as fault
 use Rattle.h2_spec.specs.Block.{Fault, Progress, FieldsSoFar, applied, decoded, progress_with}
 use Rattle.h2_spec.specs.DynamicTable.{LimitedTable}
 use Rattle.h2_spec.specs.Field.{Field}

@@ -1,9 +1,9 @@
 -- What the decoder holds, and what it answers, by the definitions.
 use Rattle.std.specs.Prelude.{◌≡◌, ◌≢◌, ℕ, ◌+◌, ◌*◌, ◌<◌, ◌≤◌, Bool, true, false, List, [], ◌∷◌, length, Option, Some, None, option_map, Result, Ok, Err}
-use Rattle.h2_fields.specs.Faults.{fault_of}
+use Rattle.h2_instruction.specs.Faults.{fault_of}
 use Rattle.h2_fields.specs.Rests.{most_ticks}
-use Rattle.h2_fields.specs.declared.fault.BlockFault.{BlockFault}
-use Rattle.h2_fields.specs.declared.fault.BlockFault.TheVariants as fault
+use Rattle.h2_instruction.specs.declared.fault.BlockFault.{BlockFault}
+use Rattle.h2_instruction.specs.declared.fault.BlockFault.TheVariants as fault
 use Rattle.h2_spec.specs.Block.{ZeroIndex, Index, Integer, Huffman, LateUpdate, LargeUpdate, MissingUpdate, Outcome, Unfinished, Faulty, Progress, Decoded}
 use Rattle.h2_spec.specs.DynamicTable.{Table}
 use Rattle.h2_spec.specs.Field.{Field}

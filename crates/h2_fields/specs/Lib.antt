@@ -1,9 +1,5 @@
 pub mod ResponseRead
 pub mod Rests
-pub mod Resume
 pub mod Batches
 pub mod Blocks
 pub mod Applied
-pub mod Faults
-pub mod Instructions
-pub mod Shapes

@@ -12,13 +12,13 @@ ghost use Rattle.h2_spec.specs.Read.{More};
 ghost use Rattle.h2_fields.specs.Blocks.{TicksRise, answer_of, decoded_with, finish_of};
 ghost use Rattle.h2_fields.specs.Applied.{IsStopped};
 ghost use Rattle.h2_fields.specs.Rests.{most_ticks};
-ghost use Rattle.h2_fields.specs.declared.fault.BlockFault.TheVariants as faults;
+ghost use Rattle.h2_instruction.specs.declared.fault.BlockFault.TheVariants as faults;
 
 use crate::collected::Collected;
-use crate::fault::BlockFault;
-use crate::field::Field;
 use crate::fragment::decode_piece;
 use crate::rest::{Rest, RestChange};
+use h2_instruction::fault::BlockFault;
+use h2_instruction::field::Field;
 use h2_table::{DynTable, Edit};
 use std::alloc::{AllocError, Allocator};
 use std::marker::Model;

@@ -11,13 +11,13 @@ ghost use Rattle.h2_spec.specs.Instruction.{text_of};
 ghost use Rattle.h2_table.specs.Edits.{IsEdit, edited};
 ghost use Rattle.h2_table.specs.Lent.{field_lent, IsMarked};
 ghost use Rattle.h2_fields.specs.Applied.{Grows, IsApplied, IsReadAs, progress_in};
-ghost use Rattle.h2_fields.specs.Faults.{fault_of};
-ghost use Rattle.h2_fields.specs.Shapes.{mode_of, string_of, name_of, shape_of};
+ghost use Rattle.h2_instruction.specs.Faults.{fault_of};
+ghost use Rattle.h2_instruction.specs.Shapes.{mode_of, string_of, name_of, shape_of};
 
 use crate::collected::Collected;
-use crate::fault::BlockFault;
-use crate::instruction::Mode;
-use crate::shape::{RawName, RawString, Shape};
+use h2_instruction::fault::BlockFault;
+use h2_instruction::instruction::Mode;
+use h2_instruction::shape::{RawName, RawString, Shape};
 use h2_table::{DynTable, Edit, LentField, static_entry};
 use std::alloc::{AllocError, Allocator};
 

@@ -6,7 +6,7 @@ ghost use Rattle.std.specs.Prelude.{◌≡◌, ◌↔◌, ◌≤◌, ◌+◌, �
 ghost use Rattle.std.specs.List.{concat};
 
 use crate::rest::Rest;
-use crate::shape::Point;
+use h2_instruction::shape::Point;
 use h2_spec::octets::{octets_from, octets_up_to};
 use std::alloc::{AllocError, Allocator};
 use std::marker::Model;
@@ -69,7 +69,7 @@ pub struct KeptRest<A: Allocator> {
 impl<A: Allocator> Model for KeptRest<A> {
     ghost use Rattle.std.specs.Prelude.{ℕ, List, ◌++◌};
     ghost use Rattle.std.specs.List.{concat};
-    ghost use Rattle.h2_fields.specs.Resume.{IsRest};
+    ghost use Rattle.h2_instruction.specs.Resume.{IsRest};
 
     ghost Value = { List ℕ };
 

@@ -1,27 +1,18 @@
-//! Laws of what is written and read here, each on a function with an empty body: what is written is read back as what
-//! it was written for, and the decoding of a block takes few steps for its octets, however it is cut.
+//! Laws of blocks, each on a function with an empty body: the block of a response is read back as what it was written
+//! for, and the decoding of a block takes few steps for its octets, however it is cut.
 //! They rest on the lemmas from which `h2_laws::block_laws` is proved too, and which are in `h2_spec` as the
 //! definitions do.
 
-ghost use Rattle.std.specs.Prelude.{◌≡◌, ℕ, ◌+◌, ◌*◌, ◌<◌, ◌≤◌, Bool, false, if◌then◌else◌, List, ◌∷◌, ◌++◌, length, Some};
+ghost use Rattle.std.specs.Prelude.{◌≡◌, ℕ, ◌+◌, ◌*◌, ◌<◌, ◌≤◌, Bool, false, if◌then◌else◌, List, ◌∷◌, length};
 ghost use Rattle.std.specs.List.{AllByRecursion, concat};
 ghost use Rattle.h2_fields.specs.Blocks.{ArePushed, BlockSoFar, fresh};
 ghost use Rattle.h2_fields.specs.ResponseRead.{read_whole, status_field};
-ghost use Rattle.h2_fields.specs.Instructions.{IsWritable, IsWritableField};
+ghost use Rattle.h2_instruction.specs.Instructions.{IsWritableField};
 ghost use Rattle.h2_fields.specs.Rests.{most_ticks};
 ghost use Rattle.h2_spec.specs.Answer as answer;
 ghost use Rattle.h2_spec.specs.Block.{decoded, start};
 ghost use Rattle.h2_spec.specs.DynamicTable.{Table, resize};
 ghost use Rattle.h2_spec.specs.Field.{Field};
-ghost use Rattle.h2_spec.specs.Instruction.{Instruction, HasTexts, IsSpelling, instruction_at, shape_of, spell};
-ghost use Rattle.h2_spec.specs.Read.{Whole};
-
-/// What `write_instr` appends is one whole spelling of the instruction, and is read back, whatever follows (RFC 7541,
-/// 6).
-pub fn instructions_are_read_back()
-    ensures spelling { (instruction : Instruction) → IsWritable instruction → HasTexts instruction → IsSpelling instruction (spell (shape_of instruction)) }
-    ensures read { (instruction : Instruction) (more : List ℕ) → IsWritable instruction → HasTexts instruction → instruction_at (spell (shape_of instruction) ++ more) ≡ Whole (Some instruction) (length (spell (shape_of instruction))) }
-{}
 
 /// What `response_block` answers is read as its status and its fields, whatever the table holds; the table is emptied
 /// first where that is signalled, and else left as it is (RFC 9113, 8.3.2; RFC 7541, 4.2 and 6.2.2).

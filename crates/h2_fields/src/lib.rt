@@ -1,19 +1,21 @@
-//! Field blocks of HPACK (RFC 7541): header fields, the instructions that represent them, and the decoder of blocks.
-//! The definitions are Field, Instruction and Block of `h2_spec`.
+//! Field blocks of HPACK (RFC 7541): the decoder of blocks, over the instructions of h2_instruction, and what it has
+//! collected. The definition is Block of `h2_spec`.
 #![tactic(auto)]
 
 mod batches;
 pub mod block;
 pub mod collected;
 mod effect;
-pub mod fault;
-pub mod field;
 pub mod fragment;
 mod hints;
-pub mod instruction;
 pub mod kept_rest;
 pub mod laws;
-pub mod octets;
-pub mod response;
 pub mod rest;
-mod shape;
+
+pub use h2_instruction::fault::BlockFault;
+pub use h2_instruction::field::Field;
+pub use h2_instruction::instruction::{
+    HpackString, Instr, InstrRead, Mode, Name, read_instr, write_instr,
+};
+pub use h2_instruction::octets::Octets;
+pub use h2_instruction::response::response_block;

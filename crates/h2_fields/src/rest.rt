@@ -4,7 +4,7 @@
 
 ghost use Rattle.std.specs.Prelude.{◌≡◌, ◌==◌, [], length, IfOk};
 
-use crate::shape::Point;
+use h2_instruction::shape::Point;
 use h2_spec::octets::drop_front;
 use std::alloc::{AllocError, Allocator};
 use std::marker::Model;
@@ -23,7 +23,7 @@ pub struct Rest<A: Allocator> {
 
 impl<A: Allocator> Model for Rest<A> {
     ghost use Rattle.std.specs.Prelude.{ℕ, List};
-    ghost use Rattle.h2_fields.specs.Resume.{IsRest};
+    ghost use Rattle.h2_instruction.specs.Resume.{IsRest};
 
     ghost Value = { List ℕ };
 
@@ -52,7 +52,7 @@ pub struct RestChange<A: Allocator> {
 
 impl<A: Allocator> Model for RestChange<A> {
     ghost use Rattle.std.specs.Prelude.{◌≤◌, take, drop, length};
-    ghost use Rattle.h2_fields.specs.Resume.{IsRest};
+    ghost use Rattle.h2_instruction.specs.Resume.{IsRest};
     ghost use Rattle.h2_fields.specs.Rests as rests;
 
     ghost Value = { rests.RestChange };

@@ -4,7 +4,7 @@
 
 use crate::item::Explained;
 use h2_describe::spelled::{BlockReader, SpelledField, Spelling};
-use h2_fields::instruction::Mode;
+use h2_instruction::instruction::Mode;
 use h2_spec::causes::Cause;
 use std::alloc::{AllocError, Allocator, Global};
 use std::collections::VecDeque;

@@ -2,8 +2,8 @@
 
 use crate::same::same;
 use h2_fields::block::BlockDecoder;
-use h2_fields::fault::BlockFault;
-use h2_fields::field::Field;
+use h2_instruction::fault::BlockFault;
+use h2_instruction::field::Field;
 use h2_table::DynTable;
 use std::alloc::{AllocError, Global};
 use std::test::Fail;

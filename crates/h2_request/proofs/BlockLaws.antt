@@ -11,7 +11,7 @@ use Rattle.h2_spec.specs.Instruction.{Indexed, Literal, WithoutIndexing, Ref, sp
 use Rattle.h2_spec.specs.Answer.{indexed_statuses, status_at, status_digits, plain_string, plain_literal, status_instruction, response_block}
 use Rattle.h2_spec.specs.Book.{max_response_block}
 use Rattle.std.specs.List.{AllByRecursion}
-use Rattle.h2_fields.specs.Instructions.{IsWritableField}
+use Rattle.h2_instruction.specs.Instructions.{IsWritableField}
 use Rattle.h2_request.specs.BlockLength.{string_len, status_len, field_len, field_octets, fields_len}
 
 -- ---- a string's length

@@ -3,7 +3,7 @@ use Rattle.std.proofs.Common.{◌≡◌, ◌∙◌, ℕ, ◌≤◌, true, false,
 use Rattle.std.specs.Prelude.{nat_le, nat_lt, slice_get}
 use Rattle.std.specs.List.{list_any, AllByRecursion}
 use Rattle.std.proofs.lemmas.Bool.Decides.{nat_tests}
-use Rattle.h2_fields.specs.Instructions.{IsWritableField}
+use Rattle.h2_instruction.specs.Instructions.{IsWritableField}
 use Rattle.std.proofs.lemmas.Option.{slice_get_read, slice_get_past}
 use Rattle.h2_spec.specs.Answer.{Entry, bare, entry_or, picked, response_block}
 use Rattle.h2_spec.specs.declared.streams.Pick.TheVariants.{Listed}

@@ -6,7 +6,7 @@ ghost use Rattle.h2_spec.specs.Answer.{indexed_statuses, response_block};
 ghost use Rattle.h2_spec.specs.Book.{max_response_block};
 ghost use Rattle.h2_request.specs.BlockLength.{string_len, status_len, field_len};
 
-use h2_fields::field::Field;
+use h2_instruction::field::Field;
 use std::alloc::Allocator;
 
 /// The most octets of a response's field block without a table size update: with one, a frame holds it.

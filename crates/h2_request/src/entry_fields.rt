@@ -2,7 +2,7 @@
 
 ghost use Rattle.std.specs.Prelude.{◌≡◌};
 
-use h2_fields::field::Field;
+use h2_instruction::field::Field;
 use std::alloc::Allocator;
 use std::marker::Model;
 

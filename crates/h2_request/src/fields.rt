@@ -8,7 +8,7 @@ ghost use Rattle.h2_table.specs.Lent.{field_lent, IsMarked};
 ghost use Rattle.h2_request.specs.Fields.{fields_in};
 
 use h2_fields::collected::Collected;
-use h2_fields::field::Field;
+use h2_instruction::field::Field;
 use h2_mark::FieldMark;
 use h2_table::LentField;
 use std::alloc::Allocator;

@@ -8,7 +8,7 @@ ghost use Rattle.std.specs.Ordering.{on};
 ghost use Rattle.h2_request.specs.Firsts.{Key, below, find, same, same_equiv, same_inputs, wanted, with_first};
 ghost use Rattle.h2_request.specs.Firsts as spec;
 
-use h2_fields::octets::Octets;
+use h2_instruction::octets::Octets;
 use h2_mark::octets;
 use indexmap::{Equivalent, IndexMap};
 use std::alloc::{AllocError, Allocator};

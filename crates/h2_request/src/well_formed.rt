@@ -17,7 +17,7 @@ ghost use Rattle.h2_request.specs.Walk.{pseudo_of};
 use crate::fields::Fields;
 use crate::reason::{Malformed, Reason};
 use crate::walk::{FieldScan, ListMark, PseudoFields};
-use h2_fields::field::Field;
+use h2_instruction::field::Field;
 use h2_mark::octets;
 use std::alloc::Allocator;
 

@@ -1,7 +1,7 @@
 -- Why a field block fails, and the table's row of HEADERS, by what the code answers (RFC 9113, 4.3, 4.3.1 and 6.2).
 use Rattle.std.specs.Prelude.{Bool, not, if◌then◌else◌, Option, Some, None, Result, Ok, Err}
-use Rattle.h2_fields.specs.declared.fault.BlockFault.{BlockFault}
-use Rattle.h2_fields.specs.declared.fault.BlockFault.TheVariants as fault
+use Rattle.h2_instruction.specs.declared.fault.BlockFault.{BlockFault}
+use Rattle.h2_instruction.specs.declared.fault.BlockFault.TheVariants as fault
 use Rattle.h2_spec.specs.declared.causes.Cause.{Cause}
 use Rattle.h2_spec.specs.declared.causes.Cause.TheVariants as cause
 use Rattle.h2_spec.specs.declared.connection.Purpose.{Purpose}

@@ -12,7 +12,7 @@ ghost use Rattle.h2_rules.specs.Open.{IsOpenAt};
 ghost use Rattle.h2_rules.specs.Sound.{AreSound, InForce};
 
 use crate::change::only_counts;
-use h2_fields::fault::BlockFault;
+use h2_instruction::fault::BlockFault;
 use h2_spec::causes::Cause;
 use h2_spec::connection::{ConnectionState, Purpose};
 use h2_spec::ignored::Ignored;

@@ -2,8 +2,8 @@
 use Rattle.std.specs.Prelude.{◌≡◌, ◌<◌, ◌≤◌, ◌^◌, ◌++◌, ◌∷◌, [], ◌&&◌, ℕ, Bool, true, false, List, nat_lt, drop, length, take, flat_map, Option, Some, None}
 use Rattle.std.specs.declared.string.String.{String}
 use Rattle.std.specs.String.{string_bytes}
-use Rattle.h2_fields.specs.Instructions.{instr_of}
-use Rattle.h2_fields.specs.declared.instruction.Instr.{Instr}
+use Rattle.h2_instruction.specs.Instructions.{instr_of}
+use Rattle.h2_instruction.specs.declared.instruction.Instr.{Instr}
 use Rattle.hex.specs.Hex.{encode_lower}
 use Rattle.h2_spec.specs.Frame.{head_at}
 use Rattle.h2_spec.specs.Instruction.{Instruction, NameRef, Ref, Named, TextStr}

@@ -3,8 +3,8 @@
 
 ghost use Rattle.std.specs.Prelude.{◌≡◌, ◌<◌, ◌^◌, ◌++◌, ◌∷◌, [], length, IfOk, OnOk, true, bytes_eq, if◌then◌else◌, Some, None};
 ghost use Rattle.std.specs.String.{string_bytes};
-ghost use Rattle.h2_fields.specs.Instructions.{instr_of, name_text_of, IsWritable};
-ghost use Rattle.h2_fields.specs.Shapes.{mode_of};
+ghost use Rattle.h2_instruction.specs.Instructions.{instr_of, name_text_of, IsWritable};
+ghost use Rattle.h2_instruction.specs.Shapes.{mode_of};
 ghost use Rattle.h2_spec.specs.Instruction as spec;
 ghost use Rattle.h2_spec.specs.Script.{instruction_octets, mode_letter};
 ghost use Rattle.h2_spec.specs.Written.{block_said, instruction_text, is_writable, name_text, payload_text, string_text};
@@ -12,8 +12,10 @@ ghost use Rattle.h2_script.specs.Texts.{AddsText, IsBlockText, IsFirstSaid, Says
 
 use crate::said::push_hex;
 use crate::text::{push_number, push_numbered, push_string};
-use h2_fields::fault::BlockFault;
-use h2_fields::instruction::{HpackString, Instr, InstrRead, Mode, Name, read_instr, write_instr};
+use h2_instruction::fault::BlockFault;
+use h2_instruction::instruction::{
+    HpackString, Instr, InstrRead, Mode, Name, read_instr, write_instr,
+};
 use h2_spec::octets::octets_from;
 use std::alloc::{AllocError, Allocator};
 

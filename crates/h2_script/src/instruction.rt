@@ -1,8 +1,8 @@
 //! Instructions of a field block in a script. The definition is `instruction_at` of `h2_spec`, specs/Assemble.antt.
 
 ghost use Rattle.std.specs.Prelude.{◌≡◌, ◌≤◌, ◌^◌, ◌++◌, ℕ, List, length, nat_le, slice_index, option_map, option_and_then, IfOk, OnOk, true, false, Some};
-ghost use Rattle.h2_fields.specs.Instructions.{instr_of, name_text_of, IsWritable, IsWritableName, IsWritableText};
-ghost use Rattle.h2_fields.specs.Shapes.{mode_of};
+ghost use Rattle.h2_instruction.specs.Instructions.{instr_of, name_text_of, IsWritable, IsWritableName, IsWritableText};
+ghost use Rattle.h2_instruction.specs.Shapes.{mode_of};
 ghost use Rattle.h2_spec.specs.Assemble.{all_at, instruction_at, is_quote, literal_at, name_at, numbered_at, string_at, string_of, value_at};
 ghost use Rattle.h2_spec.specs.Instruction.{Indexed, Update};
 ghost use Rattle.h2_spec.specs.Script.{Instructions, Payload, cut_at, instruction_octets, payload_octets};
@@ -12,8 +12,8 @@ ghost use Rattle.h2_script.specs.Writable.{can_write, can_write_name, indexed_na
 use crate::built::Built;
 use crate::number::number_at;
 use crate::words::{after, cut, split_before, unescaped};
-use h2_fields::instruction::{HpackString, Instr, Mode, Name, write_instr};
-use h2_fields::octets::Octets;
+use h2_instruction::instruction::{HpackString, Instr, Mode, Name, write_instr};
+use h2_instruction::octets::Octets;
 use std::alloc::{AllocError, Allocator};
 
 /// The octets of instructions with commas between.

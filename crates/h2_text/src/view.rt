@@ -7,7 +7,7 @@ ghost use Rattle.h2_table.specs.Lent.{lent_field};
 ghost use Rattle.h2_spec.specs.View.{shown_stream};
 
 use crate::lists::{Entries, StreamViews};
-use h2_fields::field::Field;
+use h2_instruction::field::Field;
 use h2_spec::connection::{BlockView, ConnectionState, Phase};
 use h2_spec::flow::{Credit, LocalSettings, Settings, Window};
 use h2_spec::streams::{Stream, StreamView};

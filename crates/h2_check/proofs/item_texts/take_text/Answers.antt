@@ -1,7 +1,7 @@
 use Rattle.std.proofs.Common.{◌≡◌, ◌∙◌, ◌+◌, ℕ, length, map, refl, sym, ap}
 use Rattle.std.proofs.lemmas.List.{length-map}
 use Rattle.std.specs.String.{string_bytes}
-use Rattle.h2_explain.proofs.Steps.{item-explained}
+use Rattle.h2_explainer.proofs.Taken.{item-explained}
 use Rattle.h2_item.specs.declared.item.Explained.{Explained}
 use Rattle.h2_check.proofs.item_texts.take_text.Goals as goal
 

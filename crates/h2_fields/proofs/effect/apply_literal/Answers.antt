@@ -4,8 +4,8 @@ use Rattle.h2_spec.specs.Block.{FieldsSoFar, table_after}
 use Rattle.h2_spec.proofs.BlockLaws.{applied-literal_due}
 use Rattle.h2_table.specs.Edits.{edited}
 use Rattle.h2_fields.specs.Applied.{progress_in}
-use Rattle.h2_fields.specs.Faults.{refusal}
-use Rattle.h2_fields.specs.Shapes.{mode_of, name_of, string_of}
+use Rattle.h2_instruction.specs.Faults.{refusal}
+use Rattle.h2_instruction.specs.Shapes.{mode_of, name_of, string_of}
 use Rattle.h2_fields.proofs.Applying.{literal-refused, literal-applied, not_entered}
 use Rattle.h2_fields.proofs.effect.apply_literal.Goals as goal
 

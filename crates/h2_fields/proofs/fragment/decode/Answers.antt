@@ -4,9 +4,9 @@ use Rattle.h2_spec.specs.Instruction as spec
 use Rattle.h2_spec.specs.Instruction.{Indexed, instr_at}
 use Rattle.h2_spec.proofs.BlockLaws.{leads-start, leads-step, leads-more}
 use Rattle.h2_fields.specs.Applied.{progress_in}
-use Rattle.h2_fields.specs.Resume.{IfMore, IsRest, IsTaken, huffman_octets}
-use Rattle.h2_fields.specs.Shapes.{shape_of, read_of}
-use Rattle.h2_fields.specs.declared.shape.Shape.{Shape}
+use Rattle.h2_instruction.specs.Resume.{IfMore, IsRest, IsTaken, huffman_octets}
+use Rattle.h2_instruction.specs.Shapes.{shape_of, read_of}
+use Rattle.h2_instruction.specs.declared.shape.Shape.{Shape}
 use Rattle.h2_fields.proofs.Counting.{counts, counts-rest}
 use Rattle.h2_fields.proofs.Stopping.{empty-more, grows-start, grows-then, refused-stopped, too_long-stopped}
 use Rattle.h2_fields.proofs.FoundFaults.{fewer}

@@ -1,7 +1,7 @@
 use Rattle.std.proofs.Common.{◌≡◌, ℕ, List, ◌++◌, take, ap, sym, subst, ◌∙◌, rules}
-use Rattle.h2_fields.specs.Resume.{IsPoint, IsRest}
+use Rattle.h2_instruction.specs.Resume.{IsPoint, IsRest}
 use Rattle.h2_fields.specs.Rests.{RestChange}
-use Rattle.h2_fields.proofs.Resting.{point-stays}
+use Rattle.h2_instruction.proofs.Resting.{point-stays}
 use Rattle.h2_fields.proofs.fragment.decode_behind.Goals as goal
 
 pub attempt-requires-clause-point : goal.attempt-requires-clause-point

@@ -5,7 +5,7 @@ use Rattle.h2_spec.specs.Block.{decoded, list_size}
 use Rattle.h2_spec.specs.State.{State}
 use Rattle.h2_table.specs.Edits.{IsEdit, edited}
 use Rattle.h2_fields.specs.declared.collected.Savepoint.{Savepoint}
-use Rattle.h2_fields.specs.declared.fault.BlockFault.TheVariants.{NoMemory}
+use Rattle.h2_instruction.specs.declared.fault.BlockFault.TheVariants.{NoMemory}
 use Rattle.h2_rules.specs.Block.{cause_by}
 use Rattle.h2_conn.specs.Blocks.{limited}
 use Rattle.h2_block.specs.Fragments.{HasFault, after_fragment, after_of, before_fragment, before_of}

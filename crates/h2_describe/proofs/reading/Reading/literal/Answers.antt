@@ -1,8 +1,8 @@
 use Rattle.std.proofs.Common.{◌≡◌, Some, None, Ok, ap, sym, ◌∙◌, rules}
 use Rattle.h2_spec.specs.Field.{field}
 use Rattle.h2_spec.specs.Instruction.{Literal}
-use Rattle.h2_fields.specs.Instructions.{name_text_of}
-use Rattle.h2_fields.specs.Shapes.{mode_of}
+use Rattle.h2_instruction.specs.Instructions.{name_text_of}
+use Rattle.h2_instruction.specs.Shapes.{mode_of}
 use Rattle.h2_describe.specs.Spelled.{Spelled, AsLiteral, literal_added}
 use Rattle.h2_describe.proofs.Stepping.{literal-by_name}
 use Rattle.h2_describe.proofs.reading.Reading.literal.Goals as goal

@@ -1,7 +1,7 @@
 use Rattle.std.proofs.Common.{◌≡◌, Some, false, Ok, refl, ap, sym, ◌∙◌, rules}
 use Rattle.h2_spec.specs.DynamicTable.{field_at}
 use Rattle.h2_spec.specs.Field.{field}
-use Rattle.h2_fields.specs.Shapes.{mode_of}
+use Rattle.h2_instruction.specs.Shapes.{mode_of}
 use Rattle.h2_describe.specs.Spelled.{Spelled, Reading, AsLiteral, literal_added}
 use Rattle.h2_describe.proofs.Stepping.{literal-by_index, literal-no_index}
 use Rattle.h2_describe.proofs.reading.Reading.named.Goals as goal

@@ -1,6 +1,6 @@
 use Rattle.std.proofs.Common.{◌≢◌, refl, ap, sym, subst, ◌∙◌, rules}
-use Rattle.h2_fields.specs.Instructions.{instr_of, read_text}
-use Rattle.h2_fields.specs.declared.fault.BlockFault.TheVariants as faults
+use Rattle.h2_instruction.specs.Instructions.{instr_of, read_text}
+use Rattle.h2_instruction.specs.declared.fault.BlockFault.TheVariants as faults
 use Rattle.h2_describe.specs.Spelled.{IsDone}
 use Rattle.h2_describe.proofs.ReadingOn.{step-done, step-refused, step-more, step-fault}
 use Rattle.h2_describe.proofs.reading.Reading.read_one.Goals as goal

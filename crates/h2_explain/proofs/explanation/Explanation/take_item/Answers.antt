@@ -2,7 +2,7 @@ use Rattle.std.proofs.Common.{◌∙◌, ◌+◌, ℕ, List, Result, ap, ap₂, 
 use Rattle.h2_explain.specs.Explains.{Gains, IsItemText, IsWritten, not_written}
 use Rattle.h2_item.specs.declared.item.Explained.{Explained}
 use Rattle.h2_explain.specs.declared.run.ExplainFault.{ExplainFault}
-use Rattle.h2_explain.proofs.Steps.{first-uses, item-explained}
+use Rattle.h2_explainer.proofs.Taken.{first-uses, item-explained}
 use Rattle.h2_explain.proofs.explanation.Explanation.take_item.Goals as goal
 
 pub overflow_add-self-2 : goal.overflow_add-self-2

@@ -4,7 +4,8 @@ use Rattle.h2_conn.proofs.Runs.{leads-refl, leads-stop, leads-takes}
 use Rattle.h2_explain.specs.Explaining.{ExplainsOn}
 use Rattle.h2_explain.specs.Explains.{not_written}
 use Rattle.h2_explain.specs.declared.run.ExplainFault.{ExplainFault}
-use Rattle.h2_explain.proofs.Steps.{first-takes, item-uses, leads-stopped, on-cut-then, on-next, on-start}
+use Rattle.h2_explain.proofs.Steps.{first-takes, leads-stopped, on-cut-then, on-next, on-start}
+use Rattle.h2_explainer.proofs.Taken.{item-uses}
 use Rattle.h2_explain.proofs.explanation.Explanation.take_items.Goals as goal
 
 pub loop-used-init : goal.loop-used-init

@@ -2,8 +2,8 @@ use Rattle.std.proofs.Common.{◌≡◌, ◌≢◌, ℕ, ◌++◌, Option, Some,
 use Rattle.h2_spec.specs.Block.{Decoded, FieldsSoFar, Unfinished, carried_on, decoded, progress_with}
 use Rattle.h2_fields.specs.Blocks.{BlockSoFar, CanRemain, answer_of, decoded_with, outcome_of}
 use Rattle.h2_fields.proofs.FoundFaults.{answers-faulty, faulty_outcome, shows_nothing, carried-faulty, carried-open, shown-faulty, stopped-named}
-use Rattle.h2_fields.specs.declared.fault.BlockFault.{BlockFault}
-use Rattle.h2_fields.specs.declared.fault.BlockFault.TheVariants as faults
+use Rattle.h2_instruction.specs.declared.fault.BlockFault.{BlockFault}
+use Rattle.h2_instruction.specs.declared.fault.BlockFault.TheVariants as faults
 use Rattle.h2_fields.proofs.block.BlockDecoder.push.Goals as goal
 
 pub returns-in-Some-clause-carried : goal.returns-in-Some-clause-carried

@@ -1,6 +1,6 @@
 use Rattle.std.proofs.Common.{rules, ◌≡◌, ◌≤◌, length, List, ℕ, sym, subst}
 use Rattle.std.specs.List.{AllByRecursion}
-use Rattle.h2_fields.specs.Instructions.{IsWritableField}
+use Rattle.h2_instruction.specs.Instructions.{IsWritableField}
 use Rattle.h2_spec.specs.Answer.{Entry}
 use Rattle.h2_spec.specs.Field.{Field}
 use Rattle.h2_request.specs.Lent.{block_of_answer}

@@ -1,0 +1,4 @@
+pub mod Resume
+pub mod Faults
+pub mod Instructions
+pub mod Shapes
