@@ -26,6 +26,11 @@ const SHOWN: usize = 100;
 /// How many octets a text has space for at first: the lines of a GET and of its answer fit.
 const ROOM: usize = 1000;
 
+/// How many octets of a long text are shown: all where this is asked for.
+fn shown_octets(is_whole: bool) -> usize {
+    if is_whole { usize::MAX } else { SHOWN }
+}
+
 impl<A: Allocator> TextBuilder<A> {
     /// No part yet; of a long text the first 100 octets are shown. Takes no memory.
     pub fn new(alloc: A) -> Self {
@@ -43,7 +48,7 @@ impl<A: Allocator> TextBuilder<A> {
             octets,
             len: 0,
             refused: false,
-            shown: if is_whole { usize::MAX } else { SHOWN },
+            shown: shown_octets(is_whole),
         }
     }
 
@@ -78,6 +83,25 @@ impl<A: Allocator> TextBuilder<A> {
         Ok(octets)
     }
 
+    /// The octets so far, in UTF-8.
+    ///
+    /// # Errors
+    ///
+    /// `AllocError` where memory for a part was refused.
+    pub fn octets(&self) -> Result<&[u8], AllocError> {
+        if self.refused {
+            return Err(AllocError);
+        }
+        Ok(first_of(self.octets.as_slice(), self.len))
+    }
+
+    /// As if no part had been put: the memory stays. Long texts are shown whole where this is asked for.
+    pub fn clear(&mut self, is_whole: bool) {
+        self.len = 0;
+        self.refused = false;
+        self.shown = shown_octets(is_whole);
+    }
+
     /// How many octets it has so far.
     pub fn len(&self) -> usize {
         self.len
@@ -94,8 +118,12 @@ impl<A: Allocator> TextBuilder<A> {
     #[inline(never)]
     pub fn reserve(&mut self, more: usize) {
         let wanted = self.len.saturating_add(more);
-        let twice = self.octets.len().saturating_mul(2);
-        let size = wanted.max(twice).max(ROOM);
+        let held = self.octets.capacity();
+        let size = if wanted <= held {
+            held
+        } else {
+            wanted.max(held.saturating_mul(2)).max(ROOM)
+        };
         if self.refused || self.octets.resize(size, 0).is_err() {
             self.refused = true;
         }

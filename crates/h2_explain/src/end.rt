@@ -13,11 +13,11 @@ use crate::verdict_words::{put_verdict, say_tally};
 use h2_account::paint::{Paint, Role};
 use h2_account::rest::{InputRest, missing_of, rest_line, say_place};
 use h2_account::waits::{say_wait, wait_of};
-use h2_conn::{Conn, is_ended, write_opening};
+use h2_conn::{Conn, is_ended};
 use h2_describe::say::TextBuilder;
 use h2_describe::say_all;
 use h2_device::{string_of, texts};
-use h2_explainer::explainer::Explainer;
+use h2_explainer::explainer::{Explainer, opening_of};
 use h2_facts::request_facts::RequestFacts;
 use h2_facts::warning::{Warning, Warnings, is_unacknowledged};
 use h2_json::end::{put_end, put_wait};
@@ -26,19 +26,6 @@ use h2_json::json_words::JsonWords;
 use h2_json::member;
 use h2_json::warnings::put_warnings;
 use std::alloc::{AllocError, Allocator};
-
-/// The frames that the server sends before it reads anything, where they are asked for; else none.
-fn opening_of<A: Allocator + Copy>(
-    alloc: A,
-    conn: &Conn<'_, A>,
-    is_asked: bool,
-) -> Result<Vec<u8, A>, AllocError> {
-    let mut opening = Vec::new(alloc);
-    if is_asked {
-        write_opening(conn.config(), &mut opening)?;
-    }
-    Ok(opening)
-}
 
 /// What is after the last item of a connection that had that many items; `offset` is how many octets came before these.
 pub(crate) fn rest_of<A: Allocator + Copy>(

@@ -61,7 +61,7 @@ fn item_text<A: Allocator + Copy>(
     tally.note(item, account.facts, account.warnings)?;
     let reader = &explainer.reader;
     if form.json {
-        json_of(alloc, item, &account, reader)
+        json_of(alloc, Vec::new(alloc), item, &account, reader)
     } else {
         lines_of(alloc, item, &account, reader, Paint(form.color))
     }

@@ -13,7 +13,7 @@ ghost use Rattle.h2_facts.specs.Warnings.{AreWarnings};
 use crate::moved::{moved_by, note_moved};
 use h2_account::account::Account;
 use h2_changes::changes::{Changes, connection_changes, stream_changes};
-use h2_conn::{Conn, is_ended};
+use h2_conn::{Conn, is_ended, write_opening};
 use h2_describe::say::TextBuilder;
 use h2_describe::sent::next_frame;
 use h2_describe::spelled::BlockReader;
@@ -114,6 +114,19 @@ fn reads_fields(item: &Explained<'_>) -> bool
         None => true,
         Some(cause) => !is_ended(item.after.counts.phase) || is_of_fields(cause),
     }
+}
+
+/// The frames that the server sends before it reads anything, where they are asked for; else none.
+pub fn opening_of<A: Allocator + Copy>(
+    alloc: A,
+    conn: &Conn<'_, A>,
+    is_asked: bool,
+) -> Result<Vec<u8, A>, AllocError> {
+    let mut opening = Vec::new(alloc);
+    if is_asked {
+        write_opening(conn.config(), &mut opening)?;
+    }
+    Ok(opening)
 }
 
 impl<A: Allocator + Copy> Explainer<A> {

@@ -30,10 +30,9 @@ use h2_spec::octets::octets_from;
 use h2_spec::special_cases::SpecialCase;
 use std::alloc::{AllocError, Allocator};
 
-/// The octets that are shown of some, as hex, and how many there are where not all are shown. The member is that of the
-/// hex, the first of an object.
-fn put_hex<A: Allocator>(hex: Member, shown: &[u8], octets: &[u8], out: &mut JsonWords<A>) {
-    out.plain(hex, Hex(shown));
+/// What is behind the name of the hex of octets: those that are shown, and how many there are where these are not all.
+fn put_hex<A: Allocator>(shown: &[u8], octets: &[u8], out: &mut JsonWords<A>) {
+    out.quoted(Hex(shown));
     if shown.len() < octets.len() {
         out.number(member!("length"), octets.len() as u64);
     }
@@ -41,9 +40,16 @@ fn put_hex<A: Allocator>(hex: Member, shown: &[u8], octets: &[u8], out: &mut Jso
 
 /// Octets as hex, and as text where those that are shown are UTF-8. The member is that of the hex, the first of an
 /// object.
+#[inline(always)]
 fn put_octets<A: Allocator>(hex: Member, octets: &[u8], out: &mut JsonWords<A>) {
+    out.name(hex);
+    put_shown(octets, out);
+}
+
+/// What is behind the name of octets: the value of their hex, and their text where those that are shown are UTF-8.
+fn put_shown<A: Allocator>(octets: &[u8], out: &mut JsonWords<A>) {
     let shown = out.shown_of(octets);
-    put_hex(hex, shown, octets, out);
+    put_hex(shown, octets, out);
     if let Some(text) = JsonText::of(shown) {
         out.plain(member!("text"), text);
     }
@@ -220,7 +226,8 @@ fn put_sent_frame<A: Allocator + Copy>(
     out.open_element();
     put_answer(alloc, frame, out);
     put_head(&frame.head, out);
-    put_hex(member!("octets", "hex"), out.shown_of(octets), octets, out);
+    out.name(member!("octets", "hex"));
+    put_hex(out.shown_of(octets), octets, out);
     out.close();
     let part = part_of(frame).ok();
     put_payload(frame, part, out);
@@ -577,18 +584,19 @@ pub fn put_opening<A: Allocator + Copy>(alloc: A, opening: &[u8], out: &mut Json
 }
 
 /// The octets of the line of an item, before it that of the server's opening, if the item is the first; `reader` has the
-/// fields of its block.
+/// fields of its block. They are in the memory of `octets`, whatever these are.
 ///
 /// `AllocError` where memory is refused.
 pub fn json_of<A: Allocator + Copy>(
     alloc: A,
+    octets: Vec<u8, A>,
     item: &Explained<'_>,
     account: &Account<A>,
     reader: &BlockReader<A>,
 ) -> Result<Vec<u8, A>, AllocError>
     ensures { IfOk result (λ octets. EndsLine false octets.items) }
 {
-    let mut out = JsonWords::over(account.words(alloc));
+    let mut out = JsonWords::over(TextBuilder::over(octets, account.is_full));
     put_opening(alloc, account.opening.as_slice(), &mut out);
     out.open_element();
     put_why(item, account, reader, &mut out);

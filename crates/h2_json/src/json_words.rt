@@ -83,7 +83,8 @@ impl<A: Allocator> JsonWords<A> {
 
     /// Opens the object that is a member.
     pub fn open(&mut self, member: Member) {
-        say_all!(&mut self.words; written(member, self.follows), '{');
+        self.name(member);
+        say_all!(&mut self.words; '{');
         self.follows = false;
     }
 
@@ -95,7 +96,8 @@ impl<A: Allocator> JsonWords<A> {
 
     /// Opens the list that is a member.
     pub fn open_list(&mut self, member: Member) {
-        say_all!(&mut self.words; written(member, self.follows), '[');
+        self.name(member);
+        say_all!(&mut self.words; '[');
         self.follows = false;
     }
 
@@ -130,9 +132,22 @@ impl<A: Allocator> JsonWords<A> {
         self.follows = true;
     }
 
+    /// Puts the name of a member. Its value is next.
+    #[inline(always)]
+    pub(crate) fn name(&mut self, member: Member) {
+        say_all!(&mut self.words; written(member, self.follows));
+    }
+
+    /// Puts the value of a member, or what it ends with, in quotes.
+    pub(crate) fn quoted<S: Say>(&mut self, part: S) {
+        say_all!(&mut self.words; '"', part, '"');
+        self.follows = true;
+    }
+
     /// Puts a member whose value is written in one part, without quotes.
     pub(crate) fn value<S: Say>(&mut self, member: Member, part: S) {
-        say_all!(&mut self.words; written(member, self.follows), part);
+        self.name(member);
+        say_all!(&mut self.words; part);
         self.follows = true;
     }
 
@@ -166,8 +181,8 @@ impl<A: Allocator> JsonWords<A> {
 
     /// Puts a text that has no character to escape.
     pub fn plain<S: Say>(&mut self, member: Member, part: S) {
-        say_all!(&mut self.words; written(member, self.follows), '"', part, '"');
-        self.follows = true;
+        self.name(member);
+        self.quoted(part);
     }
 
     /// Puts a text.
