@@ -1,6 +1,6 @@
 -- The faults of words that say an answer, as numbers.
 use Rattle.std.specs.Prelude.{ℕ}
-use Rattle.h2_request.specs.Fault.{entry_number}
+use Rattle.h2_entries.specs.Fault.{entry_number}
 use Rattle.h2_answers.specs.declared.fault.AnswerFault.{AnswerFault}
 use Rattle.h2_answers.specs.declared.fault.AnswerFault.TheVariants.{NoMemory, BadAnswer, BadEntry}
 

@@ -1,16 +1,16 @@
 //! A book of answers that words say. Definitions: `specs/Books.antt`.
 
 ghost use Rattle.std.specs.Prelude.{◌≡◌, ◌⊎◌, Ok, Err, IfErr, OnOk};
-ghost use Rattle.h2_request.specs.Fault as book;
-ghost use Rattle.h2_request.specs.declared.fault.BookFault.TheVariants as books;
+ghost use Rattle.h2_entries.specs.Fault as book;
+ghost use Rattle.h2_entries.specs.declared.fault.BookFault.TheVariants as books;
 ghost use Rattle.h2_answers.specs.Books.{with_answer};
 ghost use Rattle.h2_answers.specs.Faults.{fault_number};
 ghost use Rattle.h2_answers.specs.declared.fault.AnswerFault.TheVariants.{NoMemory};
 
 use crate::answer::parse_answer;
 use crate::fault::AnswerFault;
-use h2_request::book::Book;
-use h2_request::fault::BookFault;
+use h2_entries::book::Book;
+use h2_entries::fault::BookFault;
 use std::alloc::Allocator;
 
 /// What a book refused, as a fault of this crate.

@@ -8,11 +8,11 @@ ghost use Rattle.h2_answers.specs.AnswerParts.{entry_from, entry_in, parts_behin
 
 use crate::cut::{place_of, text_before, text_from};
 use crate::fault::AnswerFault;
+use h2_entries::book::Entry;
+use h2_entries::entry_fields::EntryFields;
 use h2_hex::{is_hex, octets_of};
 use h2_instruction::field::Field;
 use h2_instruction::octets::Octets;
-use h2_request::book::Entry;
-use h2_request::entry_fields::EntryFields;
 use std::alloc::{AllocError, Allocator};
 
 /// The first four parts of an answer's words, and the further ones, each after its bar.

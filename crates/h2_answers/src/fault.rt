@@ -4,7 +4,7 @@ ghost use Rattle.std.specs.Prelude.{◌≡◌};
 ghost use Rattle.h2_answers.specs.Faults.{fault_number};
 ghost use Rattle.h2_answers.specs.declared.fault.AnswerFault.TheVariants.{NoMemory};
 
-use h2_request::fault::EntryFault;
+use h2_entries::fault::EntryFault;
 use std::alloc::{AllocError, AllocFailed};
 
 /// Why the words of an answer are refused.

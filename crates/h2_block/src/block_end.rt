@@ -16,13 +16,14 @@ ghost use Rattle.h2_spec.specs.Request.{malformed, request_fault, trailers_fault
 ghost use Rattle.h2_spec.specs.State.{OpenBlock};
 ghost use Rattle.h2_spec.specs.Stream.{Records};
 ghost use Rattle.h2_block.specs.Blocks.{is_opening};
-ghost use Rattle.h2_request.specs.Lent.{IsPickOf};
+ghost use Rattle.h2_entries.specs.Lent.{IsPickOf};
 ghost use Rattle.h2_rules.specs.Open.{IsOpenAt, state_of};
 ghost use Rattle.h2_rules.specs.Plain.{opened};
 ghost use Rattle.h2_rules.specs.Sound.{HasBody, IsSoundChange, IsSoundConnectionState, IsSoundState, IsSoundStream, in_force, is_recorded};
 
+use h2_entries::book::Book;
 use h2_fields::collected::Collected;
-use h2_request::book::Book;
+use h2_request::causes::{request_cause, trailers_cause};
 use h2_request::fields::Fields;
 use h2_request::reason::Malformed;
 use h2_request::well_formed::{check_fields, check_trailer_fields};
@@ -31,7 +32,6 @@ use h2_rules::change::{only_counts, stream_error, with_outcome};
 use h2_rules::headers::{
     is_full, is_too_large, is_well_formed, opened, request_outcome, trailers_outcome,
 };
-use h2_rules::malformed::{request_cause, trailers_cause};
 use h2_spec::causes::Cause;
 use h2_spec::connection::{BlockView, Config, ConnectionState, Purpose};
 use h2_spec::reactions::{BlockSummary, Change, StreamOutcome};

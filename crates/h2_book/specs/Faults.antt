@@ -1,6 +1,6 @@
 -- The numbers of what makes a book's file refused.
 use Rattle.std.specs.Prelude.{ℕ}
-use Rattle.h2_request.specs.Fault.{entry_number}
+use Rattle.h2_entries.specs.Fault.{entry_number}
 use Rattle.h2_book.specs.declared.fault.BookRefusal.{BookRefusal}
 use Rattle.h2_book.specs.declared.fault.BookRefusal.TheVariants.{NoMemory, Unread, NoText, NoToml, UnknownTop, NoTable, UnknownKey, Missing, Malformed, ManyBodies, FileUnread, FileTooLong, FillTooLong, BadEntry}
 

@@ -18,8 +18,8 @@ use crate::fault::{BookRefusal, Key, copy_of_key};
 use crate::files::Files;
 use crate::header::{headers_in, read_headers};
 use crate::table::value_at;
-use h2_request::book::Entry;
-use h2_request::entry_fields::EntryFields;
+use h2_entries::book::Entry;
+use h2_entries::entry_fields::EntryFields;
 use std::alloc::Global;
 use toml::{Table, Value};
 

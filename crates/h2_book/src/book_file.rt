@@ -19,8 +19,8 @@ use crate::line::line_at;
 use crate::sentence::Where;
 use crate::table::value_at;
 use h2_device::MAX_INPUT;
-use h2_request::book::Book;
-use h2_request::fault::BookFault;
+use h2_entries::book::Book;
+use h2_entries::fault::BookFault;
 use std::alloc::Global;
 use toml::{Table, Value};
 

@@ -6,7 +6,7 @@ ghost use Rattle.h2_book.specs.Said.{key_name};
 ghost use Rattle.h2_book.specs.declared.fault.BookRefusal.TheVariants.{NoMemory};
 
 use crate::sentence::{Where, sentence_of};
-use h2_request::fault::EntryFault;
+use h2_entries::fault::EntryFault;
 use std::alloc::{AllocError, Global};
 use std::io::ErrorKind;
 use std::marker::Model;

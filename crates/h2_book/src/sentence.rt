@@ -4,8 +4,8 @@
 use crate::fault::{BookRefusal, Key};
 use crate::line::{line_of_answer, line_of_key};
 use h2_describe::say_all;
+use h2_entries::fault::EntryFault;
 use h2_reasons::{Cut, Say, TextBuilder, field_reason, file_reason};
-use h2_request::fault::EntryFault;
 use std::alloc::{AllocError, Allocator, Global};
 use toml::{Table, Value};
 

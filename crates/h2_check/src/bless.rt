@@ -21,7 +21,7 @@ use crate::verdict::CaseFault;
 use crate::walk::{Walk, cause_name};
 use h2_cases::{Line, line_of, lines_in};
 use h2_conn::{Conn, ConnFault};
-use h2_request::book::Book;
+use h2_entries::book::Book;
 use h2_script::{LineFault, add_line, disassemble};
 use h2_spec::causes::Cause;
 use h2_spec::connection::Config;

@@ -5,7 +5,7 @@ ghost use Rattle.h2_session.specs.Session.{loaded};
 ghost use Rattle.h2_check.specs.Commands.{answered, fault_in, is_memory_fault, is_refusal};
 
 use h2_debug::Debugger;
-use h2_request::book::Book;
+use h2_entries::book::Book;
 use h2_session::obey::obey;
 use h2_session::{Reply, command_of};
 use h2_spec::connection::Config;

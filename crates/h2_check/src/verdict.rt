@@ -13,7 +13,7 @@ use crate::command::Given;
 use crate::item_texts::item_texts;
 use crate::walk::{Walk, check_lines};
 use h2_conn::{Conn, ConnFault};
-use h2_request::book::Book;
+use h2_entries::book::Book;
 use h2_spec::connection::Config;
 use std::alloc::Global;
 

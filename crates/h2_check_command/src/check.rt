@@ -25,7 +25,7 @@ use h2_cases::{case_length, lines_in, preamble_length, title_of};
 use h2_check::{Title, Verdict, plan_line, verdict_text};
 use h2_commands::{BenchFault, PrintFault, book_for_words, print_fault};
 use h2_device::{MAX_INPUT, Output};
-use h2_request::book::Book;
+use h2_entries::book::Book;
 use h2_words::command::Check;
 use std::alloc::Global;
 use std::str;

@@ -14,7 +14,7 @@ use h2_book::Files;
 use h2_cases::{ShellFault, add_case_words, before_words, idle_place};
 use h2_commands::{BenchFault, book_for_words};
 use h2_device::Gathered;
-use h2_request::book::Book;
+use h2_entries::book::Book;
 use h2_spec::connection::Config;
 use h2_words::Words;
 use h2_words::command::{BookWords, Debug, Plan, Refusal, parse};

@@ -11,7 +11,7 @@ use Rattle.h2_answers.specs.declared.fault.AnswerFault.TheVariants as answer
 use Rattle.h2_commands.specs.Answers.{fault_told}
 use Rattle.h2_commands.specs.CommandEnd.{KnowsFile}
 use Rattle.h2_commands.specs.Faults.{fault_number}
-use Rattle.h2_request.specs.declared.fault.EntryFault.TheVariants.{BadStatus, BadField, BodyNotAllowed, TooLong}
+use Rattle.h2_entries.specs.declared.fault.EntryFault.TheVariants.{BadStatus, BadField, BodyNotAllowed, TooLong}
 use Rattle.h2_commands.specs.declared.fault.BenchFault.{BenchFault}
 use Rattle.h2_commands.specs.declared.fault.BenchFault.TheVariants.{NoMemory, BadEntry, BadConfig, Read, Write, BadHex, BadAnswer, BadCommand, Socket}
 

@@ -1,7 +1,7 @@
 -- The faults of programs: their numbers, and the line that reports one.
 use Rattle.std.specs.Prelude.{ℕ, Bool, true, false, List, [], ◌∷◌, codes, decimal}
 use Rattle.h2_spec.specs.Show.{joined}
-use Rattle.h2_request.specs.Fault.{entry_number}
+use Rattle.h2_entries.specs.Fault.{entry_number}
 use Rattle.h2_commands.specs.declared.fault.BenchFault.{BenchFault}
 use Rattle.h2_commands.specs.declared.fault.BenchFault.TheVariants.{NoMemory, BadEntry, BadConfig, Read, Write, BadHex, BadAnswer, BadCommand, Socket}
 

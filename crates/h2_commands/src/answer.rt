@@ -7,7 +7,7 @@ ghost use Rattle.h2_commands.specs.Answers.{fault_told, refusal_of};
 
 use crate::fault::BenchFault;
 use h2_answers::AnswerFault;
-use h2_request::book::Entry;
+use h2_entries::book::Entry;
 use std::alloc::Global;
 
 /// Why words are refused, as a fault of this crate.

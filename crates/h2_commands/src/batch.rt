@@ -28,8 +28,8 @@ use crate::report::{Report, whole};
 use crate::table::write_table;
 use h2_book::Files;
 use h2_device::{Input, Output, Text};
+use h2_entries::book::Book;
 use h2_explain::Form;
-use h2_request::book::Book;
 use h2_words::command::{Batch, Explain, Play};
 use std::alloc::Global;
 

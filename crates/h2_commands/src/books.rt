@@ -14,9 +14,9 @@ use crate::fault::BenchFault;
 use h2_answers::add_answer;
 use h2_book::{BookFileFault, BookRefusal, Files, add_book};
 use h2_device::Output;
+use h2_entries::book::Book;
+use h2_entries::fault::EntryFault;
 use h2_reasons::{EntryRefusal, TextBuilder, say_answer, say_no_answer, say_no_memory};
-use h2_request::book::Book;
-use h2_request::fault::EntryFault;
 use h2_words::command::BookWords;
 use std::alloc::{AllocError, Global};
 

@@ -3,11 +3,11 @@
 
 ghost use Rattle.std.specs.Prelude.{◌≡◌};
 ghost use Rattle.h2_commands.specs.Faults.{fault_line, fault_number, fault_object, fault_text};
-ghost use Rattle.h2_request.specs.Fault.{entry_number};
+ghost use Rattle.h2_entries.specs.Fault.{entry_number};
 ghost use Rattle.h2_commands.specs.declared.fault.BenchFault.TheVariants.{NoMemory};
 
 use h2_device::{DeviceFault, Number, Output, Text, texts};
-use h2_request::fault::EntryFault;
+use h2_entries::fault::EntryFault;
 use std::alloc::{AllocError, AllocFailed};
 use thiserror::Error;
 

@@ -12,7 +12,7 @@ ghost use Rattle.h2_conn.specs.Follows.{Follows, is_reset_by};
 use crate::conn::Conn;
 use crate::state::State;
 use h2_block::{KeptBlock, OpenBlock, keep_open, restore_open};
-use h2_request::book::Book;
+use h2_entries::book::Book;
 use h2_spec::connection::{Config, ConnectionState, Purpose};
 use h2_streams::KeptStreams;
 use h2_table::KeptTable;

@@ -26,7 +26,7 @@ use crate::place::Place;
 use crate::source::Source;
 use h2_conn::view::View;
 use h2_conn::{Conn, ConnFault};
-use h2_request::book::Book;
+use h2_entries::book::Book;
 use h2_spec::causes::Cause;
 use h2_spec::connection::Config;
 use h2_spec::ignored::Ignored;

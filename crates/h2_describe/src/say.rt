@@ -1,5 +1,7 @@
 //! Texts that are put together part by part. No definition speaks of them.
 
+ghost use Rattle.std.specs.Prelude.{◌≡◌, ◌+◌, ◌≤◌, length, IfSome};
+
 use crate::plain::{is_all_plain, is_plain};
 use crate::sent::first_of;
 use h2_spec::octets::octets_from;
@@ -131,7 +133,9 @@ impl<A: Allocator> TextBuilder<A> {
 
     /// The end of the text with this many octets more, where there is space for them.
     #[inline(always)]
-    fn end_with(&self, more: usize) -> Option<usize> {
+    fn end_with(&self, more: usize) -> Option<usize>
+        ensures { IfSome result (λ end. (end ≡ self.now.len + more) × (end ≤ length self.now.octets.items)) }
+    {
         match self.len.checked_add(more) {
             Some(end) if end <= self.octets.len() => Some(end),
             _ => None,

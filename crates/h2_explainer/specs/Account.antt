@@ -3,11 +3,13 @@ use Rattle.std.specs.Prelude.{◌≡◌, ℕ, zero, suc, ℤ, Bool, true, false,
 use Rattle.std.specs.List.{All}
 use Rattle.h2_conn.specs.Connection.{is_ended}
 use Rattle.h2_spec.specs.Cause.{code_of}
+use Rattle.h2_spec.specs.Opening.{opening_octets}
 use Rattle.h2_spec.specs.FrameType.{CONTINUATION, END_HEADERS, HEADERS, has}
 use Rattle.h2_spec.specs.Payload.{Part, OfData, OfHeaders, OfPriority, OfRstStream, OfSettings, OfSettingsAck, OfPushPromise, OfPing, OfGoaway, OfWindowUpdate, OfContinuation, OfUnknown}
 use Rattle.h2_spec.specs.declared.causes.Cause.{Cause}
 use Rattle.h2_spec.specs.declared.causes.Cause.TheVariants.{ListTooLarge}
 use Rattle.h2_spec.specs.declared.connection.BlockView.{BlockView}
+use Rattle.h2_spec.specs.declared.connection.Config.{Config}
 use Rattle.h2_spec.specs.declared.connection.Phase.{Phase}
 use Rattle.h2_spec.specs.declared.errors.ErrorCode.{ErrorCode}
 use Rattle.h2_spec.specs.declared.errors.ErrorCode.TheVariants.{ProtocolError, FlowControlError, StreamClosed, FrameSizeError, RefusedStream, CompressionError, EnhanceYourCalm}
@@ -180,3 +182,8 @@ pub record NotesItem {A : Type 0} (x : Explained) (s : State) (before after : No
   pub block_end : after.block_end ≡ block_end_with before.block_end x.number (head_in x.what)
   pub streams :
       moves_windows x ≡ false → AreNotes after (notes_of_sent x s (noted_with x (begun_after before.block x.number x.before.block x.what) (note_of before)))
+
+-- the octets that the server sends before it reads anything, where they are asked for
+abbrev pub opening_if : Config → Bool → List ℕ
+opening_if config false = []
+opening_if config true = opening_octets config

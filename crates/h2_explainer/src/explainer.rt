@@ -6,7 +6,7 @@ ghost use Rattle.std.specs.BTreeMap.{IsEmpty};
 ghost use Rattle.std.specs.Option.{option_map};
 ghost use Rattle.h2_spec.specs.Stream.{stream_at};
 ghost use Rattle.h2_item.specs.Item.{frame_in, head_in, part_in};
-ghost use Rattle.h2_explainer.specs.Account.{KeepsBlocks, ListsChanges, NotesItem, begun_after, block_end_with, changes_of_sent, changes_since, ended_with, unread, fragment_in, is_compression, is_of_block, is_of_fields, moves_windows, noted_with, notes_of_sent, reads_fields, shows_fields_with};
+ghost use Rattle.h2_explainer.specs.Account.{KeepsBlocks, ListsChanges, NotesItem, begun_after, block_end_with, changes_of_sent, changes_since, ended_with, unread, fragment_in, is_compression, is_of_block, is_of_fields, moves_windows, noted_with, notes_of_sent, opening_if, reads_fields, shows_fields_with};
 ghost use Rattle.h2_item.specs.Notes.{AreNotes, note_of, with_later_note};
 ghost use Rattle.h2_facts.specs.Warnings.{AreWarnings};
 
@@ -121,7 +121,9 @@ pub fn opening_of<A: Allocator + Copy>(
     alloc: A,
     conn: &Conn<'_, A>,
     is_asked: bool,
-) -> Result<Vec<u8, A>, AllocError> {
+) -> Result<Vec<u8, A>, AllocError>
+    ensures { IfOk result (λ opening. opening.items ≡ opening_if conn.now.state.config is_asked) }
+{
     let mut opening = Vec::new(alloc);
     if is_asked {
         write_opening(conn.config(), &mut opening)?;

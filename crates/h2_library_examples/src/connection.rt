@@ -3,7 +3,7 @@
 use crate::same::same;
 use h2_conn::play::play;
 use h2_conn::{Conn, ConnFault};
-use h2_request::book::Book;
+use h2_entries::book::Book;
 use h2_spec::connection::{Config, Phase};
 use std::alloc::{AllocError, Global};
 use std::test::Fail;

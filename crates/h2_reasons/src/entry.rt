@@ -2,8 +2,8 @@
 
 use h2_describe::say::{Cut, OctetCount, Say, TextBuilder};
 use h2_describe::say_all;
-use h2_request::book::MAX_BODY;
-use h2_request::fault::EntryFault;
+use h2_entries::book::MAX_BODY;
+use h2_entries::fault::EntryFault;
 
 /// What a book refuses an entry for.
 #[derive(Clone, Copy)]

@@ -10,6 +10,7 @@ use Rattle.std.proofs.lemmas.List.Folds.{list_any-append}
 use Rattle.std.proofs.lemmas.Bool.Decides.{nat_tests}
 use Rattle.h2_spec.specs.Field.{Field, field}
 use Rattle.h2_spec.specs.Request.{is_pseudo, is_named, has_bad_name, has_bad_value, is_unknown_pseudo, is_of_connection, has_bad_te, is_content_length, is_digits, decimal_value, has_bad_length, is_other_length, is_late_pseudo, is_double_pseudo, value_named, any_two, declared_length, malformed, malformed_trailers, is_value, request_of}
+use Rattle.h2_entries.proofs.TestLaws.{past, neither}
 use Rattle.h2_request.specs.Asked.{request_seen}
 use Rattle.h2_request.specs.Seen.{AreMarks, ArePseudo, IsLength, is_lacking, seen_reason, seen_trailers_reason}
 use Rattle.h2_request.specs.Walk.{Pseudo, marked, noted, measured, with_number}
@@ -271,13 +272,6 @@ nat-eq-sym a b = alike (a == b) (b == a) (λ e. grind (arith, nat_tests)) (λ e.
 nat-eq-is : (a b : ℕ) → (a == b) ≡ true → a ≡ b
 nat-eq-is a b e = grind (arith, nat_tests)
 
-pub neither : (a b : Bool) → (a || b) ≡ false → (a ≡ false) × (b ≡ false)
-neither true b e = absurd (true_is e)
-  where
-    true_is : true ≡ false → ⊥
-    true_is k = cc
-neither false b e = (refl, e)
-
 any-none : (p : Field → Bool) (fs : List Field) → ((f : Field) → p f ≡ false) → list_any p fs ≡ false
 any-none p [] none = refl
 any-none p (f ∷ fs) none = rw (none f) (any-none p fs none)
@@ -415,14 +409,6 @@ unfolding malformed_trailers
 seen-trailers-reason fields m marks = rw (marks.bad_name, marks.bad_value, marks.pseudo, marks.of_connection, marks.bad_te) refl
 
 -- ---- what is asked for
-
--- where no row holds, the first doesn't, and none of the others
-pub past : (t : Bool) (n : ℕ) (o : Option ℕ) → cond t (Some n) o ≡ None → (t ≡ false) × (o ≡ None)
-past true n o e = absurd (some_is e)
-  where
-    some_is : Some n ≡ None → ⊥
-    some_is k = cc
-past false n o e = (refl, e)
 
 good-length : (m : ListMark) (p : Pseudo) (l : ContentLength) → seen_reason m p l ≡ None → l.bad ≡ false
 good-length m p l e =

@@ -1,13 +1,8 @@
--- What a request asks for, as contracts see it.
+-- What a request asks for, by what a walk over its fields has seen.
 use Rattle.std.specs.Prelude.{[], codes, bytes_eq, if◌then◌else◌, unwrap_or}
 use Rattle.h2_spec.specs.Request.{Request}
 use Rattle.h2_request.specs.Walk.{Pseudo}
 use Rattle.h2_request.specs.declared.walk.ContentLength.{ContentLength}
-use Rattle.h2_request.specs.declared.well_formed.Request as declared
-
--- the octets that a request lends
-abbrev pub asked : declared.Request → Request
-asked r = record { connect = r.connect; method = r.method.now; path = r.path.now; declared = r.declared }
 
 -- what is asked for, by what a walk has seen
 abbrev pub request_seen : Pseudo → ContentLength → Request

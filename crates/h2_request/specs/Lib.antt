@@ -1,9 +1,5 @@
 pub mod Asked
-pub mod BlockLength
-pub mod Fault
 pub mod Fields
-pub mod Firsts
-pub mod Lent
 pub mod Marked
 pub mod ReasonNumber
 pub mod Seen

@@ -1,13 +1,12 @@
-//! Requests and the book of answers: which fields make a request or trailers (RFC 9113, 8.1 to 8.5), and what is
-//! answered. The definitions are Request, Answer, Book and AnswerWords of `h2_spec`.
+//! Requests: which fields make a request or trailers, what is asked for, and the cause where they make none (RFC 9113, 8.1
+//! to 8.5). The book of answers is h2_entries. The definitions are Request and Reasons of `h2_spec`.
 #![tactic(auto)]
 
-mod block_length;
-pub mod book;
-pub mod entry_fields;
-pub mod fault;
+pub mod causes;
 pub mod fields;
-mod firsts;
 pub mod reason;
 mod walk;
 pub mod well_formed;
+
+pub use h2_entries::asked::Request;
+pub use h2_entries::book::{Answer, Book, Entry};

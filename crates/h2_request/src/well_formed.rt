@@ -8,7 +8,8 @@ ghost use Rattle.std.specs.Prelude.{◌≡◌, ◌==◌, [], length, unwrap_or, 
 ghost use Rattle.std.specs.Option.{option_map, option_copied};
 ghost use Rattle.h2_spec.specs.Reasons.{IsLeast, IsReason, IsTrailersReason};
 ghost use Rattle.h2_spec.specs.Request.{malformed, malformed_trailers, request_of};
-ghost use Rattle.h2_request.specs.Asked.{asked, request_seen};
+ghost use Rattle.h2_request.specs.Asked.{request_seen};
+ghost use Rattle.h2_entries.specs.Asked.{asked};
 ghost use Rattle.h2_request.specs.Fields.{fields_in};
 ghost use Rattle.h2_request.specs.ReasonNumber.{reason_number};
 ghost use Rattle.h2_request.specs.Seen.{seen_reason, seen_trailers_reason, is_lacking};
@@ -17,22 +18,10 @@ ghost use Rattle.h2_request.specs.Walk.{pseudo_of};
 use crate::fields::Fields;
 use crate::reason::{Malformed, Reason};
 use crate::walk::{FieldScan, ListMark, PseudoFields};
+use h2_entries::asked::Request;
 use h2_instruction::field::Field;
 use h2_mark::octets;
 use std::alloc::Allocator;
-
-/// What well-formed fields ask for; method and path are lent by the fields.
-#[derive(Clone, Copy)]
-pub struct Request<'a> {
-    /// Whether the method is CONNECT (RFC 9113, 8.5).
-    pub connect: bool,
-    /// The value of `:method`.
-    pub method: &'a [u8],
-    /// The value of `:path`; empty for CONNECT.
-    pub path: &'a [u8],
-    /// The number of the `content-length`, below 10^18, or none where there is no such field (RFC 9113, 8.1.1).
-    pub declared: Option<u64>,
-}
 
 /// What the fields of a request ask for. One walk over the fields; no memory is taken.
 ///

@@ -14,7 +14,7 @@ use Rattle.h2_spec.specs.declared.streams.Stream.{Stream}
 use Rattle.h2_spec.specs.Answer.{Entry, picked}
 use Rattle.h2_spec.specs.Stream.{Records, is_live, octets_waiting, with_record}
 use Rattle.h2_streams.specs.Put.{CanPut, is_closed}
-use Rattle.h2_request.specs.Lent.{IsPickOf}
+use Rattle.h2_entries.specs.Lent.{IsPickOf}
 use Rattle.h2_spec.specs.Change.{follows_initial_window, overflows, moved_by, received, shifted}
 
 -- octets that may be given back: the window does not pass its greatest value with them

@@ -6,7 +6,7 @@ ghost use Rattle.h2_spec.specs.Headers as rule;
 ghost use Rattle.h2_spec.specs.Answer.{Entry, picked};
 ghost use Rattle.h2_spec.specs.Cause.{first_of};
 ghost use Rattle.h2_spec.specs.Data.{length_broken};
-ghost use Rattle.h2_request.specs.Lent.{IsPickOf};
+ghost use Rattle.h2_entries.specs.Lent.{IsPickOf};
 ghost use Rattle.h2_rules.specs.Plain.{is_well_formed, opened};
 ghost use Rattle.h2_rules.specs.Sound.{HasBody, InForce, IsSoundConnectionState, IsSoundStream, in_force, is_recorded};
 

@@ -10,7 +10,6 @@ pub mod control;
 pub mod data;
 pub mod ends;
 pub mod headers;
-pub mod malformed;
 pub mod reset;
 pub mod settings;
 pub mod window_update;

@@ -9,7 +9,7 @@ use Rattle.h2_spec.specs.Change.{response}
 use Rattle.h2_spec.specs.Field.{Field}
 use Rattle.h2_spec.specs.Frame.{Frame, frame, frame_octets, frames_octets}
 use Rattle.h2_spec.specs.SendPending.{data_frames, piece}
-use Rattle.h2_request.specs.Lent.{block_of_answer, headers_of_answer}
+use Rattle.h2_entries.specs.Lent.{block_of_answer, headers_of_answer}
 use Rattle.h2_send.specs.Short.{IsShortFrame}
 use Rattle.h2_send.specs.Prepared.{content, on_stream, IsData}
 use Rattle.h2_send.proofs.PiecesLaws.{piece_last}

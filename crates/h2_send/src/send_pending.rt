@@ -14,8 +14,8 @@ ghost use Rattle.h2_spec.specs.Window.{sendable};
 ghost use Rattle.h2_streams.specs.Kept.{ready_above};
 
 use crate::pieces::write_allowance;
+use h2_entries::book::Book;
 use h2_frame::Outgoing;
-use h2_request::book::Book;
 use h2_rules::ends::{server_ended, with_body_remaining};
 use h2_spec::flow::Window;
 use h2_spec::streams::{Numbers, Stream};

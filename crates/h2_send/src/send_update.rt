@@ -13,8 +13,8 @@ ghost use Rattle.h2_rules.specs.Sound.{HasBody, updated_records};
 ghost use Rattle.h2_streams.specs.Put.{CanPut};
 
 use crate::send_pending::{after_sending, none_sends, send_ready, write_next};
+use h2_entries::book::Book;
 use h2_frame::Outgoing;
-use h2_request::book::Book;
 use h2_spec::reactions::RecordUpdate;
 use h2_spec::streams::Stream;
 use h2_streams::{Streams, octets_waiting};

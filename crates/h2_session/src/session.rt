@@ -21,8 +21,8 @@ use crate::reader::Reader;
 use crate::reply::{FaultLine, Reply, ReplyText, write_flushed};
 use h2_debug::Debugger;
 use h2_device::{DeviceFault, Input, Output};
+use h2_entries::book::Book;
 use h2_hex::is_hex_text;
-use h2_request::book::Book;
 use h2_spec::connection::Config;
 use std::alloc::Global;
 

@@ -4,8 +4,8 @@ use crate::conns::{book_of, config_of, opened, taken};
 use crate::line::Call;
 use crate::trials::Answer;
 use h2_conn::Conn;
+use h2_entries::book::Book;
 use h2_frame::{Item, Outbox, Outgoing, Splitter};
-use h2_request::book::Book;
 use linked_list_allocator::LocalHeap;
 use std::alloc::{AllocError, Allocator, Global};
 

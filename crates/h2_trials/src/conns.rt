@@ -4,11 +4,11 @@ use crate::line::Call;
 use crate::shown::Hex;
 use h2_conn::{Conn, ConnFault};
 use h2_device::string_of;
+use h2_entries::book::{Book, Entry};
+use h2_entries::entry_fields::EntryFields;
+use h2_entries::fault::BookFault;
 use h2_frame::Outgoing;
 use h2_instruction::octets::Octets;
-use h2_request::book::{Book, Entry};
-use h2_request::entry_fields::EntryFields;
-use h2_request::fault::BookFault;
 use h2_spec::connection::Config;
 use std::alloc::{AllocError, Allocator, Global};
 

@@ -6,8 +6,8 @@ use crate::heap::Heap;
 use crate::line::Call;
 use crate::trials::Answer;
 use h2_debug::{DebugFault, Debugger};
+use h2_entries::book::Book;
 use h2_refusing::Refusing;
-use h2_request::book::Book;
 use h2_spec::connection::Config;
 use std::alloc::{AllocError, Global};
 

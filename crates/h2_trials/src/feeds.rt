@@ -9,8 +9,8 @@ use crate::line::Call;
 use crate::shown::HexOrNone;
 use crate::trials::Answer;
 use h2_conn::{Conn, ConnFault};
+use h2_entries::book::Book;
 use h2_refusing::Refusing;
-use h2_request::book::Book;
 use std::alloc::{AllocError, Global};
 
 /// What is done with a new connection.

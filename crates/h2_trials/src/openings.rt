@@ -8,8 +8,8 @@ use crate::shown::Hex;
 use crate::trials::Answer;
 use h2_conn::ConnFault;
 use h2_conn::play::open_and_feed;
+use h2_entries::book::Book;
 use h2_refusing::Refusing;
-use h2_request::book::Book;
 use std::alloc::{AllocError, Global};
 
 /// Why a connection can't be opened; none where it can.

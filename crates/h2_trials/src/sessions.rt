@@ -6,7 +6,7 @@ ghost use Rattle.std.specs.Prelude.{◌≡◌, false};
 use crate::devices::{Limited, Pieces};
 use crate::line::Call;
 use crate::trials::Answer;
-use h2_request::book::Book;
+use h2_entries::book::Book;
 use h2_session::debug_session;
 use h2_spec::connection::Config;
 use std::alloc::{AllocError, Global};

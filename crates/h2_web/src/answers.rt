@@ -8,7 +8,7 @@ ghost use Rattle.h2_spec.specs.Script.{lines_of};
 ghost use Rattle.h2_web.specs.Web.{answers_said};
 
 use h2_answers::{AnswerFault, add_answer};
-use h2_request::book::Book;
+use h2_entries::book::Book;
 use std::alloc::{AllocError, Allocator};
 
 /// A line that was refused, from 1, and why.

@@ -15,8 +15,8 @@ use h2_answers::AnswerFault;
 use h2_arena::{Arena, Free};
 use h2_conn::{Conn, ConnFault};
 use h2_device::Output;
+use h2_entries::book::Book;
 use h2_places::{PlacesFault, ShownPlaces, write_places};
-use h2_request::book::Book;
 use h2_spec::connection::Config;
 use std::alloc::Allocator;
 

@@ -12,8 +12,8 @@ use crate::run::{RunFault, refused_answer, told};
 use h2_arena::{Arena, Free};
 use h2_conn::{Conn, ConnFault};
 use h2_device::Output;
+use h2_entries::book::Book;
 use h2_explain::{ExplainFault, Form, Summary, explain};
-use h2_request::book::Book;
 use h2_spec::connection::Config;
 use std::alloc::Allocator;
 

@@ -6,7 +6,7 @@ use Rattle.h2_spec.specs.declared.streams.Pick.{Pick}
 use Rattle.h2_spec.specs.Answer.{pick_of}
 use Rattle.h2_spec.specs.Block.{list_size}
 use Rattle.h2_spec.specs.Request.{Request, declared_length, request_cause, request_fault, request_of}
-use Rattle.h2_request.specs.Asked.{asked}
+use Rattle.h2_entries.specs.Asked.{asked}
 use Rattle.h2_block.proofs.block_end.request_summary.Goals as goal
 
 abbrev summary : ℕ → Option Cause → Option ℕ → Pick → BlockSummary

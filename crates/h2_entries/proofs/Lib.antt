@@ -1,0 +1,5 @@
+pub mod BlockLaws
+pub mod BookLaws
+mod FirstLaws
+mod LentLaws
+pub mod TestLaws

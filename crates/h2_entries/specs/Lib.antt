@@ -1,0 +1,5 @@
+pub mod Asked
+pub mod BlockLength
+pub mod Fault
+pub mod Firsts
+pub mod Lent
