@@ -128,8 +128,9 @@ impl<A: Allocator + Copy> BlockReader<A> {
         }
         if self.rest.is_empty() {
             let (used, stopped) = self.reading.read_all(alloc, fragment)?;
+            self.rest.extend_from_slice(octets_from(fragment, used))?;
             self.stopped = stopped;
-            return self.rest.extend_from_slice(octets_from(fragment, used));
+            return Ok(());
         }
         self.rest.extend_from_slice(fragment)?;
         let (used, stopped) = self.reading.read_all(alloc, self.rest.as_slice())?;
