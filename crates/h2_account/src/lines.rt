@@ -25,6 +25,7 @@ use h2_spec::ignored::Ignored;
 use h2_spec::special_cases::SpecialCase;
 use std::alloc::{AllocError, Allocator, Global};
 use std::marker::Model;
+use std::mem;
 
 /// The beginning of each line below the first one of an item.
 const INDENT: &str = "        ";
@@ -40,18 +41,30 @@ fn blanks(number: u64, offset: u64) -> &'static str
     }
 }
 
+/// Octets of a text, as they are.
+#[derive(Clone, Copy)]
+struct Octets<'o>(&'o [u8]);
+
+impl Text for Octets<'_> {
+    ghost text = { λ o. o.0.now };
+
+    fn write_to<O: Output>(&self, output: &mut O) -> Result<(), DeviceFault> {
+        output.write(self.0)
+    }
+}
+
 /// The first line of an item.
 #[derive(Clone, Copy)]
 struct FirstLine<'w> {
     paint: Paint,
     number: u64,
     offset: u64,
-    words: &'w str,
+    words: Octets<'w>,
 }
 
 #[tactic(auto, unfolding(crate::specs::Lines::first_line))]
 impl Text for FirstLine<'_> {
-    ghost text = { λ l. first_line l.paint.0 l.number l.offset l.words.now };
+    ghost text = { λ l. first_line l.paint.0 l.number l.offset l.words.0.now };
 
     fn write_to<O: Output>(&self, output: &mut O) -> Result<(), DeviceFault> {
         let start = self.paint.started(Role::Item);
@@ -216,11 +229,9 @@ impl Text for ReasonLines {
     }
 }
 
-/// The words of an item that no definition has, one part after another in one text, and where each part but the last
-/// ends.
-#[derive(Drop)]
-struct ItemWords<A: Allocator> {
-    text: String<A>,
+/// Where each part but the last ends of the words of an item that no definition has, which are one text.
+#[derive(Clone, Copy)]
+struct Ends {
     /// The end of the item in words.
     item: usize,
     /// The end of the lines of its fields, which are empty unless they are shown with it.
@@ -231,11 +242,9 @@ struct ItemWords<A: Allocator> {
     sent: usize,
 }
 
-impl<A: Allocator> ItemWords<A> {
-    /// What is between two ends of parts.
-    fn part(&self, from: usize, to: usize) -> &str {
-        self.text.as_str().get(from..to).unwrap_or("")
-    }
+/// What is between two ends of parts.
+fn part(words: &[u8], from: usize, to: usize) -> Octets<'_> {
+    Octets(words.get(from..to).unwrap_or(&[]))
 }
 
 /// Puts the lines of the fields of the block that ends with an item last, if they are shown with it.
@@ -272,33 +281,33 @@ fn opening_text<A: Allocator + Copy>(
     words.finish()
 }
 
-/// The words of an item; `answers` reads the fields of answers.
-fn words_of<A: Allocator + Copy>(
+/// Puts the words of an item in the place of those before; `answers` reads the fields of answers.
+fn say_words<A: Allocator + Copy>(
     alloc: A,
     item: &Explained<'_>,
     account: &Account<A>,
     reader: &BlockReader<A>,
     paint: Paint,
     answers: &mut BlockReader<A>,
-) -> Result<ItemWords<A>, AllocError> {
-    let mut words = account.words(alloc);
-    say_item(item, &mut words);
-    let item_end = words.len();
-    say_shown_fields(account, reader, paint, &mut words);
-    let fields = words.len();
-    say_also(account.also.as_slice(), paint, &mut words);
-    let also = words.len();
-    say_warnings(account.warnings, paint, &mut words);
-    say_sent(alloc, item.sent, paint, answers, &mut words);
-    let sent = words.len();
-    say_all_changes(account, paint, &mut words);
-    Ok(ItemWords {
-        text: words.finish()?,
+    out: &mut TextBuilder<A>,
+) -> Ends {
+    out.clear(account.is_full);
+    say_item(item, out);
+    let item_end = out.len();
+    say_shown_fields(account, reader, paint, out);
+    let fields = out.len();
+    say_also(account.also.as_slice(), paint, out);
+    let also = out.len();
+    say_warnings(account.warnings, paint, out);
+    say_sent(alloc, item.sent, paint, answers, out);
+    let sent = out.len();
+    say_all_changes(account, paint, out);
+    Ends {
         item: item_end,
         fields,
         also,
         sent,
-    })
+    }
 }
 
 /// Puts a text in the place of what was gathered.
@@ -315,10 +324,25 @@ fn gather<A: Allocator, T: Text>(text: &T, out: &mut Gathered<A>) -> Result<(), 
     }
 }
 
+/// The first line of an item with these words, of which this is the end of the item in words.
+fn first_of<'w>(item: &Explained<'_>, words: &'w [u8], end: usize, paint: Paint) -> FirstLine<'w>
+    ensures number { result.number ≡ item.now.number }
+    ensures offset { result.offset ≡ item.now.offset }
+    ensures paint { result.paint ≡ paint }
+{
+    FirstLine {
+        paint,
+        number: item.number,
+        offset: item.offset as u64,
+        words: part(words, 0, end),
+    }
+}
+
 /// The lines of an item with these words that is no error and not ignored, without those of an opening.
 fn plain_lines<A: Allocator>(
     item: &Explained<'_>,
-    words: &ItemWords<A>,
+    words: &[u8],
+    ends: Ends,
     paint: Paint,
     out: &mut Gathered<A>,
 ) -> Result<(), AllocError>
@@ -326,20 +350,16 @@ fn plain_lines<A: Allocator>(
     requires no_reason { item.now.ignored ≡ None }
     ensures { OnOk result ((w : Said) × (out.new.octets.items ≡ lines paint.0 item.now w)) }
 {
-    let first = FirstLine {
-        paint,
-        number: item.number,
-        offset: item.offset as u64,
-        words: words.part(0, words.item),
-    };
-    let rest = words.part(words.item, words.text.len());
+    let first = first_of(item, words, ends.item, paint);
+    let rest = part(words, ends.item, words.len());
     gather(&texts!(first, rest), out)
 }
 
 /// The lines of an item with these words.
 fn lines_with<A: Allocator + Copy>(
     item: &Explained<'_>,
-    words: &ItemWords<A>,
+    words: &[u8],
+    ends: Ends,
     account: &Account<A>,
     opening: &str,
     paint: Paint,
@@ -347,12 +367,7 @@ fn lines_with<A: Allocator + Copy>(
 ) -> Result<(), AllocError>
     ensures { OnOk result ((w : Said) × (out.new.octets.items ≡ lines paint.0 item.now w)) }
 {
-    let first = FirstLine {
-        paint,
-        number: item.number,
-        offset: item.offset as u64,
-        words: words.part(0, words.item),
-    };
+    let first = first_of(item, words, ends.item, paint);
     let sentence = account.sentence.as_str();
     let cause = CauseLines {
         paint,
@@ -366,10 +381,10 @@ fn lines_with<A: Allocator + Copy>(
         ignored: item.ignored,
         case: case_of_reason(item, account.facts),
     };
-    let fields = words.part(words.item, words.fields);
-    let also = words.part(words.fields, words.also);
-    let sent = words.part(words.also, words.sent);
-    let changes = words.part(words.sent, words.text.len());
+    let fields = part(words, ends.item, ends.fields);
+    let also = part(words, ends.fields, ends.also);
+    let sent = part(words, ends.also, ends.sent);
+    let changes = part(words, ends.sent, words.len());
     gather(
         &texts!(opening, first, fields, cause, also, reason, sent, changes),
         out,
@@ -390,6 +405,8 @@ fn is_silent(item: ItemHead) -> bool
 pub struct ItemLines<A: Allocator = Global> {
     /// The text.
     text: Gathered<A>,
+    /// The words that no definition has.
+    words: TextBuilder<A>,
     /// The reader of the fields of answers.
     answers: BlockReader<A>,
 }
@@ -399,6 +416,7 @@ impl<A: Allocator> Drop for ItemLines<A> {
     fn drop(self) {
         let Self {
             text: _,
+            words: _,
             answers: _,
         } = self;
     }
@@ -417,6 +435,7 @@ impl<A: Allocator + Copy> ItemLines<A> {
     pub fn new(alloc: A) -> Result<ItemLines<A>, AllocError> {
         Ok(ItemLines {
             text: Gathered::new(alloc),
+            words: TextBuilder::new(alloc),
             answers: answer_reader(alloc)?,
         })
     }
@@ -426,6 +445,11 @@ impl<A: Allocator + Copy> ItemLines<A> {
         ensures { result.now ≡ self.now }
     {
         self.text.octets.as_slice()
+    }
+
+    /// The memory of the octets, whatever they are: none is left here.
+    pub fn take(&mut self, alloc: A) -> Vec<u8, A> {
+        mem::replace(&mut self.text.octets, Vec::new(alloc))
     }
 
     /// Puts octets in the place of those before.
@@ -456,8 +480,11 @@ impl<A: Allocator + Copy> ItemLines<A> {
         if is_silent(item.what) {
             return gather(&opening.as_str(), &mut self.text);
         }
-        let words = words_of(alloc, item, account, reader, paint, &mut self.answers)?;
-        lines_with(item, &words, account, opening.as_str(), paint, &mut self.text)
+        let (answers, said) = (&mut self.answers, &mut self.words);
+        let ends = say_words(alloc, item, account, reader, paint, answers, said);
+        let words = self.words.octets()?;
+        let out = &mut self.text;
+        lines_with(item, words, ends, account, opening.as_str(), paint, out)
     }
 
     /// The same for an item that is no error and not ignored, after the first one.
@@ -477,7 +504,8 @@ impl<A: Allocator + Copy> ItemLines<A> {
             self.text.octets.clear();
             return Ok(());
         }
-        let words = words_of(alloc, item, account, reader, paint, &mut self.answers)?;
-        plain_lines(item, &words, paint, &mut self.text)
+        let (answers, said) = (&mut self.answers, &mut self.words);
+        let ends = say_words(alloc, item, account, reader, paint, answers, said);
+        plain_lines(item, self.words.octets()?, ends, paint, &mut self.text)
     }
 }

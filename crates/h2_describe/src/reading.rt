@@ -13,6 +13,7 @@ ghost use Rattle.h2_describe.specs.Spelled.{IsDone, IsStep, Spelled, fields_of, 
 use crate::spelled::{SpelledField, Spelling, Stopped};
 use h2_instruction::fault::BlockFault;
 use h2_instruction::instruction::{HpackString, Instr, InstrRead, Mode, Name, read_instr};
+use h2_instruction::shape::{Point, short_index};
 use h2_spec::octets::octets_from;
 use h2_table::{DynTable, static_field};
 use std::alloc::{AllocError, Allocator};
@@ -162,10 +163,17 @@ impl<A: Allocator + Copy> Reading<A> {
         }
     }
 
-    /// Carries out the instruction at the front of octets, if it is whole and not refused.
+    /// Carries out the instruction at the front of octets, if it is whole and not refused. An index of one octet, which is
+    /// most frequent, is read by itself.
     fn read_one(&mut self, alloc: A, octets: &[u8]) -> Result<Step, AllocError>
         ensures { IfOk result (λ step. IsStep self.old octets.now self.new step) }
     {
+        if let Some(index) = short_index(Point::start(), octets) {
+            return match self.indexed(alloc, index)? {
+                None => Ok(Step::Done(1)),
+                Some(stopped) => Ok(Step::Stop(Some(stopped))),
+            };
+        }
         match read_instr(alloc, octets) {
             Ok(InstrRead::Whole(instr, used)) => match self.carry_out(alloc, instr)? {
                 None => Ok(Step::Done(used)),

@@ -82,7 +82,7 @@ fn make_text<A: Allocator + Copy>(
     tally.note(item, account.facts, account.warnings)?;
     let reader = &explainer.reader;
     if form.json {
-        lines.set(json_of(alloc, item, account, reader)?);
+        lines.set(json_of(alloc, lines.take(alloc), item, account, reader)?);
         Ok(())
     } else {
         lines.put(alloc, item, account, reader, Paint(form.color))

@@ -1,0 +1,50 @@
+//! Octets that are written as they are, in a text and in a JSON string: those from a blank to `~`, but for `"` and `\`.
+//! No definition speaks of them.
+
+/// An octet of 1 in each place of a word.
+const ONES: u64 = 0x0101_0101_0101_0101;
+
+/// The highest bit of each octet of a word.
+const HIGHEST: u64 = 0x8080_8080_8080_8080;
+
+/// Whether an octet is written as it is.
+pub(crate) fn is_plain(octet: u8) -> bool {
+    (32..=126).contains(&octet) && octet != b'"' && octet != b'\\'
+}
+
+/// A word whose octets are all this one.
+const fn all_of(octet: u8) -> u64 {
+    ONES * (octet as u64)
+}
+
+/// Whether eight octets are written as they are. An octet of ASCII that is below another one, or equal to it, sets its
+/// highest bit in one of the differences; else none is set.
+fn is_plain_word(octets: [u8; 8]) -> bool {
+    let word = u64::from_le_bytes(octets);
+    let low = word.wrapping_sub(all_of(b' '));
+    let quote = (word ^ all_of(b'"')).wrapping_sub(ONES);
+    let backslash = (word ^ all_of(b'\\')).wrapping_sub(ONES);
+    let delete = (word ^ all_of(127)).wrapping_sub(ONES);
+    (word | low | quote | backslash | delete) & HIGHEST == 0
+}
+
+/// Whether up to eight octets are written as they are.
+fn is_plain_piece(piece: &[u8]) -> bool {
+    if let Some(octets) = piece.first_chunk::<8>() {
+        return is_plain_word(*octets);
+    }
+    let mut plain = true;
+    for octet in piece {
+        plain &= is_plain(*octet);
+    }
+    plain
+}
+
+/// Whether octets are written as they are, all of them.
+pub(crate) fn is_all_plain(octets: &[u8]) -> bool {
+    let mut plain = true;
+    for piece in octets.chunks(8) {
+        plain &= is_plain_piece(piece);
+    }
+    plain
+}
