@@ -82,7 +82,8 @@ fn make_text<A: Allocator + Copy>(
     tally.note(item, account.facts, account.warnings)?;
     let reader = &explainer.reader;
     if form.json {
-        lines.set(json_of(alloc, lines.take(alloc), item, account, reader)?);
+        let memory = lines.take(alloc);
+        lines.set(json_of(alloc, memory, item, account, reader)?);
         Ok(())
     } else {
         lines.put(alloc, item, account, reader, Paint(form.color))
