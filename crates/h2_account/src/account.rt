@@ -1,7 +1,6 @@
 //! What there is to show of an item: values of which the text and the JSON are views.
 
 use h2_changes::changes::{Changes, Moved};
-use h2_describe::say::TextBuilder;
 use h2_facts::special::CaseFacts;
 use h2_facts::warning::Warnings;
 use h2_item::header_table::EntryChange;
@@ -65,10 +64,5 @@ impl<A: Allocator + Copy> Account<A> {
             opening: Vec::new(alloc),
             is_full: false,
         }
-    }
-
-    /// A text in words that is empty yet; long texts are shown in it as they are asked for.
-    pub fn words(&self, alloc: A) -> TextBuilder<A> {
-        TextBuilder::with(alloc, self.is_full)
     }
 }

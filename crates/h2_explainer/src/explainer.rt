@@ -240,10 +240,11 @@ impl<A: Allocator + Copy> Explainer<A> {
         conn: &Conn<'_, A>,
         item: &Explained<'_>,
     ) -> Result<String<A>, AllocError> {
+        let Some(cause) = item.cause else {
+            return Ok(String::new(alloc));
+        };
         let mut text = TextBuilder::with(alloc, self.is_full);
-        if let Some(cause) = item.cause {
-            say_sentence(alloc, cause, self.context(conn, item), &mut text);
-        }
+        say_sentence(alloc, cause, self.context(conn, item), &mut text);
         text.finish()
     }
 

@@ -21,16 +21,6 @@ pub struct StreamNote {
     pub seen: Stream,
 }
 
-impl StreamNote {
-    /// Whether nothing changes where the stream is noted once more as it was seen last: its ends are noted already.
-    pub fn is_settled(&self) -> bool
-        ensures { result ≡ true → (number : ℕ) → noted self.now number number self.now.seen ≡ self.now }
-    {
-        let kind = self.seen.kind;
-        (self.ended > 0 || !has_client_ended(kind)) && (self.closed > 0 || !is_closed(kind))
-    }
-}
-
 /// What is noted of a connection; an item's number is 0 where there was none.
 #[derive(Drop)]
 pub struct Notes<A: Allocator = Global> {
@@ -71,6 +61,16 @@ fn is_noted(stream: &Stream) -> bool
     ensures { result ≡ is_noted stream.now }
 {
     stream.id != 0 && is_opened(stream.kind)
+}
+
+impl StreamNote {
+    /// Whether nothing changes where the stream is noted once more as it was seen last: its ends are noted already.
+    pub fn is_settled(&self) -> bool
+        ensures { result ≡ true → (number : ℕ) → noted self.now number number self.now.seen ≡ self.now }
+    {
+        let kind = self.seen.kind;
+        (self.ended > 0 || !has_client_ended(kind)) && (self.closed > 0 || !is_closed(kind))
+    }
 }
 
 /// The note of a stream of which nothing was noted.
