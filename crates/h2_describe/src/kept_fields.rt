@@ -27,6 +27,15 @@ impl<A: Allocator> Model for KeptFields<A> {
     ghost invariant = { λ k. k.count ≤ length k.fields.items };
 }
 
+/// A field without octets. Takes no memory.
+fn no_octets<A: Allocator + Copy>(alloc: A, spelling: Spelling) -> SpelledField<A> {
+    SpelledField {
+        name: Vec::new(alloc),
+        value: Vec::new(alloc),
+        spelling,
+    }
+}
+
 /// Puts a name and a value in the place of those of a field.
 fn fill<A: Allocator>(
     field: &mut SpelledField<A>,
@@ -101,15 +110,10 @@ impl<A: Allocator + Copy> KeptFields<A> {
         ensures unchanged { OnErr result (self.new ≡ self.old) }
         ensures kept { OnOk result (self.new ≡ self.old ++ record { field = record { name = name.now; value = value.now }; spelling = spelling_seen spelling } ∷ []) }
     {
-        if self.count < self.fields.len() {
-            fill(&mut self.fields[self.count], name, value, spelling)?;
-        } else {
-            self.fields.push(SpelledField {
-                name: Vec::from_slice(alloc, name)?,
-                value: Vec::from_slice(alloc, value)?,
-                spelling,
-            })?;
+        if self.count == self.fields.len() {
+            self.fields.push(no_octets(alloc, spelling))?;
         }
+        fill(&mut self.fields[self.count], name, value, spelling)?;
         self.count += 1;
         Ok(())
     }
