@@ -71,21 +71,9 @@ impl Say for JsonText<'_> {
     }
 }
 
-/// A part of a text, escaped for a JSON string.
-#[derive(Clone, Copy)]
-pub struct Escaped<S>(pub S);
-
-impl<S: Say> Say for Escaped<S> {
-    fn say<A: Allocator>(self, out: &mut TextBuilder<A>) {
-        let start = out.len();
-        self.0.say(out);
-        out.escape_from(start);
-    }
-}
-
 impl<A: Allocator> TextBuilder<A> {
-    /// Escapes what was put from here on.
-    fn escape_from(&mut self, start: usize) {
+    /// Escapes what was put from a place on.
+    pub fn escape_from(&mut self, start: usize) {
         if is_all_plain(self.octets_from(start)) {
             return;
         }

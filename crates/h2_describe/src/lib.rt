@@ -5,6 +5,7 @@
 
 pub mod frame_words;
 pub mod json_text;
+mod kept_fields;
 pub mod names;
 mod plain;
 mod reading;

@@ -17,10 +17,9 @@ const fn all_of(octet: u8) -> u64 {
     ONES * (octet as u64)
 }
 
-/// Whether eight octets are written as they are. An octet of ASCII that is below another one, or equal to it, sets its
+/// Whether the eight octets of a word are written as they are. An octet of ASCII that is below another one, or equal to it, sets its
 /// highest bit in one of the differences; else none is set.
-fn is_plain_word(octets: [u8; 8]) -> bool {
-    let word = u64::from_le_bytes(octets);
+fn is_plain_word(word: u64) -> bool {
     let low = word.wrapping_sub(all_of(b' '));
     let quote = (word ^ all_of(b'"')).wrapping_sub(ONES);
     let backslash = (word ^ all_of(b'\\')).wrapping_sub(ONES);
@@ -28,23 +27,25 @@ fn is_plain_word(octets: [u8; 8]) -> bool {
     (word | low | quote | backslash | delete) & HIGHEST == 0
 }
 
-/// Whether up to eight octets are written as they are.
-fn is_plain_piece(piece: &[u8]) -> bool {
-    if let Some(octets) = piece.first_chunk::<8>() {
-        return is_plain_word(*octets);
+/// The octets of a word, up to eight, and blanks.
+fn word_of(octets: &[u8]) -> u64 {
+    let mut word = all_of(b' ');
+    for octet in octets {
+        word = word << 8 | u64::from(*octet);
     }
-    let mut plain = true;
-    for octet in piece {
-        plain &= is_plain(*octet);
-    }
-    plain
+    word
 }
 
 /// Whether octets are written as they are, all of them.
 pub(crate) fn is_all_plain(octets: &[u8]) -> bool {
-    let mut plain = true;
+    let Some(last) = octets.last_chunk::<8>() else {
+        return is_plain_word(word_of(octets));
+    };
+    let mut plain = is_plain_word(u64::from_le_bytes(*last));
     for piece in octets.chunks(8) {
-        plain &= is_plain_piece(piece);
+        if let Some(word) = piece.first_chunk::<8>() {
+            plain &= is_plain_word(u64::from_le_bytes(*word));
+        }
     }
     plain
 }

@@ -10,6 +10,7 @@ ghost use Rattle.h2_instruction.specs.Shapes.{mode_of};
 ghost use Rattle.h2_table.specs.Lent.{lent_field};
 ghost use Rattle.h2_describe.specs.Spelled.{IsDone, IsStep, Spelled, fields_of, keep, literal_added, read_to, spelling_seen, stop_at};
 
+use crate::kept_fields::KeptFields;
 use crate::spelled::{SpelledField, Spelling, Stopped};
 use h2_instruction::fault::BlockFault;
 use h2_instruction::instruction::{HpackString, Instr, InstrRead, Mode, Name, read_instr};
@@ -27,7 +28,7 @@ const MOST: usize = 65536;
 #[derive(Drop)]
 pub(crate) struct Reading<A: Allocator> {
     table: DynTable<A>,
-    fields: Vec<SpelledField<A>, A>,
+    fields: KeptFields<A>,
     updates: Vec<u64, A>,
     /// What the fields count together, 32 each beside their octets.
     size: usize,
@@ -40,9 +41,9 @@ impl<A: Allocator> Model for Reading<A> {
 
     ghost Value = { spec.Reading };
 
-    ghost view = { λ r. record { table = r.table; fields = r.fields.items; updates = r.updates.items } };
+    ghost view = { λ r. record { table = r.table; fields = r.fields; updates = r.updates.items } };
 
-    ghost invariant = { λ r. r.size ≡ list_size (spec.fields_of r.fields.items) };
+    ghost invariant = { λ r. r.size ≡ list_size (spec.fields_of r.fields) };
 }
 
 /// What became of the instruction at the front of octets.
@@ -61,7 +62,7 @@ impl<A: Allocator + Copy> Reading<A> {
     {
         Ok(Reading {
             table: DynTable::new(alloc, limit)?,
-            fields: Vec::new(alloc),
+            fields: KeptFields::new(alloc),
             updates: Vec::new(alloc),
             size: 0,
         })
@@ -211,12 +212,10 @@ impl<A: Allocator + Copy> Reading<A> {
         if full {
             return Ok(None);
         }
-        let field = SpelledField {
-            name: Vec::from_slice(alloc, name)?,
-            value: Vec::from_slice(alloc, value)?,
-            spelling: Spelling::Indexed(index),
-        };
-        self.add(field)?;
+        let octets = name.len().saturating_add(value.len());
+        self.fields
+            .push_copied(alloc, name, value, Spelling::Indexed(index))?;
+        self.size = self.size.saturating_add(octets).saturating_add(32);
         Ok(None)
     }
 

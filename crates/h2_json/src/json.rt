@@ -14,7 +14,7 @@ use h2_account::text::{mode_name, read_answer, say_item};
 use h2_changes::changes::{Moved, ShownChange};
 use h2_changes::count::Count;
 use h2_describe::frame_words::say_frame_in;
-use h2_describe::json_text::{Escaped, JsonText};
+use h2_describe::json_text::JsonText;
 use h2_describe::names::{code_name, kind_name, registered_setting, registered_type, setting_name};
 use h2_describe::say::{Hex, HexOctet, Say, TextBuilder};
 use h2_describe::say_all;
@@ -196,13 +196,15 @@ fn put_goaway<A: Allocator>(last: u32, number: u32, payload: &[u8], out: &mut Js
     out.number(member!("last_stream"), u64::from(last));
 }
 
-/// A frame in words.
+/// A frame in words, for a JSON string.
 #[derive(Clone, Copy)]
 struct FrameWords<'f>(FrameRef<'f>, Option<Part<'f>>);
 
 impl Say for FrameWords<'_> {
     fn say<A: Allocator>(self, out: &mut TextBuilder<A>) {
+        let start = out.len();
         say_frame_in(self.0, self.1, true, out);
+        out.escape_from(start);
     }
 }
 
@@ -231,7 +233,7 @@ fn put_sent_frame<A: Allocator + Copy>(
     out.close();
     let part = part_of(frame).ok();
     put_payload(frame, part, out);
-    out.plain(member!("words"), Escaped(FrameWords(frame, part)));
+    out.plain(member!("words"), FrameWords(frame, part));
     out.close();
 }
 
@@ -541,13 +543,15 @@ fn put_why<A: Allocator + Copy>(
     }
 }
 
-/// An item in words.
+/// An item in words, for a JSON string.
 #[derive(Clone, Copy)]
 struct ItemWords<'i>(&'i Explained<'i>);
 
 impl Say for ItemWords<'_> {
     fn say<A: Allocator>(self, out: &mut TextBuilder<A>) {
+        let start = out.len();
         say_item(self.0, out);
+        out.escape_from(start);
     }
 }
 
@@ -606,7 +610,7 @@ pub fn json_of<A: Allocator + Copy>(
         put_updates(reader, &mut out);
     }
     put_warnings(account.warnings, &mut out);
-    out.plain(member!("words"), Escaped(ItemWords(item)));
+    out.plain(member!("words"), ItemWords(item));
     out.close();
     let mut octets = out.into_octets()?;
     octets.push(b'\n')?;
