@@ -232,6 +232,8 @@ impl Text for ReasonLines {
 /// Where each part but the last ends of the words of an item that no definition has, which are one text.
 #[derive(Clone, Copy)]
 struct Ends {
+    /// The end of the lines of what the server sent before the first item, which are empty for the others.
+    opening: usize,
     /// The end of the item in words.
     item: usize,
     /// The end of the lines of its fields, which are empty unless they are shown with it.
@@ -270,17 +272,6 @@ fn say_all_changes<A: Allocator + Copy>(
     say_entries(account.entries.as_slice(), paint, out);
 }
 
-/// The lines of what the server sent before the first item, empty for the others.
-fn opening_text<A: Allocator + Copy>(
-    alloc: A,
-    opening: &[u8],
-    paint: Paint,
-) -> Result<String<A>, AllocError> {
-    let mut words = TextBuilder::new(alloc);
-    say_opening(opening, paint, &mut words);
-    words.finish()
-}
-
 /// Puts the words of an item in the place of those before; `answers` reads the fields of answers.
 fn say_words<A: Allocator + Copy>(
     alloc: A,
@@ -292,6 +283,8 @@ fn say_words<A: Allocator + Copy>(
     out: &mut TextBuilder<A>,
 ) -> Ends {
     out.clear(account.is_full);
+    say_opening(account.opening.as_slice(), paint, out);
+    let opening = out.len();
     say_item(item, out);
     let item_end = out.len();
     say_shown_fields(account, reader, paint, out);
@@ -303,6 +296,7 @@ fn say_words<A: Allocator + Copy>(
     let sent = out.len();
     say_all_changes(account, paint, out);
     Ends {
+        opening,
         item: item_end,
         fields,
         also,
@@ -324,8 +318,8 @@ fn gather<A: Allocator, T: Text>(text: &T, out: &mut Gathered<A>) -> Result<(), 
     }
 }
 
-/// The first line of an item with these words, of which this is the end of the item in words.
-fn first_of<'w>(item: &Explained<'_>, words: &'w [u8], end: usize, paint: Paint) -> FirstLine<'w>
+/// The first line of an item with these words.
+fn first_of<'w>(item: &Explained<'_>, words: &'w [u8], ends: Ends, paint: Paint) -> FirstLine<'w>
     ensures number { result.number ≡ item.now.number }
     ensures offset { result.offset ≡ item.now.offset }
     ensures paint { result.paint ≡ paint }
@@ -334,7 +328,7 @@ fn first_of<'w>(item: &Explained<'_>, words: &'w [u8], end: usize, paint: Paint)
         paint,
         number: item.number,
         offset: item.offset as u64,
-        words: part(words, 0, end),
+        words: part(words, ends.opening, ends.item),
     }
 }
 
@@ -350,7 +344,7 @@ fn plain_lines<A: Allocator>(
     requires no_reason { item.now.ignored ≡ None }
     ensures { OnOk result ((w : Said) × (out.new.octets.items ≡ lines paint.0 item.now w)) }
 {
-    let first = first_of(item, words, ends.item, paint);
+    let first = first_of(item, words, ends, paint);
     let rest = part(words, ends.item, words.len());
     gather(&texts!(first, rest), out)
 }
@@ -361,13 +355,12 @@ fn lines_with<A: Allocator + Copy>(
     words: &[u8],
     ends: Ends,
     account: &Account<A>,
-    opening: &str,
     paint: Paint,
     out: &mut Gathered<A>,
 ) -> Result<(), AllocError>
     ensures { OnOk result ((w : Said) × (out.new.octets.items ≡ lines paint.0 item.now w)) }
 {
-    let first = first_of(item, words, ends.item, paint);
+    let first = first_of(item, words, ends, paint);
     let sentence = account.sentence.as_str();
     let cause = CauseLines {
         paint,
@@ -381,6 +374,7 @@ fn lines_with<A: Allocator + Copy>(
         ignored: item.ignored,
         case: case_of_reason(item, account.facts),
     };
+    let opening = part(words, 0, ends.opening);
     let fields = part(words, ends.item, ends.fields);
     let also = part(words, ends.fields, ends.also);
     let sent = part(words, ends.also, ends.sent);
@@ -473,39 +467,16 @@ impl<A: Allocator + Copy> ItemLines<A> {
     ) -> Result<(), AllocError>
         ensures { OnOk result ((w : Said) × (self.new ≡ lines_of paint.0 item.now w)) }
     {
-        if account.opening.is_empty() && item.cause.is_none() && item.ignored.is_none() {
-            return self.put_plain(alloc, item, account, reader, paint);
-        }
-        let opening = opening_text(alloc, account.opening.as_slice(), paint)?;
-        if is_silent(item.what) {
-            return gather(&opening.as_str(), &mut self.text);
-        }
         let (answers, said) = (&mut self.answers, &mut self.words);
         let ends = say_words(alloc, item, account, reader, paint, answers, said);
         let words = self.words.octets()?;
         let out = &mut self.text;
-        lines_with(item, words, ends, account, opening.as_str(), paint, out)
-    }
-
-    /// The same for an item that is no error and not ignored, after the first one.
-    fn put_plain(
-        &mut self,
-        alloc: A,
-        item: &Explained<'_>,
-        account: &Account<A>,
-        reader: &BlockReader<A>,
-        paint: Paint,
-    ) -> Result<(), AllocError>
-        requires no_cause { item.now.cause ≡ None }
-        requires no_reason { item.now.ignored ≡ None }
-        ensures { OnOk result ((w : Said) × (self.new ≡ lines_of paint.0 item.now w)) }
-    {
         if is_silent(item.what) {
-            self.text.octets.clear();
-            return Ok(());
+            return gather(&part(words, 0, ends.opening), out);
         }
-        let (answers, said) = (&mut self.answers, &mut self.words);
-        let ends = say_words(alloc, item, account, reader, paint, answers, said);
-        plain_lines(item, self.words.octets()?, ends, paint, &mut self.text)
+        if ends.opening == 0 && item.cause.is_none() && item.ignored.is_none() {
+            return plain_lines(item, words, ends, paint, out);
+        }
+        lines_with(item, words, ends, account, paint, out)
     }
 }

@@ -191,12 +191,12 @@ impl<A: Allocator + Copy> Explanation<A> {
     pub fn new(alloc: A, form: Form) -> Result<Explanation<A>, AllocError>
         ensures { IfOk result (λ new. IsNew form new) }
     {
-        let mut explainer = Explainer::new(alloc)?;
-        explainer.is_full = form.full;
         let text = ItemText {
             account: Account::new(alloc),
             lines: ItemLines::new(alloc)?,
         };
+        let mut explainer = Explainer::new(alloc)?;
+        explainer.is_full = form.full;
         Ok(Explanation {
             form,
             explainer,

@@ -5,7 +5,7 @@ use Rattle.h2_account.proofs.lines.lines_with.Goals as goal
 
 pub returns : goal.returns
 returns g c =
-    let w : Words = record { opening = c.args.opening.now; item = c.first_of-first.result.words.0.now; facts = c.args.account.now.facts; fields = c.part-fields.result.0.now; sentence = c.as_str-sentence.result.now; also = c.part-also.result.0.now; sent = c.part-sent.result.0.now; changes = c.part-changes.result.0.now } in
+    let w : Words = record { opening = c.part-opening.result.0.now; item = c.first_of-first.result.words.0.now; facts = c.args.account.now.facts; fields = c.part-fields.result.0.now; sentence = c.as_str-sentence.result.now; also = c.part-also.result.0.now; sent = c.part-sent.result.0.now; changes = c.part-changes.result.0.now } in
     on_ok_weaker c.gather.result
     (λ h. (w, h ∙ rw (c.first_of-first.ensures.paint, c.first_of-first.ensures.number, c.first_of-first.ensures.offset, c.case_of_error.ensures, c.case_of_reason.ensures) refl))
     c.gather.ensures

@@ -7,5 +7,5 @@ pub returns-then-is_silent : goal.returns-then-is_silent
 returns-then-is_silent g c =
     let silent = sym c.is_silent.ensures ∙ c.if-is_silent.true in
     on_ok_weaker c.gather.result
-    (λ h. (opening_alone c.as_str.result.now, silent_lines _ c.as_str.result.now c.args.paint.0 c.args.item.now silent h))
+    (λ h. (opening_alone c.part.result.0.now, silent_lines _ c.part.result.0.now c.args.paint.0 c.args.item.now silent h))
     c.gather.ensures
