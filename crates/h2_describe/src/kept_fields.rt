@@ -64,11 +64,14 @@ impl<A: Allocator + Copy> KeptFields<A> {
         }
     }
 
-    /// None is kept more; their memory stays.
-    pub(crate) fn clear(&mut self)
+    /// None is kept more. Their memory stays, unless they were large.
+    pub(crate) fn clear(&mut self, were_large: bool)
         ensures { self.new ≡ [] }
     {
         self.count = 0;
+        if were_large {
+            self.fields.clear();
+        }
     }
 
     /// The fields.

@@ -17,8 +17,8 @@ const fn all_of(octet: u8) -> u64 {
     ONES * (octet as u64)
 }
 
-/// Whether the eight octets of a word are written as they are. An octet of ASCII that is below another one, or equal to it, sets its
-/// highest bit in one of the differences; else none is set.
+/// Whether the eight octets of a word are written as they are. An octet above 127 has its highest bit set. Where there is
+/// none, a difference has such a bit where an octet is below a blank, or is the one that is looked for, and only then.
 fn is_plain_word(word: u64) -> bool {
     let low = word.wrapping_sub(all_of(b' '));
     let quote = (word ^ all_of(b'"')).wrapping_sub(ONES);

@@ -24,6 +24,10 @@ use std::marker::Model;
 /// of the connection's decoder (RFC 9113, 10.5.1).
 const MOST: usize = 65536;
 
+/// The most that the fields of a block may count for their memory to be used again, in octets: so it is at most that of
+/// 128 fields of this size.
+const REUSED: usize = 4096;
+
 /// How far a block has got: the dynamic table, the fields that are kept, and the table size updates.
 #[derive(Drop)]
 pub(crate) struct Reading<A: Allocator> {
@@ -80,7 +84,7 @@ impl<A: Allocator + Copy> Reading<A> {
     pub(crate) fn begin(&mut self)
         ensures { self.new ≡ record self.old { fields = []; updates = [] } }
     {
-        self.fields.clear();
+        self.fields.clear(self.size > REUSED);
         self.updates.clear();
         self.size = 0;
     }

@@ -118,7 +118,7 @@ impl<A: Allocator> TextBuilder<A> {
     /// grow.
     #[cold]
     #[inline(never)]
-    pub fn reserve(&mut self, more: usize) {
+    fn reserve(&mut self, more: usize) {
         let wanted = self.len.saturating_add(more);
         let held = self.octets.capacity();
         let size = if wanted <= held {
@@ -179,7 +179,7 @@ impl<A: Allocator> TextBuilder<A> {
 
     /// Puts a text last.
     #[inline(always)]
-    pub fn text(&mut self, part: &str) {
+    pub(crate) fn text(&mut self, part: &str) {
         self.utf8(part.as_bytes());
     }
 

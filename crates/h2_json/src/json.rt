@@ -30,7 +30,7 @@ use h2_spec::octets::octets_from;
 use h2_spec::special_cases::SpecialCase;
 use std::alloc::{AllocError, Allocator};
 
-/// What is behind the name of the hex of octets: those that are shown, and how many there are where these are not all.
+/// What comes after the name of the hex of octets: those that are shown, and how many there are where these are not all.
 fn put_hex<A: Allocator>(shown: &[u8], octets: &[u8], out: &mut JsonWords<A>) {
     out.quoted(Hex(shown));
     if shown.len() < octets.len() {
@@ -46,7 +46,7 @@ fn put_octets<A: Allocator>(hex: Member, octets: &[u8], out: &mut JsonWords<A>) 
     put_shown(octets, out);
 }
 
-/// What is behind the name of octets: the value of their hex, and their text where those that are shown are UTF-8.
+/// What comes after the name of octets: the value of their hex, and their text where those that are shown are UTF-8.
 fn put_shown<A: Allocator>(octets: &[u8], out: &mut JsonWords<A>) {
     let shown = out.shown_of(octets);
     put_hex(shown, octets, out);

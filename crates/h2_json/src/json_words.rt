@@ -41,8 +41,8 @@ fn written(member: Member, follows: bool) -> &'static str {
     }
 }
 
-/// A JSON text that grows. Members are put into the object that was opened last. As a text in words, it takes nothing
-/// more once memory was refused.
+/// A JSON text that grows. Members are put into the object that was opened last. As a text in words, it is refused as a
+/// whole where memory for a part was.
 #[derive(Drop)]
 pub struct JsonWords<A: Allocator> {
     words: TextBuilder<A>,
