@@ -9,7 +9,8 @@ ghost use Rattle.h2_facts.specs.Special.{rule_of_cause, rule_of_reason};
 use crate::account::Account;
 use crate::paint::{Paint, Role};
 use crate::text::{
-    answer_reader, say_all_moved, say_also, say_changes, say_entries, say_fields, say_item, say_opening, say_sent,
+    answer_reader, say_all_moved, say_also, say_changes, say_entries, say_fields, say_item,
+    say_opening, say_sent,
 };
 use crate::warning_words::say_warnings;
 use h2_describe::names::{error_name, scope_word};

@@ -306,11 +306,7 @@ pub(crate) fn say_entries<A: Allocator + Copy>(
 }
 
 /// Puts the lines of the frames that the server sent before the first item last, if there are any: none has fields.
-pub(crate) fn say_opening<A: Allocator>(
-    opening: &[u8],
-    paint: Paint,
-    out: &mut TextBuilder<A>,
-) {
+pub(crate) fn say_opening<A: Allocator>(opening: &[u8], paint: Paint, out: &mut TextBuilder<A>) {
     if opening.is_empty() {
         return;
     }

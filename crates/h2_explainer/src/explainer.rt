@@ -378,7 +378,14 @@ impl<A: Allocator + Copy> Explainer<A> {
         account.sentence = self.sentence(alloc, conn, item)?;
         account.also = self.others(alloc, conn, item)?;
         let sent = sent_streams(alloc, item)?;
-        put_moved(conn, item, &self.notes, &self.live, &sent, &mut account.moved)?;
+        put_moved(
+            conn,
+            item,
+            &self.notes,
+            &self.live,
+            &sent,
+            &mut account.moved,
+        )?;
         self.put_changes(conn, item, &mut account.changes)?;
         self.note_rest(conn, item, &sent)?;
         account.opening = opening_of(alloc, conn, item.number == 1)?;
