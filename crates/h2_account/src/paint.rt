@@ -73,7 +73,7 @@ impl Paint {
         self.start(role, out);
     }
 
-    /// Begins a line below the first one of an item with these words, which are given behind the blanks that such a line
+    /// Begins a line below the first one of an item with these words, which are given after the blanks that such a line
     /// begins with: without colours that is one part of the text.
     pub fn lead<A: Allocator>(self, role: Role, indented: &str, out: &mut TextBuilder<A>) {
         if self.0 {
