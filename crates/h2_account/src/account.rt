@@ -1,7 +1,6 @@
 //! What there is to show of an item: values of which the text and the JSON are views.
 
 use h2_changes::changes::{Changes, Moved};
-use h2_describe::say::TextBuilder;
 use h2_facts::special::CaseFacts;
 use h2_facts::warning::Warnings;
 use h2_item::header_table::EntryChange;
@@ -51,8 +50,19 @@ impl<A: Allocator> Drop for Account<A> {
 }
 
 impl<A: Allocator + Copy> Account<A> {
-    /// A text in words that is empty yet; long texts are shown in it as they are asked for.
-    pub fn words(&self, alloc: A) -> TextBuilder<A> {
-        TextBuilder::with(alloc, self.is_full)
+    /// Nothing is said yet. Takes no memory.
+    pub fn new(alloc: A) -> Account<A> {
+        Account {
+            sentence: String::new(alloc),
+            also: Vec::new(alloc),
+            facts: CaseFacts::none(),
+            warnings: Warnings::none(),
+            shows_fields: false,
+            changes: Vec::new(alloc),
+            moved: Vec::new(alloc),
+            entries: Vec::new(alloc),
+            opening: Vec::new(alloc),
+            is_full: false,
+        }
     }
 }

@@ -2,20 +2,21 @@
 //! of its error or of why it is ignored, of the frames that were sent, and of what changed. Definitions:
 //! `specs/Lines.antt`, the format: docs/FORMATS.md.
 
-ghost use Rattle.std.specs.Prelude.{◌≡◌, IfOk};
+ghost use Rattle.std.specs.Prelude.{◌≡◌, None, OnOk};
 ghost use Rattle.h2_account.specs.Lines.{Words as Said, blanks, cause_lines, error_lines, first_line, ignored_lines, is_silent, lines, lines_of, reason_lines, rule_lines, scope};
 ghost use Rattle.h2_facts.specs.Special.{rule_of_cause, rule_of_reason};
 
 use crate::account::Account;
 use crate::paint::{Paint, Role};
 use crate::text::{
-    say_all_moved, say_also, say_changes, say_entries, say_fields, say_item, say_opening, say_sent,
+    answer_reader, say_all_moved, say_also, say_changes, say_entries, say_fields, say_item,
+    say_opening, say_sent,
 };
 use crate::warning_words::say_warnings;
 use h2_describe::names::{error_name, scope_word};
 use h2_describe::say::TextBuilder;
 use h2_describe::spelled::BlockReader;
-use h2_device::{DeviceFault, Number, Output, Text, octets_with, texts};
+use h2_device::{DeviceFault, Gathered, Number, Output, Text, texts};
 use h2_facts::special::{Rule, case_of_error, case_of_reason, rule_of_cause, rule_of_reason};
 use h2_item::item::Explained;
 use h2_spec::causes::Cause;
@@ -23,7 +24,9 @@ use h2_spec::connection::Phase;
 use h2_spec::frames::ItemHead;
 use h2_spec::ignored::Ignored;
 use h2_spec::special_cases::SpecialCase;
-use std::alloc::{AllocError, Allocator};
+use std::alloc::{AllocError, Allocator, Global};
+use std::marker::Model;
+use std::mem;
 
 /// The beginning of each line below the first one of an item.
 const INDENT: &str = "        ";
@@ -39,18 +42,30 @@ fn blanks(number: u64, offset: u64) -> &'static str
     }
 }
 
+/// Octets of a text, as they are.
+#[derive(Clone, Copy)]
+struct Octets<'o>(&'o [u8]);
+
+impl Text for Octets<'_> {
+    ghost text = { λ o. o.0.now };
+
+    fn write_to<O: Output>(&self, output: &mut O) -> Result<(), DeviceFault> {
+        output.write(self.0)
+    }
+}
+
 /// The first line of an item.
 #[derive(Clone, Copy)]
 struct FirstLine<'w> {
     paint: Paint,
     number: u64,
     offset: u64,
-    words: &'w str,
+    words: Octets<'w>,
 }
 
 #[tactic(auto, unfolding(crate::specs::Lines::first_line))]
 impl Text for FirstLine<'_> {
-    ghost text = { λ l. first_line l.paint.0 l.number l.offset l.words.now };
+    ghost text = { λ l. first_line l.paint.0 l.number l.offset l.words.0.now };
 
     fn write_to<O: Output>(&self, output: &mut O) -> Result<(), DeviceFault> {
         let start = self.paint.started(Role::Item);
@@ -215,11 +230,11 @@ impl Text for ReasonLines {
     }
 }
 
-/// The words of an item that no definition has, one part after another in one text, and where each part but the last
-/// ends.
-#[derive(Drop)]
-struct ItemWords<A: Allocator> {
-    text: String<A>,
+/// Where each part but the last ends of the words of an item that no definition has, which are one text.
+#[derive(Clone, Copy)]
+struct Ends {
+    /// The end of the lines of what the server sent before the first item, which are empty for the others.
+    opening: usize,
     /// The end of the item in words.
     item: usize,
     /// The end of the lines of its fields, which are empty unless they are shown with it.
@@ -230,11 +245,9 @@ struct ItemWords<A: Allocator> {
     sent: usize,
 }
 
-impl<A: Allocator> ItemWords<A> {
-    /// What is between two ends of parts.
-    fn part(&self, from: usize, to: usize) -> &str {
-        self.text.as_str().get(from..to).unwrap_or("")
-    }
+/// What is between two ends of parts.
+fn part(words: &[u8], from: usize, to: usize) -> Octets<'_> {
+    Octets(words.get(from..to).unwrap_or(&[]))
 }
 
 /// Puts the lines of the fields of the block that ends with an item last, if they are shown with it.
@@ -260,72 +273,95 @@ fn say_all_changes<A: Allocator + Copy>(
     say_entries(account.entries.as_slice(), paint, out);
 }
 
-/// The lines of what the server sent before the first item, empty for the others.
-fn opening_text<A: Allocator + Copy>(
-    alloc: A,
-    opening: &[u8],
-    paint: Paint,
-) -> Result<String<A>, AllocError> {
-    let mut words = TextBuilder::new(alloc);
-    say_opening(alloc, opening, paint, &mut words);
-    words.finish()
-}
-
-/// The words of an item.
-fn words_of<A: Allocator + Copy>(
+/// Puts the words of an item in the place of those before; `answers` reads the fields of answers.
+fn say_words<A: Allocator + Copy>(
     alloc: A,
     item: &Explained<'_>,
     account: &Account<A>,
     reader: &BlockReader<A>,
     paint: Paint,
-) -> Result<ItemWords<A>, AllocError> {
-    let mut words = account.words(alloc);
-    say_item(item, &mut words);
-    let item_end = words.len();
-    say_shown_fields(account, reader, paint, &mut words);
-    let fields = words.len();
-    say_also(account.also.as_slice(), paint, &mut words);
-    let also = words.len();
-    say_warnings(account.warnings, paint, &mut words);
-    say_sent(alloc, item.sent, paint, &mut words);
-    let sent = words.len();
-    say_all_changes(account, paint, &mut words);
-    Ok(ItemWords {
-        text: words.finish()?,
+    answers: &mut BlockReader<A>,
+    out: &mut TextBuilder<A>,
+) -> Ends {
+    out.clear(account.is_full);
+    say_opening(account.opening.as_slice(), paint, out);
+    let opening = out.len();
+    say_item(item, out);
+    let item_end = out.len();
+    say_shown_fields(account, reader, paint, out);
+    let fields = out.len();
+    say_also(account.also.as_slice(), paint, out);
+    let also = out.len();
+    say_warnings(account.warnings, paint, out);
+    say_sent(alloc, item.sent, paint, answers, out);
+    let sent = out.len();
+    say_all_changes(account, paint, out);
+    Ends {
+        opening,
         item: item_end,
         fields,
         also,
         sent,
-    })
+    }
 }
 
-/// How many octets the lines of an item take, about: those of its words, of its opening and of its sentence, some for its
-/// number and its offset, and those of the rule, where it is an error or ignored.
-fn room_for(has_rule: bool, words: usize, opening: &str, sentence: &str) -> usize {
-    let rule = if has_rule { 400 } else { 40 };
-    words
-        .saturating_add(opening.len())
-        .saturating_add(sentence.len())
-        .saturating_add(rule)
+/// Puts a text in the place of what was gathered.
+///
+/// `AllocError` where memory for it is refused.
+fn gather<A: Allocator, T: Text>(text: &T, out: &mut Gathered<A>) -> Result<(), AllocError>
+    ensures { OnOk result (out.new.octets.items ≡ T.text text.now) }
+{
+    out.octets.clear();
+    out.failed = false;
+    match text.write_to(out) {
+        Ok(()) => Ok(()),
+        Err(_) => Err(AllocError),
+    }
+}
+
+/// The first line of an item with these words.
+fn first_of<'w>(item: &Explained<'_>, words: &'w [u8], ends: Ends, paint: Paint) -> FirstLine<'w>
+    ensures number { result.number ≡ item.now.number }
+    ensures offset { result.offset ≡ item.now.offset }
+    ensures paint { result.paint ≡ paint }
+{
+    FirstLine {
+        paint,
+        number: item.number,
+        offset: item.offset as u64,
+        words: part(words, ends.opening, ends.item),
+    }
+}
+
+/// The lines of an item with these words that is no error and not ignored, without those of an opening.
+fn plain_lines<A: Allocator>(
+    item: &Explained<'_>,
+    words: &[u8],
+    ends: Ends,
+    paint: Paint,
+    out: &mut Gathered<A>,
+) -> Result<(), AllocError>
+    requires no_cause { item.now.cause ≡ None }
+    requires no_reason { item.now.ignored ≡ None }
+    ensures { OnOk result ((w : Said) × (out.new.octets.items ≡ lines paint.0 item.now w)) }
+{
+    let first = first_of(item, words, ends, paint);
+    let rest = part(words, ends.item, words.len());
+    gather(&texts!(first, rest), out)
 }
 
 /// The lines of an item with these words.
 fn lines_with<A: Allocator + Copy>(
-    alloc: A,
     item: &Explained<'_>,
-    words: &ItemWords<A>,
+    words: &[u8],
+    ends: Ends,
     account: &Account<A>,
-    opening: &str,
     paint: Paint,
-) -> Result<Vec<u8, A>, AllocError>
-    ensures { IfOk result (λ octets. (w : Said) × (octets.items ≡ lines paint.0 item.now w)) }
+    out: &mut Gathered<A>,
+) -> Result<(), AllocError>
+    ensures { OnOk result ((w : Said) × (out.new.octets.items ≡ lines paint.0 item.now w)) }
 {
-    let first = FirstLine {
-        paint,
-        number: item.number,
-        offset: item.offset as u64,
-        words: words.part(0, words.item),
-    };
+    let first = first_of(item, words, ends, paint);
     let sentence = account.sentence.as_str();
     let cause = CauseLines {
         paint,
@@ -339,16 +375,14 @@ fn lines_with<A: Allocator + Copy>(
         ignored: item.ignored,
         case: case_of_reason(item, account.facts),
     };
-    let fields = words.part(words.item, words.fields);
-    let also = words.part(words.fields, words.also);
-    let sent = words.part(words.also, words.sent);
-    let changes = words.part(words.sent, words.text.len());
-    let has_rule = item.cause.is_some() || item.ignored.is_some();
-    let room = room_for(has_rule, words.text.len(), opening, sentence);
-    octets_with(
-        alloc,
-        room,
+    let opening = part(words, 0, ends.opening);
+    let fields = part(words, ends.item, ends.fields);
+    let also = part(words, ends.fields, ends.also);
+    let sent = part(words, ends.also, ends.sent);
+    let changes = part(words, ends.sent, words.len());
+    gather(
         &texts!(opening, first, fields, cause, also, reason, sent, changes),
+        out,
     )
 }
 
@@ -362,23 +396,88 @@ fn is_silent(item: ItemHead) -> bool
     }
 }
 
-/// The octets of the text of an item, before it that of the server's opening, if the item is the first; that of the
-/// preface itself is empty. `reader` has the fields of its block.
-///
-/// `AllocError` where memory is refused.
-pub fn lines_of<A: Allocator + Copy>(
-    alloc: A,
-    item: &Explained<'_>,
-    account: &Account<A>,
-    reader: &BlockReader<A>,
-    paint: Paint,
-) -> Result<Vec<u8, A>, AllocError>
-    ensures { IfOk result (λ octets. (w : Said) × (octets.items ≡ lines_of paint.0 item.now w)) }
-{
-    let opening = opening_text(alloc, account.opening.as_slice(), paint)?;
-    if is_silent(item.what) {
-        return Ok(opening.into_bytes());
+/// The text of an item, and memory that is used again for those after it.
+pub struct ItemLines<A: Allocator = Global> {
+    /// The text.
+    text: Gathered<A>,
+    /// The words that no definition has.
+    words: TextBuilder<A>,
+    /// The reader of the fields of answers.
+    answers: BlockReader<A>,
+}
+
+/// By hand, so that a function that drops one makes one call.
+impl<A: Allocator> Drop for ItemLines<A> {
+    fn drop(self) {
+        let Self {
+            text: _,
+            words: _,
+            answers: _,
+        } = self;
     }
-    let words = words_of(alloc, item, account, reader, paint)?;
-    lines_with(alloc, item, &words, account, opening.as_str(), paint)
+}
+
+impl<A: Allocator> Model for ItemLines<A> {
+    ghost use Rattle.std.specs.Prelude.{ℕ, List};
+
+    ghost Value = { List ℕ };
+
+    ghost view = { λ l. l.text.octets.items };
+}
+
+impl<A: Allocator + Copy> ItemLines<A> {
+    /// No text yet.
+    pub fn new(alloc: A) -> Result<ItemLines<A>, AllocError> {
+        Ok(ItemLines {
+            text: Gathered::new(alloc),
+            words: TextBuilder::new(alloc),
+            answers: answer_reader(alloc)?,
+        })
+    }
+
+    /// The octets of the text.
+    pub fn octets(&self) -> &[u8]
+        ensures { result.now ≡ self.now }
+    {
+        self.text.octets.as_slice()
+    }
+
+    /// The memory of the octets, whatever they are: none is left here.
+    pub fn take(&mut self, alloc: A) -> Vec<u8, A> {
+        mem::replace(&mut self.text.octets, Vec::new(alloc))
+    }
+
+    /// Puts octets in the place of those before.
+    pub fn set(&mut self, octets: Vec<u8, A>)
+        ensures { self.new ≡ octets.items }
+    {
+        self.text.octets = octets;
+    }
+
+    /// Puts the text of an item in the place of that before, and first that of the server's opening, if the item is the
+    /// first; that of the preface itself is empty. `reader` has the fields of its block.
+    ///
+    /// `AllocError` where memory is refused.
+    pub fn put(
+        &mut self,
+        alloc: A,
+        item: &Explained<'_>,
+        account: &Account<A>,
+        reader: &BlockReader<A>,
+        paint: Paint,
+    ) -> Result<(), AllocError>
+        ensures { OnOk result ((w : Said) × (self.new ≡ lines_of paint.0 item.now w)) }
+    {
+        let (answers, said) = (&mut self.answers, &mut self.words);
+        let ends = say_words(alloc, item, account, reader, paint, answers, said);
+        let words = self.words.octets()?;
+        let out = &mut self.text;
+        if is_silent(item.what) {
+            return gather(&part(words, 0, ends.opening), out);
+        }
+        if ends.opening == 0 && item.cause.is_none() && item.ignored.is_none() {
+            return plain_lines(item, words, ends, paint, out);
+        }
+        lines_with(item, words, ends, account, paint, out)
+    }
 }

@@ -73,6 +73,17 @@ impl Paint {
         self.start(role, out);
     }
 
+    /// Begins a line below the first one of an item with these words, which are given after the blanks that such a line
+    /// begins with: without colours that is one part of the text.
+    pub fn lead<A: Allocator>(self, role: Role, indented: &str, out: &mut TextBuilder<A>) {
+        if self.0 {
+            self.begin(role, out);
+            say_all!(out; indented.trim_start());
+        } else {
+            say_all!(out; indented);
+        }
+    }
+
     /// Ends a line.
     pub fn end<A: Allocator>(self, out: &mut TextBuilder<A>) {
         say_all!(out; self.ended());

@@ -142,7 +142,7 @@ fn rest_words<A: Allocator + Copy>(
     paint: Paint,
 ) -> Result<String<A>, AllocError> {
     let mut words = TextBuilder::new(alloc);
-    say_opening(alloc, opening, paint, &mut words);
+    say_opening(opening, paint, &mut words);
     say_place(rest.offset, paint, &mut words);
     say_count(rest.octets, &mut words);
     match rest.ended {

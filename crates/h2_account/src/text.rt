@@ -50,22 +50,22 @@ fn string_name(huffman: bool) -> &'static str {
     if huffman { "Huffman" } else { "plain" }
 }
 
-/// Puts last how a field was spelled.
+/// Puts the end of a value last, and how its field was spelled.
 fn say_spelling<A: Allocator>(spelling: Spelling, out: &mut TextBuilder<A>) {
     match spelling {
-        Spelling::Indexed(index) => say_all!(out; "index ", index),
+        Spelling::Indexed(index) => say_all!(out; "\" (index ", index),
         Spelling::Literal(mode, Some(index), _, huffman) => say_all!(out;
-            mode_name(mode), ", name of index ", index, ", value ", string_name(huffman)),
+            "\" (", mode_name(mode), ", name of index ", index, ", value ", string_name(huffman)),
         Spelling::Literal(mode, None, name, value) => say_all!(out;
-            mode_name(mode), ", name ", string_name(name), ", value ", string_name(value)),
+            "\" (", mode_name(mode), ", name ", string_name(name), ", value ", string_name(value)),
     }
 }
 
 /// Puts the line of a field last.
 fn say_field<A: Allocator>(field: &SpelledField<A>, paint: Paint, out: &mut TextBuilder<A>) {
-    paint.begin(Role::Field, out);
+    paint.lead(Role::Field, "        field ", out);
     let (name, value) = (Cut(field.name.as_slice()), Cut(field.value.as_slice()));
-    say_all!(out; "field ", name, ": \"", value, "\" (");
+    say_all!(out; name, ": \"", value);
     say_spelling(field.spelling, out);
     say_all!(out; ")");
     paint.end(out);
@@ -100,22 +100,41 @@ pub(crate) fn say_fields<A: Allocator + Copy>(
 /// size update that they begin with is one to 0 (RFC 7541, 4.2 and 6.2.2): so a table without space reads them all.
 const ANSWER_TABLE: u32 = 0;
 
+/// A reader of the fields of answers, one after another.
+pub(crate) fn answer_reader<A: Allocator + Copy>(alloc: A) -> Result<BlockReader<A>, AllocError> {
+    BlockReader::new(alloc, ANSWER_TABLE)
+}
+
 /// The fields of an answer.
 pub fn read_answer<A: Allocator + Copy>(
     alloc: A,
     block: &[u8],
 ) -> Result<BlockReader<A>, AllocError> {
-    let mut reader = BlockReader::new(alloc, ANSWER_TABLE)?;
+    let mut reader = answer_reader(alloc)?;
     reader.read(alloc, block)?;
     Ok(reader)
 }
 
 /// Puts the lines of the fields of an answer last.
-fn say_answer<A: Allocator + Copy>(alloc: A, block: &[u8], paint: Paint, out: &mut TextBuilder<A>) {
-    match read_answer(alloc, block) {
-        Ok(reader) => say_fields(&reader, paint, out),
+fn say_answer<A: Allocator + Copy>(
+    alloc: A,
+    block: &[u8],
+    paint: Paint,
+    answers: &mut BlockReader<A>,
+    out: &mut TextBuilder<A>,
+) {
+    answers.begin();
+    match answers.read(alloc, block) {
+        Ok(()) => say_fields(answers, paint, out),
         Err(_) => out.refuse(),
     }
+}
+
+/// Puts the line of a frame that was sent last.
+fn say_sent_line<A: Allocator>(frame: FrameRef<'_>, paint: Paint, out: &mut TextBuilder<A>) {
+    paint.lead(Role::Sent, "        sent ", out);
+    say_frame(frame, out);
+    paint.end(out);
 }
 
 /// Puts the line of a frame that was sent last, and those of its fields.
@@ -123,22 +142,21 @@ fn say_sent_frame<A: Allocator + Copy>(
     alloc: A,
     frame: FrameRef<'_>,
     paint: Paint,
+    answers: &mut BlockReader<A>,
     out: &mut TextBuilder<A>,
 ) {
-    paint.begin(Role::Sent, out);
-    say_all!(out; "sent ");
-    say_frame(frame, out);
-    paint.end(out);
+    say_sent_line(frame, paint, out);
     if let FrameType::Headers = frame.head.frame_type() {
-        say_answer(alloc, frame.payload, paint, out);
+        say_answer(alloc, frame.payload, paint, answers, out);
     }
 }
 
-/// Puts the lines of the frames that were sent last.
+/// Puts the lines of the frames that were sent last; `answers` reads the fields of answers.
 pub(crate) fn say_sent<A: Allocator + Copy>(
     alloc: A,
     sent: &[u8],
     paint: Paint,
+    answers: &mut BlockReader<A>,
     out: &mut TextBuilder<A>,
 ) {
     let mut rest = sent;
@@ -147,7 +165,7 @@ pub(crate) fn say_sent<A: Allocator + Copy>(
             return;
         };
         rest = after;
-        say_sent_frame(alloc, frame, paint, out);
+        say_sent_frame(alloc, frame, paint, answers, out);
     }
 }
 
@@ -287,20 +305,22 @@ pub(crate) fn say_entries<A: Allocator + Copy>(
     }
 }
 
-/// Puts the lines of the frames that the server sent before the first item last, if there are any.
-pub(crate) fn say_opening<A: Allocator + Copy>(
-    alloc: A,
-    opening: &[u8],
-    paint: Paint,
-    out: &mut TextBuilder<A>,
-) {
+/// Puts the lines of the frames that the server sent before the first item last, if there are any: none has fields.
+pub(crate) fn say_opening<A: Allocator>(opening: &[u8], paint: Paint, out: &mut TextBuilder<A>) {
     if opening.is_empty() {
         return;
     }
     paint.start(Role::Item, out);
     say_all!(out; "#0 @0   the server's opening");
     paint.end(out);
-    say_sent(alloc, opening, paint, out);
+    let mut rest = opening;
+    for _frame in 0..opening.len() {
+        let Some((frame, after)) = next_frame(rest) else {
+            return;
+        };
+        rest = after;
+        say_sent_line(frame, paint, out);
+    }
 }
 
 /// Puts the line of the other causes that hold of a block last, if there are any.

@@ -22,6 +22,9 @@ pub(crate) fn say_warnings<A: Allocator>(
     paint: Paint,
     out: &mut TextBuilder<A>,
 ) {
+    if warnings.count() == 0 {
+        return;
+    }
     for warning in all_warnings() {
         if warnings.has(*warning) {
             say_warning(*warning, paint, out);

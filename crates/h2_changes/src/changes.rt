@@ -91,7 +91,7 @@ fn is_same_pick(before: Pick, after: Pick) -> bool
 }
 
 /// Whether two records of a stream are the same.
-fn is_same_stream(before: &Stream, after: &Stream) -> bool
+pub fn is_same_stream(before: &Stream, after: &Stream) -> bool
     ensures value { result ≡ is_same_stream before.now after.now }
     ensures same { IsTrue result ↔ (before.now ≡ after.now) }
 {

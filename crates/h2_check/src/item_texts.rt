@@ -11,7 +11,8 @@ ghost use Rattle.h2_cases.specs.Lines.{line_said};
 ghost use Rattle.h2_check.specs.declared.verdict.CaseFault.TheVariants.{BadConfig, NoMemory};
 
 use crate::verdict::CaseFault;
-use h2_account::lines::lines_of;
+use h2_account::account::Account;
+use h2_account::lines::ItemLines;
 use h2_account::paint::Paint;
 use h2_cases::{Line, line_of};
 use h2_conn::{Conn, ConnFault};
@@ -93,10 +94,10 @@ fn octets_of_lines(alloc: Global, lines: &[&[u8]]) -> Result<Vec<u8>, AllocError
 }
 
 /// The text of these octets. `AllocError` where they are not UTF-8, which those of a text are.
-fn text_with(octets: Vec<u8>) -> Result<String, AllocError>
-    ensures { IfOk result (λ text. string_bytes text ≡ octets.items) }
+fn text_with(alloc: Global, octets: &[u8]) -> Result<String, AllocError>
+    ensures { IfOk result (λ text. string_bytes text ≡ octets.now) }
 {
-    match String::from_utf8(octets) {
+    match String::from_utf8(Vec::from_slice(alloc, octets)?) {
         Ok(text) => Ok(text),
         Err(_) => Err(AllocError),
     }
@@ -111,12 +112,17 @@ fn text_of(
 ) -> Result<String, AllocError>
     ensures { IfOk result (λ text. IsTextOf false false item.now (string_bytes text)) }
 {
-    let account = match explainer.account(alloc, conn, item) {
-        Ok(account) => account,
+    let mut account = Account::new(alloc);
+    match explainer.account(alloc, conn, item, &mut account) {
+        Ok(()) => {}
+        Err(error) => return Err(error),
+    }
+    let mut lines = match ItemLines::new(alloc) {
+        Ok(lines) => lines,
         Err(error) => return Err(error),
     };
-    match lines_of(alloc, item, &account, &explainer.reader, Paint(false)) {
-        Ok(octets) => text_with(octets),
+    match lines.put(alloc, item, &account, &explainer.reader, Paint(false)) {
+        Ok(()) => text_with(alloc, lines.octets()),
         Err(error) => Err(error),
     }
 }

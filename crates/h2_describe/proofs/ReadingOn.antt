@@ -66,19 +66,20 @@ whole-shape : (b : List ℕ) (x : Instruction) (used : ℕ) → Whole (Some x) u
 unfolding instruction_at
 whole-shape b x used e = mapped instruction_of (instr_at b) (Some x) used (sym e)
 
+pub shape-done : (old now : Reading) (b : List ℕ) (i : Shape) (used : ℕ) → instr_at b ≡ Whole i used → IsDone old i now None → (0 < used) × (used ≤ length b) × (read_to old b ≡ read_to now (drop used b))
+shape-done old now b i used e done = let u = whole-takes b i used e in (u.0, u.1, read-on old now b i used e done)
+
+pub shape-refused : (old now : Reading) (b : List ℕ) (i : Shape) (used : ℕ) (s : Stopped) → instr_at b ≡ Whole i used → IsDone old i now (Some s) →
+    (now ≡ old) × (read_to old b ≡ record { reading = old; rest = b }) × (Some s ≡ stop_at (instr_at b))
+shape-refused old now b i used s e d = (d.0, read-refused old b i used d.1 e d.2, sym (ap stop_at e ∙ ap Some d.3))
+
 pub step-done : (old now : Reading) (b : List ℕ) (x : Instruction) (used : ℕ) → Whole (Some x) used ≡ instruction_at b → ((i : Shape) → instruction_of i ≡ Some x → IsDone old i now None) →
     (0 < used) × (used ≤ length b) × (read_to old b ≡ read_to now (drop used b))
-step-done old now b x used e done =
-    let w = whole-shape b x used e in
-    let u = whole-takes b w.0 used w.1 in
-    (u.0, u.1, read-on old now b w.0 used w.1 (done w.0 w.2))
+step-done old now b x used e done = let w = whole-shape b x used e in shape-done old now b w.0 used w.1 (done w.0 w.2)
 
 pub step-refused : (old now : Reading) (b : List ℕ) (x : Instruction) (used : ℕ) (s : Stopped) → Whole (Some x) used ≡ instruction_at b → ((i : Shape) → instruction_of i ≡ Some x → IsDone old i now (Some s)) →
     (now ≡ old) × (read_to old b ≡ record { reading = old; rest = b }) × (Some s ≡ stop_at (instr_at b))
-step-refused old now b x used s e done =
-    let w = whole-shape b x used e in
-    let d = done w.0 w.2 in
-    (d.0, read-refused old b w.0 used d.1 w.1 d.2, sym (ap stop_at w.1 ∙ ap Some d.3))
+step-refused old now b x used s e done = let w = whole-shape b x used e in shape-refused old now b w.0 used s w.1 (done w.0 w.2)
 
 more-shape : (r : Read Shape) → More ≡ read_map instruction_of r → r ≡ More
 more-shape (Whole i used) e = absurd cc

@@ -10,9 +10,11 @@ ghost use Rattle.h2_instruction.specs.Shapes.{mode_of};
 ghost use Rattle.h2_table.specs.Lent.{lent_field};
 ghost use Rattle.h2_describe.specs.Spelled.{IsDone, IsStep, Spelled, fields_of, keep, literal_added, read_to, spelling_seen, stop_at};
 
+use crate::kept_fields::KeptFields;
 use crate::spelled::{SpelledField, Spelling, Stopped};
 use h2_instruction::fault::BlockFault;
 use h2_instruction::instruction::{HpackString, Instr, InstrRead, Mode, Name, read_instr};
+use h2_instruction::shape::{Point, short_index};
 use h2_spec::octets::octets_from;
 use h2_table::{DynTable, static_field};
 use std::alloc::{AllocError, Allocator};
@@ -22,11 +24,15 @@ use std::marker::Model;
 /// of the connection's decoder (RFC 9113, 10.5.1).
 const MOST: usize = 65536;
 
+/// The most that the fields of a block may count for their memory to be used again, in octets: so it is at most that of
+/// 128 fields of this size.
+const REUSED: usize = 4096;
+
 /// How far a block has got: the dynamic table, the fields that are kept, and the table size updates.
 #[derive(Drop)]
 pub(crate) struct Reading<A: Allocator> {
     table: DynTable<A>,
-    fields: Vec<SpelledField<A>, A>,
+    fields: KeptFields<A>,
     updates: Vec<u64, A>,
     /// What the fields count together, 32 each beside their octets.
     size: usize,
@@ -39,9 +45,9 @@ impl<A: Allocator> Model for Reading<A> {
 
     ghost Value = { spec.Reading };
 
-    ghost view = { λ r. record { table = r.table; fields = r.fields.items; updates = r.updates.items } };
+    ghost view = { λ r. record { table = r.table; fields = r.fields; updates = r.updates.items } };
 
-    ghost invariant = { λ r. r.size ≡ list_size (spec.fields_of r.fields.items) };
+    ghost invariant = { λ r. r.size ≡ list_size (spec.fields_of r.fields) };
 }
 
 /// What became of the instruction at the front of octets.
@@ -60,7 +66,7 @@ impl<A: Allocator + Copy> Reading<A> {
     {
         Ok(Reading {
             table: DynTable::new(alloc, limit)?,
-            fields: Vec::new(alloc),
+            fields: KeptFields::new(alloc),
             updates: Vec::new(alloc),
             size: 0,
         })
@@ -78,7 +84,7 @@ impl<A: Allocator + Copy> Reading<A> {
     pub(crate) fn begin(&mut self)
         ensures { self.new ≡ record self.old { fields = []; updates = [] } }
     {
-        self.fields.clear();
+        self.fields.clear(self.size > REUSED);
         self.updates.clear();
         self.size = 0;
     }
@@ -162,10 +168,17 @@ impl<A: Allocator + Copy> Reading<A> {
         }
     }
 
-    /// Carries out the instruction at the front of octets, if it is whole and not refused.
+    /// Carries out the instruction at the front of octets, if it is whole and not refused. An index of one octet, which is
+    /// most frequent, is read by itself.
     fn read_one(&mut self, alloc: A, octets: &[u8]) -> Result<Step, AllocError>
         ensures { IfOk result (λ step. IsStep self.old octets.now self.new step) }
     {
+        if let Some(index) = short_index(Point::start(), octets) {
+            return match self.indexed(alloc, index)? {
+                None => Ok(Step::Done(1)),
+                Some(stopped) => Ok(Step::Stop(Some(stopped))),
+            };
+        }
         match read_instr(alloc, octets) {
             Ok(InstrRead::Whole(instr, used)) => match self.carry_out(alloc, instr)? {
                 None => Ok(Step::Done(used)),
@@ -203,12 +216,10 @@ impl<A: Allocator + Copy> Reading<A> {
         if full {
             return Ok(None);
         }
-        let field = SpelledField {
-            name: Vec::from_slice(alloc, name)?,
-            value: Vec::from_slice(alloc, value)?,
-            spelling: Spelling::Indexed(index),
-        };
-        self.add(field)?;
+        let octets = name.len().saturating_add(value.len());
+        self.fields
+            .push_copied(alloc, name, value, Spelling::Indexed(index))?;
+        self.size = self.size.saturating_add(octets).saturating_add(32);
         Ok(None)
     }
 

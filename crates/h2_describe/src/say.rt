@@ -1,14 +1,22 @@
 //! Texts that are put together part by part. No definition speaks of them.
 
+ghost use Rattle.std.specs.Prelude.{◌≡◌, ◌+◌, ◌≤◌, length, IfSome};
+
+use crate::plain::{is_all_plain, is_plain};
 use crate::sent::first_of;
+use h2_spec::octets::octets_from;
 use itoa::Buffer;
 use std::alloc::{AllocError, Allocator, Global};
 
-/// A text that grows. Once memory for a part of it is refused, it takes no part more, and there is no text: so only
-/// its end asks whether memory was refused.
+/// A text that grows. Once memory for a part of it is refused, there is no text: so only its end asks whether memory was
+/// refused.
 #[derive(Drop)]
 pub struct TextBuilder<A: Allocator = Global> {
-    text: String<A>,
+    /// The text in UTF-8, and octets after it that mean nothing: a part goes in their place, and takes memory only where
+    /// they are too few.
+    octets: Vec<u8, A>,
+    /// How many octets the text has.
+    len: usize,
     refused: bool,
     /// How many octets of a long text are shown.
     shown: usize,
@@ -20,31 +28,29 @@ const SHOWN: usize = 100;
 /// How many octets a text has space for at first: the lines of a GET and of its answer fit.
 const ROOM: usize = 1000;
 
+/// How many octets of a long text are shown: all where this is asked for.
+fn shown_octets(is_whole: bool) -> usize {
+    if is_whole { usize::MAX } else { SHOWN }
+}
+
 impl<A: Allocator> TextBuilder<A> {
     /// No part yet; of a long text the first 100 octets are shown. Takes no memory.
     pub fn new(alloc: A) -> Self {
-        Self {
-            text: String::new(alloc),
-            refused: false,
-            shown: SHOWN,
-        }
+        Self::with(alloc, false)
     }
 
     /// No part yet; long texts are shown whole where this is asked for, else as by `new`. Takes no memory.
     pub fn with(alloc: A, is_whole: bool) -> Self {
-        Self {
-            text: String::new(alloc),
-            refused: false,
-            shown: if is_whole { usize::MAX } else { SHOWN },
-        }
+        Self::over(Vec::new(alloc), is_whole)
     }
 
-    /// No part yet; as much is shown of long texts as here. Takes no memory.
-    pub fn empty(&self, alloc: A) -> Self {
+    /// No part yet, in the memory of these octets; long texts are shown whole where this is asked for.
+    pub fn over(octets: Vec<u8, A>, is_whole: bool) -> Self {
         Self {
-            text: String::new(alloc),
+            octets,
+            len: 0,
             refused: false,
-            shown: self.shown,
+            shown: shown_octets(is_whole),
         }
     }
 
@@ -59,15 +65,48 @@ impl<A: Allocator> TextBuilder<A> {
     ///
     /// `AllocError` where memory for a part was refused.
     pub fn finish(self) -> Result<String<A>, AllocError> {
+        match String::from_utf8(self.into_octets()?) {
+            Ok(text) => Ok(text),
+            Err(_) => Err(AllocError),
+        }
+    }
+
+    /// The octets of the text, in UTF-8.
+    ///
+    /// # Errors
+    ///
+    /// `AllocError` where memory for a part was refused.
+    pub fn into_octets(self) -> Result<Vec<u8, A>, AllocError> {
         if self.refused {
             return Err(AllocError);
         }
-        Ok(self.text)
+        let mut octets = self.octets;
+        octets.truncate(self.len);
+        Ok(octets)
+    }
+
+    /// The octets so far, in UTF-8.
+    ///
+    /// # Errors
+    ///
+    /// `AllocError` where memory for a part was refused.
+    pub fn octets(&self) -> Result<&[u8], AllocError> {
+        if self.refused {
+            return Err(AllocError);
+        }
+        Ok(first_of(self.octets.as_slice(), self.len))
+    }
+
+    /// As if no part had been put: the memory stays. Long texts are shown whole where this is asked for.
+    pub fn clear(&mut self, is_whole: bool) {
+        self.len = 0;
+        self.refused = false;
+        self.shown = shown_octets(is_whole);
     }
 
     /// How many octets it has so far.
     pub fn len(&self) -> usize {
-        self.text.len()
+        self.len
     }
 
     /// Puts an end to it: memory for what belongs into the text was refused.
@@ -75,45 +114,127 @@ impl<A: Allocator> TextBuilder<A> {
         self.refused = true;
     }
 
-    /// Puts a text last. Before the first one there is space for a line or two, so that few parts make the text grow.
-    fn text(&mut self, part: &str) {
-        if self.text.is_empty() && !self.refused {
-            self.refused = self.text.reserve(ROOM).is_err();
-        }
-        if !self.refused {
-            self.refused = self.text.push_str(part).is_err();
+    /// Takes memory for this many octets more at once, and for a line or two at first, so that few parts make the text
+    /// grow.
+    #[cold]
+    #[inline(never)]
+    fn reserve(&mut self, more: usize) {
+        let wanted = self.len.saturating_add(more);
+        let held = self.octets.capacity();
+        let size = if wanted <= held {
+            held
+        } else {
+            wanted.max(held.saturating_mul(2)).max(ROOM)
+        };
+        if self.refused || self.octets.resize(size, 0).is_err() {
+            self.refused = true;
         }
     }
 
-    /// Puts octets last that are all of ASCII.
-    fn ascii(&mut self, octets: &[u8]) {
-        if let Ok(part) = str::from_utf8(octets) {
-            self.text(part);
+    /// The end of the text with this many octets more, where there is space for them.
+    #[inline(always)]
+    fn end_with(&self, more: usize) -> Option<usize>
+        ensures { IfSome result (λ end. (end ≡ self.now.len + more) × (end ≤ length self.now.octets.items)) }
+    {
+        match self.len.checked_add(more) {
+            Some(end) if end <= self.octets.len() => Some(end),
+            _ => None,
         }
+    }
+
+    /// Puts octets of UTF-8 last, if there is space for them.
+    #[inline(always)]
+    fn has_put(&mut self, octets: &[u8]) -> bool {
+        let Some(end) = self.end_with(octets.len()) else {
+            return false;
+        };
+        self.octets[self.len..end].copy_from_slice(octets);
+        self.len = end;
+        true
+    }
+
+    /// Puts octets of UTF-8 last, for which there is no space yet.
+    #[cold]
+    #[inline(never)]
+    fn put_in_more(&mut self, octets: &[u8]) {
+        self.reserve(octets.len());
+        if !self.has_put(octets) {
+            self.refused = true;
+        }
+    }
+
+    /// Puts octets of UTF-8 last.
+    #[inline(always)]
+    pub(crate) fn utf8(&mut self, octets: &[u8]) {
+        if !self.has_put(octets) {
+            self.put_in_more(octets);
+        }
+    }
+
+    /// Puts an octet of UTF-8 last.
+    #[inline(always)]
+    pub(crate) fn octet(&mut self, octet: u8) {
+        self.utf8(&[octet]);
+    }
+
+    /// Puts a text last.
+    #[inline(always)]
+    pub(crate) fn text(&mut self, part: &str) {
+        self.utf8(part.as_bytes());
     }
 
     /// Puts a character last.
+    #[inline(always)]
     fn character(&mut self, part: char) {
-        if !self.refused {
-            self.refused = self.text.push(part).is_err();
-        }
-    }
-
-    /// Puts the digits of octets last, 32 at most.
-    fn digits(&mut self, octets: &[u8]) {
-        let mut digits = [0u8; 64];
-        let space = &mut digits[..2 * octets.len().min(32)];
-        if hex::encode_to_slice(octets, space).is_ok() {
-            self.ascii(space);
-        }
-    }
-
-    /// Puts an octet of a text last.
-    fn octet(&mut self, octet: u8) {
-        if is_plain(octet) {
-            self.character(char::from(octet));
+        if part.is_ascii() {
+            self.octet(part as u8);
         } else {
-            self.text("\\");
+            let mut space = [0u8; 4];
+            self.text(part.encode_utf8(&mut space));
+        }
+    }
+
+    /// Puts the digits of octets last.
+    fn digits(&mut self, octets: &[u8]) {
+        let count = octets.len().saturating_mul(2);
+        if self.end_with(count).is_none() {
+            self.reserve(count);
+        }
+        let Some(end) = self.end_with(count) else {
+            self.refused = true;
+            return;
+        };
+        let space = &mut self.octets[self.len..end];
+        if hex::encode_to_slice(octets, space).is_ok() {
+            self.len = end;
+        }
+    }
+
+    /// The octets from a place on.
+    pub(crate) fn octets_from(&self, start: usize) -> &[u8] {
+        let octets = first_of(self.octets.as_slice(), self.len);
+        octets_from(octets, start.min(octets.len()))
+    }
+
+    /// The octet at a place, if there is one.
+    pub(crate) fn octet_at(&self, place: usize) -> Option<u8> {
+        self.octets.get(place).copied()
+    }
+
+    /// Takes the octets between two places out.
+    pub(crate) fn remove(&mut self, start: usize, end: usize) {
+        if start <= end && end <= self.len && self.len <= self.octets.len() {
+            self.octets.drain(start..end);
+            self.len -= end - start;
+        }
+    }
+
+    /// Puts an octet of a text last: as it is, or as `\` and two digits.
+    fn text_octet(&mut self, octet: u8) {
+        if is_plain(octet) {
+            self.octet(octet);
+        } else {
+            self.octet(b'\\');
             self.digits(&[octet]);
         }
     }
@@ -205,6 +326,10 @@ impl Say for char {
 
 impl Say for u64 {
     fn say<A: Allocator>(self, out: &mut TextBuilder<A>) {
+        if self < 10 {
+            out.octet(b'0' + self as u8);
+            return;
+        }
         let mut buffer = Buffer::new();
         out.text(buffer.format(self));
     }
@@ -235,9 +360,7 @@ pub struct Hex<'a>(pub &'a [u8]);
 
 impl Say for Hex<'_> {
     fn say<A: Allocator>(self, out: &mut TextBuilder<A>) {
-        for piece in self.0.chunks(32) {
-            out.digits(piece);
-        }
+        out.digits(self.0);
     }
 }
 
@@ -256,19 +379,14 @@ impl Say for HexOctet {
 #[derive(Clone, Copy)]
 pub struct EscapedText<'a>(pub &'a [u8]);
 
-/// Whether an octet is written as it is in a text.
-fn is_plain(octet: u8) -> bool {
-    (32..=126).contains(&octet) && octet != b'"' && octet != b'\\'
-}
-
 impl Say for EscapedText<'_> {
     fn say<A: Allocator>(self, out: &mut TextBuilder<A>) {
-        if self.0.iter().all(|octet| is_plain(*octet)) {
-            out.ascii(self.0);
+        if is_all_plain(self.0) {
+            out.utf8(self.0);
             return;
         }
         for octet in self.0 {
-            out.octet(*octet);
+            out.text_octet(*octet);
         }
     }
 }

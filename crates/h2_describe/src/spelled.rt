@@ -10,6 +10,7 @@ ghost use Rattle.h2_describe.specs.Spelled.{Agrees, begun_with, fields_of, progr
 
 use crate::reading::Reading;
 use h2_instruction::instruction::Mode;
+use h2_spec::octets::octets_from;
 use std::alloc::{AllocError, Allocator, Global};
 use std::marker::Model;
 
@@ -123,6 +124,12 @@ impl<A: Allocator + Copy> BlockReader<A> {
         ensures agrees { OnOk result (self.old.stopped ≡ None → Agrees (decoded self.old.reading.table.limit (progress_of self.old.reading) (self.old.rest ++ fragment.now)) self.new) }
     {
         if self.stopped.is_some() {
+            return Ok(());
+        }
+        if self.rest.is_empty() {
+            let (used, stopped) = self.reading.read_all(alloc, fragment)?;
+            self.rest.extend_from_slice(octets_from(fragment, used))?;
+            self.stopped = stopped;
             return Ok(());
         }
         self.rest.extend_from_slice(fragment)?;

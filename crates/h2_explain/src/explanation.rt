@@ -18,7 +18,8 @@ use crate::end::{End, rest_of};
 use crate::recorder::Recorder;
 use crate::run::{ExplainFault, Form, Summary};
 use crate::verdict::{Tally, verdict_at};
-use h2_account::lines::lines_of;
+use h2_account::account::Account;
+use h2_account::lines::ItemLines;
 use h2_account::paint::Paint;
 use h2_conn::{Conn, is_ended};
 use h2_describe::sent::first_of;
@@ -45,25 +46,47 @@ fn write<O: Output>(output: &mut O, octets: &[u8]) -> Result<(), ExplainFault>
     }
 }
 
-/// The octets of the text of an item.
-fn item_text<A: Allocator + Copy>(
+/// What was made of the last item, whose memory is used again.
+struct ItemText<A: Allocator> {
+    /// What there is to say of it.
+    account: Account<A>,
+    /// Its text.
+    lines: ItemLines<A>,
+}
+
+/// By hand, so that a function that drops one makes one call.
+impl<A: Allocator> Drop for ItemText<A> {
+    fn drop(self) {
+        let Self {
+            account: _,
+            lines: _,
+        } = self;
+    }
+}
+
+/// Makes the text of an item.
+fn make_text<A: Allocator + Copy>(
     alloc: A,
     form: Form,
     explainer: &mut Explainer<A>,
     tally: &mut Tally<A>,
     conn: &Conn<'_, A>,
     item: &Explained<'_>,
-) -> Result<Vec<u8, A>, AllocError>
-    ensures text { IfOk result (λ octets. IsItemText form item.now octets.items) }
+    text: &mut ItemText<A>,
+) -> Result<(), AllocError>
+    ensures text { OnOk result (IsItemText form item.now text.new.lines) }
     ensures tally { OnOk result (TalliesItem tally.old item.now tally.new) }
 {
-    let account = explainer.account(alloc, conn, item)?;
+    let ItemText { account, lines } = text;
+    explainer.account(alloc, conn, item, account)?;
     tally.note(item, account.facts, account.warnings)?;
     let reader = &explainer.reader;
     if form.json {
-        json_of(alloc, item, &account, reader)
+        let memory = lines.take(alloc);
+        lines.set(json_of(alloc, memory, item, account, reader)?);
+        Ok(())
     } else {
-        lines_of(alloc, item, &account, reader, Paint(form.color))
+        lines.put(alloc, item, account, reader, Paint(form.color))
     }
 }
 
@@ -75,6 +98,7 @@ fn write_item<A: Allocator + Copy, O: Output>(
     tally: &mut Tally<A>,
     conn: &Conn<'_, A>,
     item: &Explained<'_>,
+    text: &mut ItemText<A>,
     output: &mut O,
 ) -> Result<(), ExplainFault>
     requires writer { O.has_failed output.old ≡ false }
@@ -83,8 +107,8 @@ fn write_item<A: Allocator + Copy, O: Output>(
     ensures flag { O.has_failed output.new ≡ not_written result }
     ensures name { O.name output.new ≡ O.name output.old }
 {
-    match item_text(alloc, form, explainer, tally, conn, item) {
-        Ok(octets) => write(output, octets.as_slice()),
+    match make_text(alloc, form, explainer, tally, conn, item, text) {
+        Ok(()) => write(output, text.lines.octets()),
         Err(_) => Err(ExplainFault::NoMemory),
     }
 }
@@ -135,6 +159,7 @@ pub struct Explanation<A: Allocator = Global> {
     form: Form,
     explainer: Explainer<A>,
     tally: Tally<A>,
+    text: ItemText<A>,
     /// How many items there were.
     items: u64,
     /// How many octets they have.
@@ -152,6 +177,7 @@ impl<A: Allocator> Drop for Explanation<A> {
             form: _,
             explainer: _,
             tally: _,
+            text: _,
             items: _,
             offset: _,
             held: _,
@@ -165,12 +191,17 @@ impl<A: Allocator + Copy> Explanation<A> {
     pub fn new(alloc: A, form: Form) -> Result<Explanation<A>, AllocError>
         ensures { IfOk result (λ new. IsNew form new) }
     {
+        let text = ItemText {
+            account: Account::new(alloc),
+            lines: ItemLines::new(alloc)?,
+        };
         let mut explainer = Explainer::new(alloc)?;
         explainer.is_full = form.full;
         Ok(Explanation {
             form,
             explainer,
             tally: Tally::new(alloc),
+            text,
             items: 0,
             offset: 0,
             held: Vec::new(alloc),
@@ -232,6 +263,7 @@ impl<A: Allocator + Copy> Explanation<A> {
             &mut self.tally,
             conn,
             &item,
+            &mut self.text,
             output,
         ) {
             Ok(()) => {}

@@ -10,9 +10,9 @@ ghost use Rattle.h2_explainer.specs.Account.{KeepsBlocks, ListsChanges, NotesIte
 ghost use Rattle.h2_item.specs.Notes.{AreNotes, note_of, with_later_note};
 ghost use Rattle.h2_facts.specs.Warnings.{AreWarnings};
 
-use crate::moved::{moved_by, note_moved};
+use crate::moved::{Live, note_moved, put_moved, sent_streams};
 use h2_account::account::Account;
-use h2_changes::changes::{Changes, connection_changes, stream_changes};
+use h2_changes::changes::{Changes, connection_changes, is_same_stream, stream_changes};
 use h2_conn::{Conn, is_ended, write_opening};
 use h2_describe::say::TextBuilder;
 use h2_describe::sent::next_frame;
@@ -226,6 +226,9 @@ impl<A: Allocator + Copy> Explainer<A> {
             return Ok(());
         };
         let now = conn.stream(stream);
+        if now.id == stream && note.is_settled() && is_same_stream(&note.seen, &now) {
+            return Ok(());
+        }
         stream_changes(&note.seen, &now, item.after.counts.send, out)?;
         self.notes.see(item.number, item.number, now)
     }
@@ -237,10 +240,11 @@ impl<A: Allocator + Copy> Explainer<A> {
         conn: &Conn<'_, A>,
         item: &Explained<'_>,
     ) -> Result<String<A>, AllocError> {
+        let Some(cause) = item.cause else {
+            return Ok(String::new(alloc));
+        };
         let mut text = TextBuilder::with(alloc, self.is_full);
-        if let Some(cause) = item.cause {
-            say_sentence(alloc, cause, self.context(conn, item), &mut text);
-        }
+        say_sentence(alloc, cause, self.context(conn, item), &mut text);
         text.finish()
     }
 
@@ -329,12 +333,12 @@ impl<A: Allocator + Copy> Explainer<A> {
     }
 
     /// Notes what an item did besides changing its stream: a stream that it refused at its end, the streams that it moved,
-    /// and the end of a block.
+    /// and the end of a block. `sent` has the other streams that frames were sent on.
     fn note_rest(
         &mut self,
-        alloc: A,
         conn: &Conn<'_, A>,
         item: &Explained<'_>,
+        sent: &Live<A>,
     ) -> Result<(), AllocError>
         ensures block { OnOk result (self.new.notes.block ≡ self.old.notes.block) }
         ensures block_end { OnOk result (self.new.notes.block_end ≡ block_end_with self.old.notes.block_end item.now.number (head_in item.now.what)) }
@@ -342,14 +346,14 @@ impl<A: Allocator + Copy> Explainer<A> {
         ensures full { self.new.is_full ≡ self.old.is_full }
     {
         self.note_refused_end(item)?;
-        note_moved(alloc, conn, item, &mut self.notes, &mut self.live)?;
+        note_moved(conn, item, &mut self.notes, &mut self.live, sent)?;
         if let Some(head) = item.head() {
             self.notes.end(item.number, &head);
         }
         Ok(())
     }
 
-    /// What there is to show of the item that a connection has just taken.
+    /// Puts what there is to show of the item that a connection has just taken in the place of an account before.
     ///
     /// `AllocError` where memory is refused; then some of the item may have been noted.
     pub fn account(
@@ -357,37 +361,36 @@ impl<A: Allocator + Copy> Explainer<A> {
         alloc: A,
         conn: &Conn<'_, A>,
         item: &Explained<'_>,
-    ) -> Result<Account<A>, AllocError>
-        ensures fields { IfOk result (λ account. account.shows_fields ≡ shows_fields_with item.now) }
-        ensures warnings { IfOk result (λ account. AreWarnings item.now account.facts account.warnings) }
-        ensures changes { IfOk result (λ account. ListsChanges item.now conn.now.state (begun_after self.old.notes.block item.now.number item.now.before.block item.now.what) (note_of self.old.notes) account.changes.items) }
-        ensures texts { IfOk result (λ account. account.is_full ≡ self.old.is_full) }
+        account: &mut Account<A>,
+    ) -> Result<(), AllocError>
+        ensures fields { OnOk result (account.new.shows_fields ≡ shows_fields_with item.now) }
+        ensures warnings { OnOk result (AreWarnings item.now account.new.facts account.new.warnings) }
+        ensures changes { OnOk result (ListsChanges item.now conn.now.state (begun_after self.old.notes.block item.now.number item.now.before.block item.now.what) (note_of self.old.notes) account.new.changes.items) }
+        ensures texts { OnOk result (account.new.is_full ≡ self.old.is_full) }
         ensures notes { OnOk result (NotesItem item.now conn.now.state self.old.notes self.new.notes) }
         ensures full { self.new.is_full ≡ self.old.is_full }
     {
-        let shows_fields = self.read_block(alloc, item)?;
+        account.is_full = self.is_full;
+        account.shows_fields = self.read_block(alloc, item)?;
         self.table.follow_refused(alloc, item, &self.reader)?;
-        let facts = self.facts(conn, item);
-        let warnings = warnings_of(item, facts, self.request_facts(item));
-        let sentence = self.sentence(alloc, conn, item)?;
-        let also = self.others(alloc, conn, item)?;
-        let moved = moved_by(alloc, conn, item, &self.notes, &self.live)?;
-        let changes = self.changes(alloc, conn, item)?;
-        self.note_rest(alloc, conn, item)?;
-        let opening = opening_of(alloc, conn, item.number == 1)?;
-        let entries = self.entries(alloc, item)?;
-        Ok(Account {
-            sentence,
-            also,
-            facts,
-            warnings,
-            shows_fields,
-            changes,
-            moved,
-            entries,
-            opening,
-            is_full: self.is_full,
-        })
+        account.facts = self.facts(conn, item);
+        account.warnings = warnings_of(item, account.facts, self.request_facts(item));
+        account.sentence = self.sentence(alloc, conn, item)?;
+        account.also = self.others(alloc, conn, item)?;
+        let sent = sent_streams(alloc, item)?;
+        put_moved(
+            conn,
+            item,
+            &self.notes,
+            &self.live,
+            &sent,
+            &mut account.moved,
+        )?;
+        self.put_changes(conn, item, &mut account.changes)?;
+        self.note_rest(conn, item, &sent)?;
+        account.opening = opening_of(alloc, conn, item.number == 1)?;
+        account.entries = self.entries(alloc, item)?;
+        Ok(())
     }
 
     /// The entries of the client's header table that an item entered or evicted.
@@ -414,26 +417,25 @@ impl<A: Allocator + Copy> Explainer<A> {
         self.table.follow(alloc, item, &self.reader)
     }
 
-    /// What an item changed: on the connection, on its stream, and on the streams that frames were sent on for it; these
-    /// streams are noted.
-    fn changes(
+    /// Lists what an item changed: on the connection, on its stream, and on the streams that frames were sent on for it;
+    /// these streams are noted.
+    fn put_changes(
         &mut self,
-        alloc: A,
         conn: &Conn<'_, A>,
         item: &Explained<'_>,
-    ) -> Result<Changes<A>, AllocError>
-        ensures changes { IfOk result (λ list. ListsChanges item.now conn.now.state self.old.notes.block (note_of self.old.notes) list.items) }
+        list: &mut Changes<A>,
+    ) -> Result<(), AllocError>
+        ensures changes { OnOk result (ListsChanges item.now conn.now.state self.old.notes.block (note_of self.old.notes) list.new.items) }
         ensures notes { OnOk result (AreNotes self.new.notes (notes_of_sent item.now conn.now.state (noted_with item.now self.old.notes.block (note_of self.old.notes)))) }
         ensures blocks { OnOk result (KeepsBlocks self.old.notes self.new.notes) }
         ensures full { self.new.is_full ≡ self.old.is_full }
     {
-        let mut list = Vec::new(alloc);
+        list.clear();
         let (before, after) = (&item.before, &item.after);
-        connection_changes(before, after, &mut list)?;
-        stream_changes(&before.stream, &after.stream, after.counts.send, &mut list)?;
+        connection_changes(before, after, list)?;
+        stream_changes(&before.stream, &after.stream, after.counts.send, list)?;
         let ended = self.end_of(item);
         self.notes.see(item.number, ended, item.after.stream)?;
-        self.see_sent(conn, item, &mut list)?;
-        Ok(list)
+        self.see_sent(conn, item, list)
     }
 }

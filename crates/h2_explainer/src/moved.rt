@@ -19,16 +19,20 @@ use std::collections::BTreeMap;
 /// The streams that are live, by their identifiers.
 pub(crate) type Live<A> = BTreeMap<u32, (), A>;
 
-/// The streams of the frames that were sent for an item.
-fn sent_streams<A: Allocator + Copy>(alloc: A, sent: &[u8]) -> Result<Live<A>, AllocError> {
+/// The streams of the frames that were sent for an item, but for the one that the item is on, which is looked at anyway.
+pub(crate) fn sent_streams<A: Allocator + Copy>(
+    alloc: A,
+    item: &Explained<'_>,
+) -> Result<Live<A>, AllocError> {
     let mut streams = BTreeMap::new(alloc);
-    let mut rest = sent;
-    for _frame in 0..sent.len() {
+    let own = item.after.stream.id;
+    let mut rest = item.sent;
+    for _frame in 0..item.sent.len() {
         let Some((frame, after)) = next_frame(rest) else {
             return Ok(streams);
         };
         rest = after;
-        if frame.head.stream != 0 {
+        if frame.head.stream != 0 && frame.head.stream != own {
             streams.insert(frame.head.stream, ())?;
         }
     }
@@ -192,29 +196,28 @@ fn put_block<A: Allocator>(
     Ok(())
 }
 
-/// What an item changes on streams beside what `changes` lists; `notes` are those before the item, and `live` the streams
-/// that were live then.
-pub(crate) fn moved_by<A: Allocator + Copy>(
-    alloc: A,
+/// Lists what an item changes on streams beside what `changes` lists; `notes` are those before the item, `live` has the
+/// streams that were live then, and `sent` the other streams that frames were sent on.
+pub(crate) fn put_moved<A: Allocator + Copy>(
     conn: &Conn<'_, A>,
     item: &Explained<'_>,
     notes: &Notes<A>,
     live: &Live<A>,
-) -> Result<Vec<Moved, A>, AllocError> {
-    let mut list = Vec::new(alloc);
-    let sent = sent_streams(alloc, item.sent)?;
+    sent: &Live<A>,
+    list: &mut Vec<Moved, A>,
+) -> Result<(), AllocError> {
+    list.clear();
     if item.after.stream.id != 0 {
         let initial = item.after.counts.peer.window;
-        put_listed(&item.before.stream, &item.after.stream, initial, &mut list)?;
+        put_listed(&item.before.stream, &item.after.stream, initial, list)?;
     }
-    put_sent(conn, item, notes, &sent, &mut list)?;
+    put_sent(conn, item, notes, sent, list)?;
     if moves_windows(item) {
         for stream in live.keys() {
-            put_other(conn, notes, &sent, *stream, &mut list)?;
+            put_other(conn, notes, sent, *stream, list)?;
         }
     }
-    put_block(item, &mut list)?;
-    Ok(list)
+    put_block(item, list)
 }
 
 /// Notes the streams that settings have moved as they are now.
@@ -243,13 +246,14 @@ fn keep_live<A: Allocator + Copy>(stream: &Stream, live: &mut Live<A>) -> Result
     Ok(())
 }
 
-/// Notes what an item has moved, and which streams are live after it.
+/// Notes what an item has moved, and which streams are live after it; `sent` has the other streams that frames were sent
+/// on.
 pub(crate) fn note_moved<A: Allocator + Copy>(
-    alloc: A,
     conn: &Conn<'_, A>,
     item: &Explained<'_>,
     notes: &mut Notes<A>,
     live: &mut Live<A>,
+    sent: &Live<A>,
 ) -> Result<(), AllocError>
     ensures blocks { OnOk result (KeepsBlocks notes.old notes.new) }
     ensures still { moves_windows item.now ≡ false → notes.new ≡ notes.old }
@@ -260,7 +264,6 @@ pub(crate) fn note_moved<A: Allocator + Copy>(
     if item.after.stream.id != 0 {
         keep_live(&item.after.stream, live)?;
     }
-    let sent = sent_streams(alloc, item.sent)?;
     for stream in sent.keys() {
         keep_live(&conn.stream(*stream), live)?;
     }

@@ -13,6 +13,7 @@ use h2_spec::connection::Phase;
 use std::alloc::{AllocError, Allocator};
 
 /// What is looked at of a connection, with one of its streams.
+#[inline(always)]
 pub fn moment_at<A: Allocator + Copy>(conn: &Conn<'_, A>, stream: u32) -> Moment
     ensures { result ≡ moment_of conn.now.state stream }
 {
@@ -54,6 +55,7 @@ pub struct Taking {
 /// sent for it is appended to `out`.
 ///
 /// `AllocError` where memory is refused: nothing of it is done.
+#[inline(always)]
 pub fn take_next<A: Allocator + Copy>(
     conn: &mut Conn<'_, A>,
     octets: &[u8],

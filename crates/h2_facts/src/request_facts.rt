@@ -4,7 +4,6 @@
 ghost use Rattle.std.specs.Prelude.{◌≡◌};
 ghost use Rattle.h2_facts.specs.Warnings.{no_request_facts};
 
-use crate::fields::value_of;
 use h2_describe::spelled::SpelledField;
 use std::alloc::Allocator;
 
@@ -74,9 +73,64 @@ fn is_scheme(octets: &[u8]) -> bool {
     }
 }
 
-/// Whether a request is one of http or https.
-fn is_web<A: Allocator>(fields: &[SpelledField<A>]) -> bool {
-    match value_of(b":scheme", fields) {
+/// The places of the fields of a request that are looked at, of each name the first, and how many fields `host` there are.
+#[derive(Clone, Copy)]
+struct Places {
+    method: Option<usize>,
+    scheme: Option<usize>,
+    path: Option<usize>,
+    authority: Option<usize>,
+    hosts: usize,
+}
+
+impl Places {
+    /// None of them.
+    fn none() -> Places {
+        Places {
+            method: None,
+            scheme: None,
+            path: None,
+            authority: None,
+            hosts: 0,
+        }
+    }
+
+    /// Notes that a field of this name is at this place, after the others.
+    fn note(&mut self, name: &[u8], place: usize) {
+        if name == ":method".as_bytes() {
+            self.method = self.method.or(Some(place));
+        } else if name == ":scheme".as_bytes() {
+            self.scheme = self.scheme.or(Some(place));
+        } else if name == ":path".as_bytes() {
+            self.path = self.path.or(Some(place));
+        } else if name == ":authority".as_bytes() {
+            self.authority = self.authority.or(Some(place));
+        } else if name == "host".as_bytes() {
+            self.hosts = self.hosts.saturating_add(1);
+        }
+    }
+}
+
+/// The places in these fields.
+fn places_in<A: Allocator>(fields: &[SpelledField<A>]) -> Places {
+    let mut places = Places::none();
+    for (place, field) in fields.iter().enumerate() {
+        places.note(field.name.as_slice(), place);
+    }
+    places
+}
+
+/// The value of the field at a place.
+fn value_at<A: Allocator>(place: Option<usize>, fields: &[SpelledField<A>]) -> Option<&[u8]> {
+    match fields.get(place?) {
+        Some(field) => Some(field.value.as_slice()),
+        None => None,
+    }
+}
+
+/// Whether a request with this scheme is one of http or https.
+fn is_web(scheme: Option<&[u8]>) -> bool {
+    match scheme {
         Some(scheme) => {
             scheme.eq_ignore_ascii_case(b"http") || scheme.eq_ignore_ascii_case(b"https")
         }
@@ -101,11 +155,11 @@ fn is_no_scheme(value: Option<&[u8]>) -> bool {
 }
 
 /// Whether the path of a request of http or https does not begin with a slash, and is not `*` with OPTIONS.
-fn has_bad_path<A: Allocator>(fields: &[SpelledField<A>]) -> bool {
-    let Some(path) = value_of(b":path", fields) else {
+fn has_bad_path(path: Option<&[u8]>, method: Option<&[u8]>) -> bool {
+    let Some(path) = path else {
         return false;
     };
-    let options = match value_of(b":method", fields) {
+    let options = match method {
         Some(method) => method == "OPTIONS".as_bytes(),
         None => false,
     };
@@ -113,27 +167,16 @@ fn has_bad_path<A: Allocator>(fields: &[SpelledField<A>]) -> bool {
 }
 
 /// Whether an authority has userinfo: an `@` (RFC 3986, 3.2).
-fn has_userinfo<A: Allocator>(fields: &[SpelledField<A>]) -> bool {
-    match value_of(b":authority", fields) {
+fn has_userinfo(authority: Option<&[u8]>) -> bool {
+    match authority {
         Some(authority) => authority.contains(&b'@'),
         None => false,
     }
 }
 
-/// How many fields have this name.
-fn times<A: Allocator>(name: &[u8], fields: &[SpelledField<A>]) -> usize {
-    let mut count = 0usize;
-    for field in fields {
-        if field.name.as_slice() == name {
-            count = count.saturating_add(1);
-        }
-    }
-    count
-}
-
-/// Whether `:authority` is there, and a field `host` is other than it, apart from the case of letters.
-fn do_hosts_differ<A: Allocator>(fields: &[SpelledField<A>]) -> bool {
-    let Some(authority) = value_of(b":authority", fields) else {
+/// Whether the authority is there, and a field `host` is other than it, apart from the case of letters.
+fn do_hosts_differ<A: Allocator>(authority: Option<&[u8]>, fields: &[SpelledField<A>]) -> bool {
+    let Some(authority) = authority else {
         return false;
     };
     for field in fields {
@@ -148,13 +191,19 @@ fn do_hosts_differ<A: Allocator>(fields: &[SpelledField<A>]) -> bool {
 
 /// What is wrong with the request that has these fields.
 pub fn request_facts<A: Allocator>(fields: &[SpelledField<A>]) -> RequestFacts {
-    let web = is_web(fields);
+    let places = places_in(fields);
+    let (method, scheme) = (
+        value_at(places.method, fields),
+        value_at(places.scheme, fields),
+    );
+    let authority = value_at(places.authority, fields);
+    let web = is_web(scheme);
     RequestFacts {
-        bad_method: is_no_token(value_of(b":method", fields)),
-        bad_scheme: is_no_scheme(value_of(b":scheme", fields)),
-        bad_path: web && has_bad_path(fields),
-        userinfo: web && has_userinfo(fields),
-        host_twice: times(b"host", fields) > 1,
-        host_differs: do_hosts_differ(fields),
+        bad_method: is_no_token(method),
+        bad_scheme: is_no_scheme(scheme),
+        bad_path: web && has_bad_path(value_at(places.path, fields), method),
+        userinfo: web && has_userinfo(authority),
+        host_twice: places.hosts > 1,
+        host_differs: places.hosts > 0 && do_hosts_differ(authority, fields),
     }
 }

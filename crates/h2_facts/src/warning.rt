@@ -193,6 +193,17 @@ fn request_count(request: RequestFacts) -> u64
 }
 
 impl Warnings {
+    /// None.
+    pub fn none() -> Warnings {
+        Warnings {
+            request: RequestFacts::none(),
+            after_goaway: false,
+            on_closed: false,
+            zero_increment: false,
+            unacknowledged: false,
+        }
+    }
+
     /// Whether this is one of them.
     pub fn has(self, warning: Warning) -> bool
         ensures { result ≡ has_warning self warning }

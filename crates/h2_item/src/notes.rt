@@ -1,9 +1,9 @@
 //! What is noted of the streams and of the open field block while a connection is explained: at which items they began
 //! and ended. Definitions: `specs/Notes.antt`.
 
-ghost use Rattle.std.specs.Prelude.{◌≡◌, false, true, OnErr, OnOk};
+ghost use Rattle.std.specs.Prelude.{◌≡◌, ℕ, false, true, OnErr, OnOk};
 ghost use Rattle.std.specs.BTreeMap.{IsEmpty, IsUnchanged};
-ghost use Rattle.h2_item.specs.Notes.{Sees, block_end_after, ends_block, first_item, has_client_ended, is_closed, is_noted, is_opened, note_of, noted, unnoted};
+ghost use Rattle.h2_item.specs.Notes.{Sees, block_end_after, ends_block, first_item, has_client_ended, is_closed, is_noted, is_opened, note_of, note_or, noted, unnoted};
 
 use h2_spec::frames::{CONTINUATION, END_HEADERS, HEADERS, Head};
 use h2_spec::streams::{Stream, StreamState};
@@ -63,6 +63,16 @@ fn is_noted(stream: &Stream) -> bool
     stream.id != 0 && is_opened(stream.kind)
 }
 
+impl StreamNote {
+    /// Whether nothing changes where the stream is noted once more as it was seen last: its ends are noted already.
+    pub fn is_settled(&self) -> bool
+        ensures { result ≡ true → (number : ℕ) → noted self.now number number self.now.seen ≡ self.now }
+    {
+        let kind = self.seen.kind;
+        (self.ended > 0 || !has_client_ended(kind)) && (self.closed > 0 || !is_closed(kind))
+    }
+}
+
 /// The note of a stream of which nothing was noted.
 fn unnoted(stream: Stream) -> StreamNote
     ensures { result ≡ unnoted stream }
@@ -71,6 +81,16 @@ fn unnoted(stream: Stream) -> StreamNote
         ended: 0,
         closed: 0,
         seen: stream,
+    }
+}
+
+/// The note that there was, or that of a stream of which nothing was noted.
+fn note_or(note: Option<StreamNote>, stream: Stream) -> StreamNote
+    ensures { result ≡ note_or note stream }
+{
+    match note {
+        Some(note) => note,
+        None => unnoted(stream),
     }
 }
 
@@ -113,11 +133,15 @@ impl<A: Allocator + Copy> Notes<A> {
         }
     }
 
-    /// What is noted of a stream, if anything is.
+    /// What is noted of a stream, if anything is. Streams are opened in rising order, so the last one is looked at first.
     pub fn of(&self, stream: u32) -> Option<StreamNote>
         ensures { result ≡ note_of self.now stream }
     {
-        self.streams.get(&stream).copied()
+        match self.streams.last_key_value() {
+            Some((last, note)) if *last == stream => Some(*note),
+            Some((last, _)) if *last < stream => None,
+            _ => self.streams.get(&stream).copied(),
+        }
     }
 
     /// Notes a stream as it is after the item of this number: one that was opened, and not 0. `ended` is the item that
@@ -132,12 +156,9 @@ impl<A: Allocator + Copy> Notes<A> {
         if !is_noted(&stream) {
             return Ok(());
         }
-        if let Some(note) = self.streams.get_mut(&stream.id) {
-            *note = noted(*note, number, ended, stream);
-            return Ok(());
-        }
-        let note = noted(unnoted(stream), number, ended, stream);
-        self.streams.insert(stream.id, note)?;
+        let earlier = note_or(self.of(stream.id), stream);
+        self.streams
+            .insert(stream.id, noted(earlier, number, ended, stream))?;
         Ok(())
     }
 

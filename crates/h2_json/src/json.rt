@@ -7,13 +7,14 @@ ghost use Rattle.std.specs.String.{string_bytes};
 ghost use Rattle.h2_account.specs.Lines.{EndsLine};
 
 use crate::json_words::{JsonWords, Member};
-use crate::member;
 use crate::warnings::put_warnings;
+use crate::{element, member};
 use h2_account::account::Account;
 use h2_account::text::{mode_name, read_answer, say_item};
 use h2_changes::changes::{Moved, ShownChange};
 use h2_changes::count::Count;
 use h2_describe::frame_words::say_frame_in;
+use h2_describe::json_text::JsonText;
 use h2_describe::names::{code_name, kind_name, registered_setting, registered_type, setting_name};
 use h2_describe::say::{Hex, HexOctet, Say, TextBuilder};
 use h2_describe::say_all;
@@ -29,21 +30,28 @@ use h2_spec::octets::octets_from;
 use h2_spec::special_cases::SpecialCase;
 use std::alloc::{AllocError, Allocator};
 
-/// The octets that are shown of some, as hex, and how many there are where not all are shown.
+/// What comes after the name of the hex of octets: those that are shown, and how many there are where these are not all.
 fn put_hex<A: Allocator>(shown: &[u8], octets: &[u8], out: &mut JsonWords<A>) {
-    out.plain(member!("hex"), Hex(shown));
+    out.quoted(Hex(shown));
     if shown.len() < octets.len() {
         out.number(member!("length"), octets.len() as u64);
     }
 }
 
-/// Octets as hex, and as text where those that are shown are UTF-8.
-fn put_octets<A: Allocator>(member: Member, octets: &[u8], out: &mut JsonWords<A>) {
+/// Octets as hex, and as text where those that are shown are UTF-8. The member is that of the hex, the first of an
+/// object.
+#[inline(always)]
+fn put_octets<A: Allocator>(hex: Member, octets: &[u8], out: &mut JsonWords<A>) {
+    out.name(hex);
+    put_shown(octets, out);
+}
+
+/// What comes after the name of octets: the value of their hex, and their text where those that are shown are UTF-8.
+fn put_shown<A: Allocator>(octets: &[u8], out: &mut JsonWords<A>) {
     let shown = out.shown_of(octets);
-    out.open(member);
     put_hex(shown, octets, out);
-    if let Ok(text) = str::from_utf8(shown) {
-        out.text(member!("text"), text);
+    if let Some(text) = JsonText::of(shown) {
+        out.plain(member!("text"), text);
     }
     out.close();
 }
@@ -68,8 +76,7 @@ impl Say for Unnamed {
 
 /// The head of a frame.
 pub(crate) fn put_head<A: Allocator>(head: &Head, out: &mut JsonWords<A>) {
-    out.open(member!("frame"));
-    out.number(member!("flags"), u64::from(head.flags));
+    out.number(member!("frame", "flags"), u64::from(head.flags));
     out.number(member!("length"), u64::from(head.length));
     if let Some(name) = registered_type(head.kind) {
         out.plain(member!("registered"), name);
@@ -82,16 +89,17 @@ pub(crate) fn put_head<A: Allocator>(head: &Head, out: &mut JsonWords<A>) {
 
 /// An error code by number and name.
 fn put_code<A: Allocator>(code: u32, out: &mut JsonWords<A>) {
-    out.open(member!("code"));
-    out.plain(member!("name"), code_name(code).unwrap_or("unknown"));
+    out.plain(
+        member!("code", "name"),
+        code_name(code).unwrap_or("unknown"),
+    );
     out.number(member!("number"), u64::from(code));
     out.close();
 }
 
 /// A setting.
 fn put_setting<A: Allocator>(id: u16, value: u32, out: &mut JsonWords<A>) {
-    out.open_element();
-    out.number(member!("id"), u64::from(id));
+    out.number(element!("id"), u64::from(id));
     out.plain(member!("name"), setting_name(id).unwrap_or("unknown"));
     if let Some(name) = registered_setting(id) {
         out.plain(member!("registered"), name);
@@ -122,21 +130,21 @@ fn put_parts<A: Allocator>(frame: FrameRef<'_>, part: Option<Part<'_>>, out: &mu
             u64::from(increment),
         ),
         Some(Part::Data(part)) => {
-            put_octets(member!("content"), part.content, out);
+            put_octets(member!("content", "hex"), part.content, out);
             out.number(member!("padding"), part.padding.len() as u64);
         }
         Some(Part::Headers(part)) => put_headers(part, frame.payload, out),
         Some(Part::Continuation(fragment)) => {
-            put_octets(member!("fragment"), fragment, out);
-            put_octets(member!("octets"), frame.payload, out);
+            put_octets(member!("fragment", "hex"), fragment, out);
+            put_octets(member!("octets", "hex"), frame.payload, out);
         }
         Some(Part::Priority) => put_priority_frame(frame.payload, out),
         Some(Part::SettingsAck) => {
-            put_octets(member!("octets"), frame.payload, out);
+            put_octets(member!("octets", "hex"), frame.payload, out);
             out.open_list(member!("settings"));
             out.close_list();
         }
-        Some(_) | None => put_octets(member!("octets"), frame.payload, out),
+        Some(_) | None => put_octets(member!("octets", "hex"), frame.payload, out),
     }
 }
 
@@ -151,8 +159,8 @@ fn put_headers<A: Allocator>(part: HeadersPart<'_>, payload: &[u8], out: &mut Js
     if let Some((bits, _)) = part.priority {
         put_dependency(bits, out);
     }
-    put_octets(member!("fragment"), part.fragment, out);
-    put_octets(member!("octets"), payload, out);
+    put_octets(member!("fragment", "hex"), part.fragment, out);
+    put_octets(member!("octets", "hex"), payload, out);
     if let Some(pad) = part.pad {
         out.number(member!("padding"), u64::from(pad));
     }
@@ -165,7 +173,7 @@ fn put_headers<A: Allocator>(part: HeadersPart<'_>, payload: &[u8], out: &mut Js
 fn put_priority_frame<A: Allocator>(payload: &[u8], out: &mut JsonWords<A>) {
     if let [a, b, c, d, weight] = payload {
         put_dependency(u32::from_be_bytes([*a, *b, *c, *d]), out);
-        put_octets(member!("octets"), payload, out);
+        put_octets(member!("octets", "hex"), payload, out);
         out.number(member!("weight"), u64::from(*weight).saturating_add(1));
     }
 }
@@ -181,23 +189,23 @@ fn put_payload<A: Allocator>(frame: FrameRef<'_>, part: Option<Part<'_>>, out: &
 fn put_goaway<A: Allocator>(last: u32, number: u32, payload: &[u8], out: &mut JsonWords<A>) {
     put_code(number, out);
     put_octets(
-        member!("debug"),
+        member!("debug", "hex"),
         octets_from(payload, payload.len().min(8)),
         out,
     );
     out.number(member!("last_stream"), u64::from(last));
 }
 
-/// Puts a frame in words in.
-fn put_frame_words<A: Allocator + Copy>(
-    alloc: A,
-    frame: FrameRef<'_>,
-    part: Option<Part<'_>>,
-    out: &mut JsonWords<A>,
-) {
-    let mut words = out.empty(alloc);
-    say_frame_in(frame, part, true, &mut words);
-    out.words(member!("words"), words);
+/// A frame in words, for a JSON string.
+#[derive(Clone, Copy)]
+struct FrameWords<'f>(FrameRef<'f>, Option<Part<'f>>);
+
+impl Say for FrameWords<'_> {
+    fn say<A: Allocator>(self, out: &mut TextBuilder<A>) {
+        let start = out.len();
+        say_frame_in(self.0, self.1, true, out);
+        out.escape_from(start);
+    }
 }
 
 /// The fields of HEADERS that were sent.
@@ -220,12 +228,12 @@ fn put_sent_frame<A: Allocator + Copy>(
     out.open_element();
     put_answer(alloc, frame, out);
     put_head(&frame.head, out);
-    out.open(member!("octets"));
+    out.name(member!("octets", "hex"));
     put_hex(out.shown_of(octets), octets, out);
     out.close();
     let part = part_of(frame).ok();
     put_payload(frame, part, out);
-    put_frame_words(alloc, frame, part, out);
+    out.plain(member!("words"), FrameWords(frame, part));
     out.close();
 }
 
@@ -251,14 +259,13 @@ fn put_sent<A: Allocator + Copy>(alloc: A, octets: &[u8], out: &mut JsonWords<A>
 
 /// How a field was spelled.
 fn put_spelling<A: Allocator>(spelling: Spelling, out: &mut JsonWords<A>) {
-    out.open(member!("spelling"));
     match spelling {
         Spelling::Indexed(index) => {
-            out.number(member!("index"), index);
-            out.plain(member!("kind"), "indexed");
+            out.number(member!("spelling", "index"), index);
+            out.value(member!("kind"), "\"indexed\"");
         }
         Spelling::Literal(mode, index, name, value) => {
-            out.plain(member!("kind"), mode_name(mode));
+            out.plain(member!("spelling", "kind"), mode_name(mode));
             match index {
                 Some(index) => out.number(member!("name_index"), index),
                 None => out.flag(member!("name_huffman"), name),
@@ -271,10 +278,9 @@ fn put_spelling<A: Allocator>(spelling: Spelling, out: &mut JsonWords<A>) {
 
 /// A field.
 fn put_field<A: Allocator>(field: &SpelledField<A>, out: &mut JsonWords<A>) {
-    out.open_element();
-    put_octets(member!("name"), field.name.as_slice(), out);
+    put_octets(element!("name", "hex"), field.name.as_slice(), out);
     put_spelling(field.spelling, out);
-    put_octets(member!("value"), field.value.as_slice(), out);
+    put_octets(member!("value", "hex"), field.value.as_slice(), out);
     out.close();
 }
 
@@ -368,23 +374,23 @@ fn put_number<A: Allocator>(member: Member, what: Count, value: i64, out: &mut J
     }
 }
 
-/// The members of a change that are before `stream` and `what`: what was before and after, or where a body stops.
+/// Opens a change, with its members that are before `stream` and `what`: what was before and after, or where a body stops.
 fn put_values<A: Allocator>(change: &ShownChange, out: &mut JsonWords<A>) {
     match change {
         ShownChange::Number(_, what, before, after) => {
-            put_number(member!("after"), *what, *after, out);
+            put_number(element!("after"), *what, *after, out);
             put_number(member!("before"), *what, *before, out);
         }
         ShownChange::State(_, before, after) => {
-            out.plain(member!("after"), kind_name(*after));
+            out.plain(element!("after"), kind_name(*after));
             out.plain(member!("before"), kind_name(*before));
         }
         ShownChange::Acknowledged(before, after) => {
-            out.flag(member!("after"), *after);
+            out.flag(element!("after"), *after);
             out.flag(member!("before"), *before);
         }
         ShownChange::Stops(_, remaining, _, connection) => {
-            out.number(member!("after"), *remaining);
+            out.number(element!("after"), *remaining);
             out.signed(member!("connection_window"), *connection);
         }
     }
@@ -412,7 +418,6 @@ fn stream_of(change: &ShownChange) -> u32 {
 
 /// A change.
 fn put_change<A: Allocator>(change: &ShownChange, out: &mut JsonWords<A>) {
-    out.open_element();
     put_values(change, out);
     out.number(member!("stream"), u64::from(stream_of(change)));
     if let ShownChange::Stops(_, _, own, _) = change {
@@ -488,10 +493,9 @@ fn put_changes<A: Allocator + Copy>(account: &Account<A>, out: &mut JsonWords<A>
 
 /// An entry that was entered or evicted.
 fn put_entry<A: Allocator + Copy>(change: &EntryChange<A>, out: &mut JsonWords<A>) {
-    out.open_element();
-    put_octets(member!("name"), change.entry.name.as_slice(), out);
+    put_octets(element!("name", "hex"), change.entry.name.as_slice(), out);
     out.number(member!("octets"), change.entry.size() as u64);
-    put_octets(member!("value"), change.entry.value.as_slice(), out);
+    put_octets(member!("value", "hex"), change.entry.value.as_slice(), out);
     out.plain(
         member!("what"),
         if change.is_entered {
@@ -539,17 +543,22 @@ fn put_why<A: Allocator + Copy>(
     }
 }
 
-/// Puts an item in words in.
-fn put_item_words<A: Allocator + Copy>(alloc: A, item: &Explained<'_>, out: &mut JsonWords<A>) {
-    let mut words = out.empty(alloc);
-    say_item(item, &mut words);
-    out.words(member!("words"), words);
+/// An item in words, for a JSON string.
+#[derive(Clone, Copy)]
+struct ItemWords<'i>(&'i Explained<'i>);
+
+impl Say for ItemWords<'_> {
+    fn say<A: Allocator>(self, out: &mut TextBuilder<A>) {
+        let start = out.len();
+        say_item(self.0, out);
+        out.escape_from(start);
+    }
 }
 
 /// Puts the item in: its number, its octets, and what was sent for it.
 fn put_item<A: Allocator + Copy>(alloc: A, item: &Explained<'_>, out: &mut JsonWords<A>) {
     out.number(member!("item"), item.number);
-    put_octets(member!("octets"), item.octets, out);
+    put_octets(member!("octets", "hex"), item.octets, out);
     out.number(member!("offset"), item.offset as u64);
     if let Some(frame) = item.frame() {
         put_payload(frame, item.part, out);
@@ -569,7 +578,7 @@ pub fn put_opening<A: Allocator + Copy>(alloc: A, opening: &[u8], out: &mut Json
     out.open_list(member!("changes"));
     out.close_list();
     out.number(member!("item"), 0);
-    put_octets(member!("octets"), &[], out);
+    put_octets(member!("octets", "hex"), &[], out);
     out.number(member!("offset"), 0);
     put_sent(alloc, opening, out);
     out.number(member!("version"), VERSION);
@@ -579,18 +588,19 @@ pub fn put_opening<A: Allocator + Copy>(alloc: A, opening: &[u8], out: &mut Json
 }
 
 /// The octets of the line of an item, before it that of the server's opening, if the item is the first; `reader` has the
-/// fields of its block.
+/// fields of its block. They are in the memory of `octets`, whatever these are.
 ///
 /// `AllocError` where memory is refused.
 pub fn json_of<A: Allocator + Copy>(
     alloc: A,
+    octets: Vec<u8, A>,
     item: &Explained<'_>,
     account: &Account<A>,
     reader: &BlockReader<A>,
 ) -> Result<Vec<u8, A>, AllocError>
     ensures { IfOk result (λ octets. EndsLine false octets.items) }
 {
-    let mut out = JsonWords::over(account.words(alloc));
+    let mut out = JsonWords::over(TextBuilder::over(octets, account.is_full));
     put_opening(alloc, account.opening.as_slice(), &mut out);
     out.open_element();
     put_why(item, account, reader, &mut out);
@@ -600,12 +610,11 @@ pub fn json_of<A: Allocator + Copy>(
         put_updates(reader, &mut out);
     }
     put_warnings(account.warnings, &mut out);
-    put_item_words(alloc, item, &mut out);
+    out.plain(member!("words"), ItemWords(item));
     out.close();
-    match line_of(out) {
-        Ok(text) => Ok(text.into_bytes()),
-        Err(error) => Err(error),
-    }
+    let mut octets = out.into_octets()?;
+    octets.push(b'\n')?;
+    Ok(octets)
 }
 
 /// What was put together, as a line.

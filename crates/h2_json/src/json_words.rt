@@ -1,18 +1,34 @@
 //! JSON that is put together member by member. What it writes is tested, no definition speaks of it.
 
+use h2_describe::json_text::JsonText;
 use h2_describe::say::{Say, TextBuilder};
 use h2_describe::say_all;
 use std::alloc::{AllocError, Allocator};
 
-/// The name of a member as it is written after another one, `,"NAME":`. `member!` gives it.
+/// The name of a member as it is written after another one, `,"NAME":`. `member!` and `element!` give it.
 pub type Member = &'static str;
 
-/// The member of a name that has no character to escape. It is put together when the program is compiled, so that it is
-/// written in one part.
+/// The member of a name that has no character to escape, or the first member of the object that is a member: `,"NAME":`
+/// and `,"NAME":{"FIRST":`. It is put together when the program is compiled, so that it is written in one part.
 #[macro_export]
 macro_rules! member {
     ($name:literal) => {
         concat!(",\"", $name, "\":")
+    };
+    ($name:literal, $first:literal) => {
+        concat!(",\"", $name, "\":{\"", $first, "\":")
+    };
+}
+
+/// The first member of an object that is an element, or of the object that is this member: `,{"NAME":` and
+/// `,{"NAME":{"FIRST":`.
+#[macro_export]
+macro_rules! element {
+    ($name:literal) => {
+        concat!(",{\"", $name, "\":")
+    };
+    ($name:literal, $first:literal) => {
+        concat!(",{\"", $name, "\":{\"", $first, "\":")
     };
 }
 
@@ -25,68 +41,13 @@ fn written(member: Member, follows: bool) -> &'static str {
     }
 }
 
-/// A JSON text that grows. Members are put into the object that was opened last. As a text in words, it takes nothing
-/// more once memory was refused.
+/// A JSON text that grows. Members are put into the object that was opened last. As a text in words, it is refused as a
+/// whole where memory for a part was.
 #[derive(Drop)]
 pub struct JsonWords<A: Allocator> {
     words: TextBuilder<A>,
     /// Whether what is put next comes after something in its object or list, so that a comma is between them.
     follows: bool,
-}
-
-/// Whether a character is written as it is in a string (RFC 8259, 7).
-fn is_plain(character: char) -> bool {
-    character >= ' ' && character != '"' && character != '\\'
-}
-
-/// Whether all characters are written as they are: those of other than ASCII are, and their octets are above it.
-fn is_all_plain(text: &str) -> bool {
-    text.as_bytes().iter().all(|octet| *octet >= b' ' && *octet != b'"' && *octet != b'\\')
-}
-
-/// The escapes of the first 32 characters, in their order (RFC 8259, 7).
-static ESCAPES: [&str; 32] = [
-    "\\u0000", "\\u0001", "\\u0002", "\\u0003", "\\u0004", "\\u0005", "\\u0006", "\\u0007", "\\b",
-    "\\t", "\\n", "\\u000b", "\\f", "\\r", "\\u000e", "\\u000f", "\\u0010", "\\u0011", "\\u0012",
-    "\\u0013", "\\u0014", "\\u0015", "\\u0016", "\\u0017", "\\u0018", "\\u0019", "\\u001a",
-    "\\u001b", "\\u001c", "\\u001d", "\\u001e", "\\u001f",
-];
-
-/// The escape of a character that is not written as it is.
-fn escape_of(character: char) -> &'static str {
-    match character {
-        '"' => "\\\"",
-        '\\' => "\\\\",
-        _ => ESCAPES
-            .get(u32::from(character) as usize)
-            .copied()
-            .unwrap_or(""),
-    }
-}
-
-/// Puts a character of a string last.
-fn say_character<A: Allocator>(character: char, out: &mut TextBuilder<A>) {
-    if is_plain(character) {
-        say_all!(out; character);
-    } else {
-        say_all!(out; escape_of(character));
-    }
-}
-
-/// What is between the quotes of a string.
-#[derive(Clone, Copy)]
-struct Escaped<'a>(&'a str);
-
-impl Say for Escaped<'_> {
-    fn say<A: Allocator>(self, out: &mut TextBuilder<A>) {
-        if is_all_plain(self.0) {
-            say_all!(out; self.0);
-            return;
-        }
-        for character in self.0.chars() {
-            say_character(character, out);
-        }
-    }
 }
 
 impl<A: Allocator> JsonWords<A> {
@@ -103,9 +64,9 @@ impl<A: Allocator> JsonWords<A> {
         self.words.shown_of(octets)
     }
 
-    /// A text in words that is empty yet and shows as much of long texts.
-    pub(crate) fn empty(&self, alloc: A) -> TextBuilder<A> {
-        self.words.empty(alloc)
+    /// The octets of the text. `AllocError` where memory for it was refused.
+    pub(crate) fn into_octets(self) -> Result<Vec<u8, A>, AllocError> {
+        self.words.into_octets()
     }
 
     /// The text. `AllocError` where memory for it was refused.
@@ -122,7 +83,8 @@ impl<A: Allocator> JsonWords<A> {
 
     /// Opens the object that is a member.
     pub fn open(&mut self, member: Member) {
-        say_all!(&mut self.words; written(member, self.follows), '{');
+        self.name(member);
+        say_all!(&mut self.words; '{');
         self.follows = false;
     }
 
@@ -134,7 +96,8 @@ impl<A: Allocator> JsonWords<A> {
 
     /// Opens the list that is a member.
     pub fn open_list(&mut self, member: Member) {
-        say_all!(&mut self.words; written(member, self.follows), '[');
+        self.name(member);
+        say_all!(&mut self.words; '[');
         self.follows = false;
     }
 
@@ -169,9 +132,22 @@ impl<A: Allocator> JsonWords<A> {
         self.follows = true;
     }
 
+    /// Puts the name of a member. Its value is next.
+    #[inline(always)]
+    pub(crate) fn name(&mut self, member: Member) {
+        say_all!(&mut self.words; written(member, self.follows));
+    }
+
+    /// Puts the value of a member, or what it ends with, in quotes.
+    pub(crate) fn quoted<S: Say>(&mut self, part: S) {
+        say_all!(&mut self.words; '"', part, '"');
+        self.follows = true;
+    }
+
     /// Puts a member whose value is written in one part, without quotes.
-    fn value<S: Say>(&mut self, member: Member, part: S) {
-        say_all!(&mut self.words; written(member, self.follows), part);
+    pub(crate) fn value<S: Say>(&mut self, member: Member, part: S) {
+        self.name(member);
+        say_all!(&mut self.words; part);
         self.follows = true;
     }
 
@@ -205,20 +181,12 @@ impl<A: Allocator> JsonWords<A> {
 
     /// Puts a text that has no character to escape.
     pub fn plain<S: Say>(&mut self, member: Member, part: S) {
-        say_all!(&mut self.words; written(member, self.follows), '"', part, '"');
-        self.follows = true;
+        self.name(member);
+        self.quoted(part);
     }
 
     /// Puts a text.
     pub fn text(&mut self, member: Member, text: &str) {
-        self.plain(member, Escaped(text));
-    }
-
-    /// Puts a text in words.
-    pub(crate) fn words(&mut self, member: Member, words: TextBuilder<A>) {
-        match words.finish() {
-            Ok(text) => self.text(member, text.as_str()),
-            Err(_) => self.words.refuse(),
-        }
+        self.plain(member, JsonText::new(text));
     }
 }

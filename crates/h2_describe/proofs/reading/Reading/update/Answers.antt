@@ -10,13 +10,13 @@ returns-then-has_fields g c = (refl, LateUpdate, update-late c.args.self.now c.a
 
 pub returns-in_ok-push-in-Ok : goal.returns-in_ok-push-in-Ok
 returns-in_ok-push-in-Ok g c =
-    let before : Reading = record { table = c.self.inside.table; fields = c.self.inside.fields.items; updates = c.self.inside.updates.items } in
+    let before : Reading = record { table = c.self.inside.table; fields = c.self.inside.fields; updates = c.self.inside.updates.items } in
     let none : has_fields (fields_of before.fields) ≡ false = ap (λ (r : Reading). has_fields (fields_of r.fields)) c.self.view_is ∙ sym c.if-has_fields.ensures in
     rw (sym c.self.view_is)
     (update-taken before c.args.max c.set_max.new.self c.push.new.self.items none (not_above before.table.limit c.args.max c.in-Ok.ensures.over_limit.1) c.in-Ok.ensures.resized c.in_ok-push-in-Ok.ensures.items)
 
 pub returns-in-Err : goal.returns-in-Err
 returns-in-Err g c =
-    let with : LimitedTable → Reading = λ t. record { table = t; fields = c.self.inside.fields.items; updates = c.self.inside.updates.items } in
+    let with : LimitedTable → Reading = λ t. record { table = t; fields = c.self.inside.fields; updates = c.self.inside.updates.items } in
     let large = subst (λ (r : Reading). r.table.limit < c.args.max) c.self.view_is (c.in-Err.ensures.over_limit.0 refl) in
     (ap with c.in-Err.ensures.unchanged ∙ c.self.view_is, LargeUpdate, update-large c.args.self.now c.args.max (sym c.if-has_fields.ensures) large, refl)
