@@ -252,39 +252,37 @@ fn cut_option<'a>(alloc: Global) -> Arg<'a>
 fn each_option<'a>(alloc: Global) -> Arg<'a>
     ensures { IsArg each_rule result }
 {
-    Arg::new(alloc, "each")
-        .help("Shows the state at the start and after each item")
-        .long("each")
-        .action(ArgAction::SetTrue)
+    flag(
+        alloc,
+        "each",
+        "Shows the state at the start and after each item",
+    )
 }
 
 fn json_option<'a>(alloc: Global) -> Arg<'a>
     ensures { IsArg json_rule result }
 {
-    Arg::new(alloc, "json")
-        .help("Writes one JSON object a line")
-        .long("json")
-        .action(ArgAction::SetTrue)
+    flag(alloc, "json", "Writes one JSON object a line")
 }
 
 fn color_option<'a>(alloc: Global) -> Arg<'a>
     ensures { IsArg color_rule result }
 {
-    Arg::new(alloc, "color")
-        .help("Colours the lines of the text by what they say")
-        .long("color")
-        .action(ArgAction::SetTrue)
+    flag(
+        alloc,
+        "color",
+        "Colours the lines of the text by what they say",
+    )
 }
 
 fn strict_option<'a>(alloc: Global) -> Arg<'a>
     ensures { IsArg strict_rule result }
 {
-    Arg::new(alloc, "strict")
-        .help(
-            "Ends with status 5 where the client broke a rule, 6 above a limit, 7 within a frame, and says how many errors and warnings there were",
-        )
-        .long("strict")
-        .action(ArgAction::SetTrue)
+    flag(
+        alloc,
+        "strict",
+        "Ends with status 5 where the client broke a rule, 6 above a limit, 7 within a frame, and says how many errors and warnings there were",
+    )
 }
 
 fn explain_option<'a>(alloc: Global) -> Arg<'a>
@@ -320,28 +318,31 @@ fn record_option<'a>(alloc: Global) -> Arg<'a>
 fn full_option<'a>(alloc: Global) -> Arg<'a>
     ensures { IsArg full_rule result }
 {
-    Arg::new(alloc, "full")
-        .help("Writes long texts whole; without it the first 100 octets of each")
-        .long("full")
-        .action(ArgAction::SetTrue)
+    flag(
+        alloc,
+        "full",
+        "Writes long texts whole; without it the first 100 octets of each",
+    )
 }
 
 fn book_option<'a>(alloc: Global) -> Arg<'a>
     ensures { IsArg book_rule result }
 {
-    Arg::new(alloc, "book")
-        .help("A TOML file of answers, which come before those of the command line")
-        .long("book")
-        .action(ArgAction::Set)
+    text_option(
+        alloc,
+        "book",
+        "A TOML file of answers, which come before those of the command line",
+    )
 }
 
 fn why_option<'a>(alloc: Global) -> Arg<'a>
     ensures { IsArg why_rule result }
 {
-    Arg::new(alloc, "why")
-        .help("Nothing more: the reason is written to standard error in any case")
-        .long("why")
-        .action(ArgAction::SetTrue)
+    flag(
+        alloc,
+        "why",
+        "Nothing more: the reason is written to standard error in any case",
+    )
 }
 
 /// An option of this name that takes a text.
