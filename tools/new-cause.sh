@@ -58,7 +58,7 @@ Each has a sentence to replace (grep -rn '$name:' crates examples), and the code
 Then, in this order:
   the definition that answers cause.$variant, by this name (crates/h2_spec/specs), and its laws in crates/h2_laws
   the function that answers Cause::$variant (crates/h2_rules, or crates/h2_frame for a payload)
-  a row of CauseRows.antt (crates/h2_laws/proofs): the frame, and $variant
+  a row of CauseRows.antt (crates/h2_rows/proofs): the frame, and $variant
   a sentence with values, if there is one (crates/h2_sentence/src/sentence.rt)
   the end of $example, and below each line of it as lines ;> what explain prints, at the end as comments: ./h2_bench asm < $example | ./h2_bench explain (read each line of it)
   its place in the text of docs/TABLE.md, as \`$name\`, a case with the line ;! $name (cases), and a line in CHANGELOG.md

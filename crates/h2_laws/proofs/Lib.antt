@@ -1,36 +1,11 @@
-mod AppendixRows
 mod BeginningLaws
-mod BlockRows
-mod BookRows
 mod CauseLaws
-mod CauseRows
 mod CuttingLaws
-mod DebugRows
 mod DecodingLaws
-mod EarlyRows
 mod FlowLaws
 mod FormLaws
-mod FrameRows
 pub mod grants
-mod GrantsRows
-mod Hex
-mod HuffmanRows
 mod IgnoredLaws
-mod IgnoredRows
-mod InstructionRows
-mod IntegerRows
 mod LocalSettingsLaws
-mod LocalSettingsRows
-mod LongBodies
 mod PayloadLaws
-mod RequestRows
-mod PayloadRows
-mod RuleRows
-pub mod Runs
-mod ScriptRows
-mod SettingsRows
 mod SplitLaws
-mod StaticTableRows
-mod StreamRows
-mod StringRows
-mod TableRows

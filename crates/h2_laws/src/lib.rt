@@ -1,7 +1,6 @@
 //! The laws of the definitions: each is the contract of a public function with an empty body. No code calls them; a
 //! contract of h2_conn cites one, the law of grants. h2_spec has the definitions, and those lemmas that proofs of code
-//! need too. This crate also has worked examples, computed from the definitions (`proofs/Runs.antt`,
-//! `proofs/LongBodies.antt`, `proofs/..Rows.antt`).
+//! need too; h2_rows has worked examples.
 #![tactic(auto)]
 
 pub mod block_laws;

@@ -6,7 +6,7 @@ use Rattle.h2_spec.specs.Opening.{opening_settings}
 use Rattle.h2_spec.specs.State.{State, limits, opening}
 use Rattle.h2_spec.specs.Trace.{Event, trace}
 use Rattle.h2_spec.specs.Debug.{state_at, sent_at, stop, Break, AtPosition, OnType, OnStream, OnSent}
-use Rattle.h2_laws.proofs.Hex.{hex}
+use Rattle.h2_rows.proofs.Hex.{hex}
 
 abbrev default : Config
 default = limits 100 32768

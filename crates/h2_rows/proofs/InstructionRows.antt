@@ -4,7 +4,7 @@ use Prim.Native.String.{String}
 use Rattle.h2_spec.specs.Huffman.{spell_huffman}
 use Rattle.h2_spec.specs.Instruction.{Instruction, TextStr, Indexed, Update, Literal, IncrementalIndexing, WithoutIndexing, NeverIndexed, Ref, Named, instruction_at, shape_of, spell}
 use Rattle.h2_spec.specs.Read.{Whole, More, TooLong}
-use Rattle.h2_laws.proofs.Hex.{hex}
+use Rattle.h2_rows.proofs.Hex.{hex}
 
 -- a string as it is, and a Huffman string
 abbrev plain : String → TextStr

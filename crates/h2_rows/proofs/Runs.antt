@@ -11,7 +11,7 @@ use Rattle.h2_spec.specs.State.{State, limits, opening}
 use Rattle.h2_spec.specs.Trace.{trace, sent_octets}
 use Rattle.h2_spec.specs.View.{view}
 use Rattle.h2_spec.specs.Show.{show}
-use Rattle.h2_laws.proofs.Hex.{hex}
+use Rattle.h2_rows.proofs.Hex.{hex}
 
 abbrev pub default : Config
 default = limits 100 32768

@@ -7,7 +7,7 @@ use Rattle.h2_spec.specs.Assemble.{assembled}
 use Rattle.h2_spec.specs.Written.{written}
 use Rattle.h2_spec.specs.declared.scripts.SyntaxKind.{SyntaxKind}
 use Rattle.h2_spec.specs.declared.scripts.SyntaxKind.TheVariants as kind
-use Rattle.h2_laws.proofs.Hex.{hex}
+use Rattle.h2_rows.proofs.Hex.{hex}
 
 abbrev Row : Type 0
 Row = String × String

@@ -4,8 +4,8 @@ use Rattle.std.specs.Prelude.{◌≡◌, ℕ, [], ◌∷◌, ◌++◌, map, true
 use Rattle.h2_spec.specs.declared.connection.Config.{Config}
 use Rattle.h2_spec.specs.Opening.{opening_octets}
 use Rattle.h2_spec.specs.State.{is_allowed, limits}
-use Rattle.h2_laws.proofs.Hex.{hex}
-use Rattle.h2_laws.proofs.Runs.{default, replies, replies_to, shown}
+use Rattle.h2_rows.proofs.Hex.{hex}
+use Rattle.h2_rows.proofs.Runs.{default, replies, replies_to, shown}
 
 -- a limit of the header table, windows of new streams, and frames of this length
 abbrev of_table : ℕ → Config

@@ -2,7 +2,7 @@
 use Rattle.std.specs.Prelude.{◌≡◌, [], ◌∷◌, refl, codes, true, false, Some, None}
 use Prim.Native.String.{String}
 use Rattle.h2_spec.specs.Frame.{Next, NoItem, Got, Preface, BadPreface, WholeFrame, Oversize, next, head_at, frame, frame_octets}
-use Rattle.h2_laws.proofs.Hex.{hex}
+use Rattle.h2_rows.proofs.Hex.{hex}
 
 first : String → Next
 unfolding next

@@ -4,7 +4,7 @@ use Prim.Native.String.{String}
 use Rattle.h2_spec.specs.Huffman.{huffman_text}
 use Rattle.h2_spec.specs.Instruction.{TextStr, string_at, text_str}
 use Rattle.h2_spec.specs.Read.{Read, Whole, More, TooLong, read_map}
-use Rattle.h2_laws.proofs.Hex.{hex}
+use Rattle.h2_rows.proofs.Hex.{hex}
 
 -- the string at the front of octets, by its text
 text_at : String → Read (Option TextStr)

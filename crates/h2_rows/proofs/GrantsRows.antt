@@ -17,7 +17,7 @@ use Rattle.h2_spec.specs.Trace.{Event, trace}
 use Rattle.h2_laws.specs.Grants.{StreamTally, Tally, When, AtEach, IsWithinStream, IsWithinFrameSize, IsInOrder, IsBeforeEnd, IsPrefixOf, IsOfBody, IsUsedUp, body_or_nothing, is_headers_on, is_data_on, is_unfinished, sends_data, sent_one, sent_all, start, Meets}
 use Rattle.h2_laws.specs.GrantsTest.{Test, WithinConnection, WithinStream, WithinFrameSize, AnswersOnce, SilentAfterEnd, NothingHeldBack, when, at_each, is_within_connection, is_within_stream, is_within_frame_size, is_in_order, is_prefix, is_of_body, is_before_end, is_used_up, fails, failing, failing_in}
 use Rattle.h2_spec.specs.SendPending.{data_frames}
-use Rattle.h2_laws.proofs.Hex.{hex}
+use Rattle.h2_rows.proofs.Hex.{hex}
 
 -- ---- what is computed decides the tests
 

@@ -8,8 +8,8 @@ use Rattle.h2_spec.specs.Frame.{Next, NoItem, Got}
 use Rattle.h2_spec.specs.State.{State}
 use Rattle.h2_spec.specs.Ignored.{ignored_of}
 use Rattle.h2_spec.specs.Trace.{step, next_item}
-use Rattle.h2_laws.proofs.Hex.{hex}
-use Rattle.h2_laws.proofs.Runs.{default, ready}
+use Rattle.h2_rows.proofs.Hex.{hex}
+use Rattle.h2_rows.proofs.Runs.{default, ready}
 
 -- the reasons for which items of octets are ignored, in their order, up to a number of items
 abbrev ignored_with : State → List ℕ → (State → List ℕ → List Ignored) → Next → List Ignored

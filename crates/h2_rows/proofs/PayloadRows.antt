@@ -6,7 +6,7 @@ use Rattle.h2_spec.specs.declared.causes.Cause.TheVariants.{DataLength, DataPadd
 use Rattle.h2_spec.specs.declared.frames.FrameType.{FrameType}
 use Rattle.h2_spec.specs.declared.frames.FrameType.TheVariants as types
 use Rattle.h2_spec.specs.Payload.{Part, DataPart, HeadersPart, OfPing, OfPriority, OfSettingsAck, data_part, headers_part, settings_part, window_part, goaway_part, reset_part, part_as}
-use Rattle.h2_laws.proofs.Hex.{hex}
+use Rattle.h2_rows.proofs.Hex.{hex}
 
 -- flags and payloads of DATA (6.1): 8 is PADDED
 abbrev data_rows : List (ℕ × String × Result DataPart Cause)

@@ -12,7 +12,7 @@ use Rattle.h2_spec.specs.Change.{response}
 use Rattle.h2_spec.specs.SendPending.{piece}
 use Rattle.h2_spec.specs.Book.{entry_fault}
 use Rattle.h2_spec.specs.AnswerWords.{entry_of}
-use Rattle.h2_laws.proofs.Hex.{hex}
+use Rattle.h2_rows.proofs.Hex.{hex}
 
 abbrev pair : String → String → Field
 pair name value = field (codes name) (codes value)

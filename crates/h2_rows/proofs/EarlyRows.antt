@@ -3,8 +3,8 @@
 use Rattle.std.specs.Prelude.{◌≡◌, ℕ, List, [], ◌∷◌, true, refl, codes}
 use Prim.Native.String.{String}
 use Rattle.h2_spec.specs.Answer.{Entry, answer}
-use Rattle.h2_laws.proofs.Hex.{hex}
-use Rattle.h2_laws.proofs.Runs.{default, replies, shown}
+use Rattle.h2_rows.proofs.Hex.{hex}
+use Rattle.h2_rows.proofs.Runs.{default, replies, shown}
 use Rattle.h2_spec.specs.State.{limits}
 
 -- a book of one early answer

@@ -10,8 +10,8 @@ use Rattle.h2_spec.specs.Answer.{Entry}
 use Rattle.h2_spec.specs.State.{State, limits, opening}
 use Rattle.h2_spec.specs.Effect.{cause_of}
 use Rattle.h2_spec.specs.Trace.{step, next_item}
-use Rattle.h2_laws.proofs.Hex.{hex}
-use Rattle.h2_laws.proofs.Runs.{default, get, ready, replies}
+use Rattle.h2_rows.proofs.Hex.{hex}
+use Rattle.h2_rows.proofs.Runs.{default, get, ready, replies}
 
 -- the causes of the items of octets, in their order, up to a number of items
 abbrev causes_with : State → List ℕ → (State → List ℕ → List Cause) → Next → List Cause

@@ -6,7 +6,7 @@ use Rattle.h2_spec.specs.declared.streams.Stream.{Stream}
 use Rattle.h2_spec.specs.Answer.{Entry, answer}
 use Rattle.h2_spec.specs.State.{State, limits, opening}
 use Rattle.h2_spec.specs.Trace.{trace, sent_octets}
-use Rattle.h2_laws.proofs.Hex.{hex}
+use Rattle.h2_rows.proofs.Hex.{hex}
 
 abbrev default : Config
 default = limits 100 32768

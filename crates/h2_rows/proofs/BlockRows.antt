@@ -4,7 +4,7 @@ use Prim.Native.String.{String}
 use Rattle.h2_spec.specs.Field.{Field, field}
 use Rattle.h2_spec.specs.DynamicTable.{Table}
 use Rattle.h2_spec.specs.Block.{Decoded, Outcome, Unfinished, Faulty, ZeroIndex, Index, Integer, Huffman, LateUpdate, LargeUpdate, MissingUpdate, decoded, carried_on, list_size, start}
-use Rattle.h2_laws.proofs.Hex.{hex}
+use Rattle.h2_rows.proofs.Hex.{hex}
 
 -- a table of 4096 octets with these entries
 abbrev table : List Field → Table

@@ -5,7 +5,7 @@ use Prim.Native.String.{String}
 use Rattle.h2_spec.specs.Field.{Field, field}
 use Rattle.h2_spec.specs.DynamicTable.{Table, total_size}
 use Rattle.h2_spec.specs.Block.{Decoded, Outcome, Unfinished, decoded, list_size, start}
-use Rattle.h2_laws.proofs.Hex.{hex}
+use Rattle.h2_rows.proofs.Hex.{hex}
 
 abbrev fields : List (String × String) → List Field
 fields [] = []
