@@ -12,6 +12,8 @@ use Rattle.h2_fields.specs.Blocks.{faulted}
 use Rattle.h2_fields.specs.Applied.{Grows, IsStopped}
 use Rattle.h2_fields.specs.declared.collected.Savepoint.{Savepoint}
 use Rattle.h2_instruction.specs.Faults.{refusal}
+use Rattle.h2_instruction.specs.Resume.{IsPoint, IsRest}
+use Rattle.h2_instruction.specs.declared.shape.Point.{Point}
 use Rattle.h2_instruction.specs.declared.fault.BlockFault.{BlockFault}
 use Rattle.h2_instruction.specs.declared.fault.BlockFault.TheVariants as faults
 use Rattle.h2_fields.proofs.Applying.{refused}
@@ -84,3 +86,9 @@ pub none_dropped : (k : ℕ) (b : List ℕ) → b ≡ [] → drop k b ≡ []
 none_dropped zero b e = e
 none_dropped (suc k) [] e = refl
 none_dropped (suc k) (o ∷ b) e = absurd cc
+
+-- reading begins anew after the last octet
+pub start-rest : (b : List ℕ) (p : Point) → IsPoint b p → p.passed ≡ 0 → (length b == 0) ≡ true → IsRest b p
+start-rest b p h z e =
+    let none = eqb-true (length b) 0 e in
+    record { point = h; passed = omega (arith, z); again = omega (arith, none) }
