@@ -1,6 +1,5 @@
-use Rattle.std.proofs.Common.{◌≡◌, ◌≤◌, ◌*◌, ◌/◌, ◌++◌, ℕ, List, take, length, ap, ◌∙◌, sym, subst, arith}
+use Rattle.std.proofs.Common.{◌≤◌, ◌*◌, ◌/◌, ◌++◌, ℕ, take, length, ap, ◌∙◌, sym, subst, arith}
 use Rattle.std.proofs.lemmas.List.{take-append-drop}
-use Rattle.std.specs.List.{concat}
 use Rattle.h2_instruction.specs.Resume.{IsRest}
 use Rattle.h2_fields.proofs.Outcomes.{exit_no_value}
 use Rattle.h2_fields.proofs.rest.Rest.keep.Goals as goal
