@@ -1,5 +1,5 @@
 -- What the code does with an instruction is what the definitions say of it.
-use Rattle.std.proofs.Common.{◌≡◌, ℕ, suc, ◌+◌, ◌-◌, ◌≤◌, ◌<◌, ◌^◌, ◌⊎◌, inl, inr, Bool, true, false, not, List, [], ◌∷◌, ◌++◌, length, map, take, drop, min, sym, Some, Result, Ok, Err, refl, ap, ◌∙◌, arith, le-leb, append_assoc}
+use Rattle.std.proofs.Common.{◌≡◌, ◌≢◌, ℕ, suc, ◌+◌, ◌-◌, ◌≤◌, ◌<◌, ◌^◌, ◌⊎◌, inl, inr, Bool, true, false, not, List, [], ◌∷◌, ◌++◌, length, map, take, drop, min, sym, subst, Some, Result, Ok, Err, refl, ap, ◌∙◌, arith, le-leb, append_assoc, length-append}
 use Rattle.std.proofs.lemmas.Bool.{lt-leb}
 use Rattle.std.proofs.lemmas.Bool.Decides.{leb_tells}
 use Rattle.std.proofs.Math.Seq.{take-append_seam, drop-append_seam}
@@ -15,9 +15,10 @@ use Rattle.h2_mark.specs.Mark.{mark_of}
 use Rattle.h2_mark.specs.declared.mark.FieldMark.{FieldMark}
 use Rattle.h2_table.specs.Edits.{EditOf, edited}
 use Rattle.h2_list.specs.Listed.{Listed}
-use Rattle.h2_fields.specs.Applied.{first_refusal, progress_in}
+use Rattle.h2_fields.specs.Applied.{IsReadAs, first_refusal, progress_in}
 use Rattle.h2_instruction.specs.Faults.{refusal, fault_of}
 use Rattle.h2_instruction.specs.declared.fault.BlockFault.{BlockFault}
+use Rattle.h2_instruction.specs.declared.fault.BlockFault.TheVariants as faults
 
 pub not-false : (b : Bool) → false ≡ not b → b ≡ true
 not-false true e = refl
@@ -99,6 +100,26 @@ named l0 l1 l2 l3 n v h1 h2 h3 =
     let value : l2.next ≡ v = put-next l0 l1 l2 v h1 h2 in
     let fields : l2.fields ≡ l0.fields = ap (λ (l : Listed). l.fields) h2 ∙ ap (λ (l : Listed). l.fields) h1 in
     ap (λ (l : Listed). l.fields) h3 ∙ rw (fields, value) refl
+
+-- what still holds of the list and the marks where nothing was added
+pub still-listed : (size : ℕ) (shared old now : List Field) (marks was : List FieldMark) → (size ≡ list_size (shared ++ old)) × (was ≡ map mark_of old) → now ≡ old → marks ≡ was → (size ≡ list_size (shared ++ now)) × (marks ≡ map mark_of now)
+still-listed size shared old now marks was h e m = (h.0 ∙ ap (λ (fs : List Field). list_size (shared ++ fs)) (sym e), m ∙ h.1 ∙ ap (map mark_of) (sym e))
+
+-- where memory was reserved for one more, there is room
+pub room-reserved : (count room : ℕ) → count + 1 ≤ room → count < room
+room-reserved count room h = omega arith
+
+-- the octets that were put first are no more than all
+pub within-more : (first before all more : List ℕ) → first ≡ before → all ≡ before ++ more → length first ≤ length all
+within-more first before all more e k = let sum = length-append before more in omega (arith, ap length e, ap length k, sum)
+
+-- nothing was added, and why
+pub read-refused : (name value : Result (List ℕ) Fault) (old now : FieldsSoFar) (r : Result (Unit {0}) BlockFault) (f : BlockFault) → r ≡ Err f → now ≡ old → (f ≢ faults.NoMemory → first_refusal name value ≡ Some f) → IsReadAs name value old now r
+read-refused name value old now r f e n k = subst (IsReadAs name value old now) (sym e) (n, k)
+
+pub name-refused : (name value : Result (List ℕ) Fault) (f : BlockFault) → refusal name ≡ Some f → first_refusal name value ≡ Some f
+name-refused (Ok n) value f e = absurd cc
+name-refused (Err fault) value f e = e
 
 -- a literal is refused for its name, or else for its value
 pub literal-refused : (limit : ℕ) (p : Progress) (mode : Mode) (name : NameRef Str) (value : Str) (f : BlockFault) → p.due ≡ false → first_refusal (name_of name p.table.entries) (text_result (text_of value)) ≡ Some f →

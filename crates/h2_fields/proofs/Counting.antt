@@ -20,6 +20,11 @@ pub ticked : (passed before piece used after ticks : ℕ) → IsCounted passed (
 ticked passed before piece used after ticks c h k e =
     (λ below. let least = c.0 below in omega (arith, least, h), omega (arith, c.1, k, e), omega (arith, e))
 
+-- a fragment of `piece` octets where nothing was left
+pub ticked-alone : (passed piece used after ticks : ℕ) → IsCounted passed piece used 0 ticks → passed ≡ 0 → used + after ≡ piece → IsTicked 0 piece after ticks
+ticked-alone passed piece used after ticks c z e =
+    (λ below. let least = c.0 below in omega (arith, least, z), omega (arith, c.1, e, z), omega (arith, e))
+
 -- ---- fragment after fragment
 
 abbrev Bounded : BlockSoFar → List (List ℕ) → BlockSoFar → Type 0

@@ -1,3 +1,4 @@
+pub mod Outcomes
 mod BatchLaws
 mod Applying
 mod Chunking

@@ -1,7 +1,8 @@
-use Rattle.std.proofs.Common.{arith, ◌≡◌, ℕ, ◌+◌, ◌<◌, List, [], ◌∷◌, ◌++◌, length, take, ap, ◌∙◌, sym, Some, None, slice_get}
-use Rattle.std.proofs.lemmas.List.{take_more}
+use Rattle.std.proofs.Common.{arith, ◌≡◌, ℕ, ◌+◌, ◌<◌, ◌≤◌, List, [], ◌∷◌, ◌++◌, length, take, ap, ◌∙◌, sym, Some, None, slice_get}
+use Rattle.std.proofs.lemmas.List.{take-take, take_all, take_more}
 use Rattle.std.proofs.lemmas.Option.{get_or_from_slice_get, slice_get-get_or}
 use Rattle.h2_spec.specs.Field.{Field, field}
+use Rattle.h2_fields.proofs.Outcomes.{exit_no_value}
 use Rattle.h2_fields.proofs.block.copy_rest.Goals as goal
 use Rattle.h2_fields.proofs.block.copy_rest.Goals.{in-Some+in_ok-field+in_ok-push, in_default}
 
@@ -13,6 +14,32 @@ copied_more xs ys i x y same inside at copy =
 no_none : (xs : List Field) (i : ℕ) → i < length xs → None ≡ slice_get xs i → ⊥
 no_none [] i h e = omega arith
 no_none (x ∷ xs) i h e = let s = slice_get-get_or (x ∷ xs) i x h in cc
+
+-- the copies of before are still in front
+in_front : (n i : ℕ) (xs ys zs : List Field) → ys ≡ take i xs → n ≤ i → take n xs ≡ zs → take n ys ≡ zs
+in_front n i xs ys zs e h b = ap (take n) e ∙ take-take n i xs h ∙ b
+
+pub loop-place-init : goal.loop-place-init
+loop-place-init g c =
+    let at = c.len-place.ensures ∙ c.args.fields.now.ok.0 in
+    record {
+      from = omega (arith, at);
+      copied = sym c.requires.begins ∙ ap (λ n. take n c.args.collected.now.fields) (sym at);
+    }
+
+pub returns-in_err-field-clause-copied : goal.returns-in_err-field-clause-copied
+returns-in_err-field-clause-copied g c = exit_no_value c.from_residual.result _ _ c.from_residual.ensures.1
+
+pub returns-in_err-field-clause-begins : goal.returns-in_err-field-clause-begins
+returns-in_err-field-clause-begins g c =
+    in_front (length c.args.fields.now.items) c.loop-place.place c.args.collected.now.fields c.loop-place.fields.items c.args.fields.now.items c.loop-place.invariant.copied c.loop-place.invariant.from c.requires.begins
+
+pub returns-in_err-push-clause-copied : goal.returns-in_err-push-clause-copied
+returns-in_err-push-clause-copied g c = exit_no_value c.from_residual-in_err-push.result _ _ c.from_residual-in_err-push.ensures.1
+
+pub returns-in_err-push-clause-begins : goal.returns-in_err-push-clause-begins
+returns-in_err-push-clause-begins g c =
+    in_front (length c.args.fields.now.items) c.loop-place.place c.args.collected.now.fields c.push.new.self.items c.args.fields.now.items (c.in_err-push.ensures.items ∙ c.loop-place.invariant.copied) c.loop-place.invariant.from c.requires.begins
 
 pub loop-place-preserved : goal.loop-place-preserved
 loop-place-preserved g c =
@@ -30,3 +57,11 @@ loop-place-preserved g c =
           let none : None ≡ slice_get xs i = w.in_default.ensures in
           absurd (no_none xs i inside none)
     ]
+
+pub returns-clause-copied : goal.returns-clause-copied
+returns-clause-copied g c =
+    c.loop-place.invariant.copied ∙ take_all c.loop-place.place c.args.collected.now.fields (omega (arith, c.loop-place-test.false, c.len-place-end.ensures))
+
+pub returns-clause-begins : goal.returns-clause-begins
+returns-clause-begins g c =
+    in_front (length c.args.fields.now.items) c.loop-place.place c.args.collected.now.fields c.loop-place.fields.items c.args.fields.now.items c.loop-place.invariant.copied c.loop-place.invariant.from c.requires.begins

@@ -1,9 +1,100 @@
-use Rattle.std.proofs.Common.{ap}
-use Rattle.h2_spec.specs.Block.{FieldsSoFar}
+use Rattle.std.proofs.Common.{◌≡◌, ◌≤◌, ◌++◌, ℕ, List, [], Err, length, drop, ap, ◌∙◌, sym, subst, arith, length-drop}
+use Rattle.h2_spec.specs.Block.{Decoded, FieldsSoFar, Unfinished, progress_with}
+use Rattle.h2_spec.specs.Instruction.{instr_at}
+use Rattle.h2_instruction.specs.Resume.{IsRest}
+use Rattle.h2_instruction.specs.declared.fault.BlockFault.TheVariants as faults
+use Rattle.h2_table.specs.Edits.{edited}
+use Rattle.h2_fields.specs.Rests.{RestChange}
 use Rattle.h2_fields.specs.declared.collected.Savepoint.{Savepoint}
-use Rattle.h2_fields.proofs.Stopping.{grows-restored}
+use Rattle.h2_fields.proofs.Counting.{ticked-alone}
+use Rattle.h2_fields.proofs.Outcomes.{no_fault, on_err, on_ok, same_fault}
+use Rattle.h2_fields.proofs.Stopping.{grows-restored, memory-stopped, none_dropped, none_taken, saved-restored, saved-size}
 use Rattle.h2_fields.proofs.fragment.decode_alone.Goals as goal
+
+pub attempt-requires-clause-point : goal.attempt-requires-clause-point
+attempt-requires-clause-point g c = c.start.ensures.anywhere c.args.piece.now
+
+pub restore-requires : goal.restore-requires
+restore-requires g c =
+    record { size = saved-size c.args.collected.now c.attempt.new.collected c.savepoint-before.result c.savepoint-before.ensures c.attempt.ensures.grows }
+
+pub invariant_of-rest : goal.invariant_of-rest
+invariant_of-rest g c =
+    let r = c.rest.inside in
+    let none : r.octets.items ≡ [] = ap (λ (r : RestChange). r.all) c.rest.view_is ∙ c.requires.empty in
+    let same = on_err c.append.result c.if-is_err.ensures.value c.append.ensures.err in
+    let still : c.append.new.octets.items ≡ [] = same ∙ none in
+    let at : IsRest [] r.point = subst (λ b. IsRest b r.point) (none_taken r.kept r.octets.items none) c.rest.invariant.0 in (
+      subst (λ b. IsRest b r.point) (sym (none_taken r.kept c.append.new.octets.items still)) at,
+      subst (λ b. IsRest b r.point) (sym (none_dropped r.used c.append.new.octets.items still)) at,
+      subst (λ b. r.used ≤ length b) (sym same) c.rest.invariant.2,
+    )
+
+pub returns-then-is_err-clause-before : goal.returns-then-is_err-clause-before
+returns-then-is_err-clause-before g c =
+    let none = ap (λ (r : RestChange). r.all) c.rest.view_is ∙ c.requires.empty in
+    none_taken c.rest.inside.kept c.append.new.octets.items (on_err c.append.result c.if-is_err.ensures.value c.append.ensures.err ∙ none)
+
+pub returns-then-is_err-clause-fault : goal.returns-then-is_err-clause-fault
+returns-then-is_err-clause-fault g c = memory-stopped _ _ _ _
+
+pub returns-then-is_err-clause-unchanged : goal.returns-then-is_err-clause-unchanged
+returns-then-is_err-clause-unchanged g c = λ _.
+    saved-restored c.args.collected.now c.attempt.new.collected c.restore.new.self c.savepoint-before.result c.savepoint-before.ensures c.attempt.ensures.grows c.restore.ensures
 
 pub returns-then-is_err-clause-grows : goal.returns-then-is_err-clause-grows
 returns-then-is_err-clause-grows g c =
     grows-restored c.args.collected.now c.attempt.new.collected c.restore.new.self c.savepoint-before.result.count c.attempt.ensures.grows (ap (λ (m : Savepoint). m.count) c.savepoint-before.ensures) (ap (λ (s : FieldsSoFar). s.fields) c.restore.ensures)
+
+pub invariant_of-rest-in-Ok : goal.invariant_of-rest-in-Ok
+invariant_of-rest-in-Ok g c =
+    let r = c.rest.inside in
+    let none : r.octets.items ≡ [] = ap (λ (r : RestChange). r.all) c.rest.view_is ∙ c.requires.empty in
+    let now = on_ok c.append.result c.if-is_err.ensures.value c.append.ensures.ok ∙ ap (λ b. b ++ c.octets_from.result.now) none ∙ c.octets_from.ensures in (
+      subst (λ b. IsRest b r.point) (none_taken r.kept r.octets.items none) c.rest.invariant.0,
+      subst (λ b. IsRest b c.attempt.new.next) (sym now) c.in-Ok.ensures.rest,
+      omega arith,
+    )
+
+pub invariant_of-rest-in-Err : goal.invariant_of-rest-in-Err
+invariant_of-rest-in-Err g c =
+    (c.rest.invariant.0, subst (IsRest (drop c.rest.inside.used c.rest.inside.octets.items)) (sym c.in-Err.ensures.stays) c.rest.invariant.1, c.rest.invariant.2)
+
+pub returns-else-is_err-clause-decoded : goal.returns-else-is_err-clause-decoded
+returns-else-is_err-clause-decoded g c =
+    let none = ap (λ (r : RestChange). r.all) c.rest.view_is ∙ c.requires.empty in
+    let now = on_ok c.append.result c.if-is_err.ensures.value c.append.ensures.ok ∙ ap (λ b. b ++ c.octets_from.result.now) none ∙ c.octets_from.ensures in
+    let end = λ (rest : List ℕ). let d : Decoded = record { progress = progress_with (edited c.args.table.now.table.entries c.attempt.new.edit) c.attempt.new.collected; outcome = Unfinished rest } in d in
+    c.in-Ok.ensures.used.1 ∙ ap end (sym now)
+
+pub returns-else-is_err-clause-cut : goal.returns-else-is_err-clause-cut
+returns-else-is_err-clause-cut g c =
+    let none = ap (λ (r : RestChange). r.all) c.rest.view_is ∙ c.requires.empty in
+    let now = on_ok c.append.result c.if-is_err.ensures.value c.append.ensures.ok ∙ ap (λ b. b ++ c.octets_from.result.now) none ∙ c.octets_from.ensures in
+    ap instr_at now ∙ c.in-Ok.ensures.cut
+
+pub returns-else-is_err-clause-ticks : goal.returns-else-is_err-clause-ticks
+returns-else-is_err-clause-ticks g c =
+    let none = ap (λ (r : RestChange). r.all) c.rest.view_is ∙ c.requires.empty in
+    let now = on_ok c.append.result c.if-is_err.ensures.value c.append.ensures.ok ∙ ap (λ b. b ++ c.octets_from.result.now) none ∙ c.octets_from.ensures in
+    ticked-alone c.start.result.passed (length c.args.piece.now) c.in-Ok.used (length c.append.new.octets.items) c.attempt.new.ticks c.in-Ok.ensures.ticks
+    c.start.ensures.passed (omega (arith, ap length now, length-drop c.in-Ok.used c.args.piece.now, c.in-Ok.ensures.used.0))
+
+pub returns-in-Err-clause-before : goal.returns-in-Err-clause-before
+returns-in-Err-clause-before g c =
+    none_taken c.rest.inside.kept c.rest.inside.octets.items (ap (λ (r : RestChange). r.all) c.rest.view_is ∙ c.requires.empty)
+
+pub returns-in-Err-clause-fault : goal.returns-in-Err-clause-fault
+returns-in-Err-clause-fault g c = c.in-Err.ensures.fault
+
+pub returns-in-Err-clause-unchanged : goal.returns-in-Err-clause-unchanged
+returns-in-Err-clause-unchanged g c = λ e. c.in-Err.ensures.unchanged (ap Err (same_fault c.in-Err.fault faults.NoMemory e))
+
+pub returns-else-is_err-clause-unchanged : goal.returns-else-is_err-clause-unchanged
+returns-else-is_err-clause-unchanged g c = λ e. absurd (no_fault _ faults.NoMemory e)
+
+pub returns-else-is_err-clause-grows : goal.returns-else-is_err-clause-grows
+returns-else-is_err-clause-grows g c = c.attempt.ensures.grows
+
+pub returns-in-Err-clause-grows : goal.returns-in-Err-clause-grows
+returns-in-Err-clause-grows g c = c.attempt.ensures.grows

@@ -1,10 +1,18 @@
-use Rattle.std.proofs.Common.{◌≡◌, ◌≢◌, ℕ, ◌++◌, Option, Some, None, Err, option_map, refl, ap, ◌∙◌, subst, sym, rules}
+use Rattle.std.proofs.Common.{◌≡◌, ◌≢◌, ℕ, List, ◌++◌, Option, IsErr, Some, None, Err, option_map, refl, ap, ◌∙◌, subst, sym, rules}
+use Rattle.std.proofs.lemmas.Bool.{false≢true}
 use Rattle.h2_spec.specs.Block.{Decoded, FieldsSoFar, Unfinished, carried_on, decoded, progress_with}
-use Rattle.h2_fields.specs.Blocks.{BlockSoFar, CanRemain, answer_of, decoded_with, outcome_of}
+use Rattle.h2_fields.specs.Blocks.{BlockSoFar, CanRemain, TicksRise, answer_of, decoded_with, outcome_of}
 use Rattle.h2_fields.proofs.FoundFaults.{answers-faulty, faulty_outcome, shows_nothing, carried-faulty, carried-open, shown-faulty, stopped-named}
 use Rattle.h2_instruction.specs.declared.fault.BlockFault.{BlockFault}
 use Rattle.h2_instruction.specs.declared.fault.BlockFault.TheVariants as faults
 use Rattle.h2_fields.proofs.block.BlockDecoder.push.Goals as goal
+
+-- a decoder that goes on has not refused
+still-open : (rest : List ℕ) → Some (Unfinished rest) ≢ None
+still-open rest e = cc
+
+not_refused : (rest : List ℕ) → IsErr (answer_of (Some (Unfinished rest))) → ⊥
+not_refused rest e = false≢true e
 
 pub returns-in-Some-clause-carried : goal.returns-in-Some-clause-carried
 returns-in-Some-clause-carried g c = λ h.
@@ -76,3 +84,56 @@ returns-in-Some-clause-stays g c = search rules
 
 pub returns-in-Some-clause-refused : goal.returns-in-Some-clause-refused
 returns-in-Some-clause-refused g c = search rules
+
+pub returns-in-Ok-clause-spent : goal.returns-in-Ok-clause-spent
+returns-in-Ok-clause-spent g c = λ h.
+    let d = c.self.inside in
+    let going : c.args.self.now.outcome ≡ Some (Unfinished d.rest) = sym (ap (λ (s : BlockSoFar). s.outcome) c.self.view_is) ∙ ap (outcome_of d.rest) c.in_default.is in
+    absurd (still-open d.rest (sym going ∙ h))
+
+pub returns-in-Ok-clause-stays : goal.returns-in-Ok-clause-stays
+returns-in-Ok-clause-stays g c = λ h.
+    let d = c.self.inside in
+    let going : c.args.self.now.outcome ≡ Some (Unfinished d.rest) = sym (ap (λ (s : BlockSoFar). s.outcome) c.self.view_is) ∙ ap (outcome_of d.rest) c.in_default.is in
+    absurd (not_refused d.rest (subst (λ o. IsErr (answer_of o)) going h))
+
+pub returns-in-Ok-clause-limit : goal.returns-in-Ok-clause-limit
+returns-in-Ok-clause-limit g c = c.advance.ensures.limit
+
+pub returns-in-Err-clause-spent : goal.returns-in-Err-clause-spent
+returns-in-Err-clause-spent g c = λ h.
+    let d = c.self.inside in
+    let going : c.args.self.now.outcome ≡ Some (Unfinished d.rest) = sym (ap (λ (s : BlockSoFar). s.outcome) c.self.view_is) ∙ ap (outcome_of d.rest) c.in_default.is in
+    absurd (still-open d.rest (sym going ∙ h))
+
+pub returns-in-Err-clause-stays : goal.returns-in-Err-clause-stays
+returns-in-Err-clause-stays g c = λ h.
+    let d = c.self.inside in
+    let going : c.args.self.now.outcome ≡ Some (Unfinished d.rest) = sym (ap (λ (s : BlockSoFar). s.outcome) c.self.view_is) ∙ ap (outcome_of d.rest) c.in_default.is in
+    absurd (not_refused d.rest (subst (λ o. IsErr (answer_of o)) going h))
+
+pub returns-in-Err-clause-limit : goal.returns-in-Err-clause-limit
+returns-in-Err-clause-limit g c = c.advance.ensures.limit
+
+pub returns-in-Ok-clause-ticks : goal.returns-in-Ok-clause-ticks
+returns-in-Ok-clause-ticks g c =
+    let d = c.self.inside in
+    let new = c.advance.new in
+    let piece = c.args.piece.now in
+    let shown = λ (s : FieldsSoFar) (rest : List ℕ) (f : Option BlockFault) (ticks : ℕ). let b : BlockSoFar = record { fields = s.fields; due = s.due; outcome = outcome_of rest f; ticks = ticks } in b in
+    subst (λ (s : BlockSoFar). TicksRise s piece (shown new.collected new.rest d.fault new.ticks)) c.self.view_is
+    (subst (λ (f : Option BlockFault). TicksRise (shown d.collected d.rest f d.ticks) piece (shown new.collected new.rest f new.ticks)) (sym c.in_default.is) c.in-Ok.ensures.ticks)
+
+pub advance-requires : goal.advance-requires
+advance-requires g c = record { copied = c.self.invariant.0 }
+
+pub invariant_of-self-in-Err : goal.invariant_of-self-in-Err
+invariant_of-self-in-Err g c =
+    let d = c.self.inside in
+    (c.advance.ensures.copied, stopped-named c.args.table.now.limit (progress_with c.args.table.now.table d.collected) (progress_with c.advance.new.table.table c.advance.new.collected) (d.rest ++ c.args.piece.now) c.in-Err.fault c.in-Err.ensures.fault)
+
+pub returns-in-Some-clause-answer : goal.returns-in-Some-clause-answer
+returns-in-Some-clause-answer g c =
+    let rest = c.self.inside.rest in
+    answers-faulty rest c.in-Some.repeated (subst (CanRemain rest) c.in-Some.is c.self.invariant.1)
+    ∙ ap (λ f. answer_of (outcome_of rest f)) (sym c.in-Some.is) ∙ ap (λ (s : BlockSoFar). answer_of s.outcome) c.self.view_is

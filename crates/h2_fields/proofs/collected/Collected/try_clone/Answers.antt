@@ -1,0 +1,34 @@
+use Rattle.std.proofs.Common.{◌++◌, List, map, ap, ◌∙◌, sym}
+use Rattle.std.proofs.lemmas.List.Elements.{same_from_all_zip}
+use Rattle.h2_spec.specs.Block.{FieldsSoFar, list_size}
+use Rattle.h2_spec.specs.Field.{Field}
+use Rattle.h2_list.specs.Listed.{Listed}
+use Rattle.h2_mark.specs.Mark.{mark_of}
+use Rattle.h2_fields.proofs.Outcomes.{exit_no_value}
+use Rattle.h2_fields.proofs.collected.Collected.try_clone.Goals as goal
+
+pub returns-in_err-try_clone : goal.returns-in_err-try_clone
+returns-in_err-try_clone g c = record { same = exit_no_value c.from_residual.result _ _ c.from_residual.ensures.1 }
+
+pub returns-in_err-try_clone-2 : goal.returns-in_err-try_clone-2
+returns-in_err-try_clone-2 g c = record { same = exit_no_value c.from_residual-in_err-try_clone-2.result _ _ c.from_residual-in_err-try_clone-2.ensures.1 }
+
+pub returns-in_err-clone : goal.returns-in_err-clone
+returns-in_err-clone g c = record { same = exit_no_value c.from_residual-in_err-clone.result _ _ c.from_residual-in_err-clone.ensures.1 }
+
+pub invariant_of-result : goal.invariant_of-result
+invariant_of-result g c =
+    let d = c.self.inside in
+    let shared = c.in_ok-try_clone.ensures in
+    let list = c.in_ok-try_clone-2.ensures.same in
+    let marks = same_from_all_zip _ d.marks.items c.in_ok-clone.field-0.items c.in_ok-clone.ensures.cases.0 (λ x y e. e) in (
+      c.self.invariant.0 ∙ ap (λ (fs : List Field). list_size (fs ++ d.list.fields)) (sym shared) ∙ ap (λ (l : Listed). list_size (c.in_ok-try_clone.field-0 ++ l.fields)) (sym list),
+      marks ∙ c.self.invariant.1 ∙ ap (λ (l : Listed). map mark_of l.fields) (sym list),
+    )
+
+pub returns : goal.returns
+returns g c =
+    let d = c.self.inside in
+    let list = c.in_ok-try_clone-2.field-0 in
+    let so_far = λ (shared after : List Field). let s : FieldsSoFar = record { fields = shared ++ after; due = d.due } in s in
+    record { same = ap (λ (fs : List Field). so_far fs list.fields) c.in_ok-try_clone.ensures ∙ ap (λ (l : Listed). so_far d.shared l.fields) c.in_ok-try_clone-2.ensures.same ∙ c.self.view_is }
