@@ -1,10 +1,9 @@
-use Rattle.std.proofs.Common.{◌≡◌, ◌∙◌, ◌++◌, ◌+◌, ℕ, List, [], false, length, take, drop, ap, arith, length-drop, refl, subst, sym}
+use Rattle.std.proofs.Common.{◌≡◌, ◌∙◌, ◌++◌, ◌+◌, ℕ, List, [], length, take, drop, ap, arith, length-drop}
 use Rattle.std.proofs.lemmas.Result.{IfOk-from_err}
 use Rattle.h2_frame.specs.Rest.{Rest}
 use Rattle.h2_spec.specs.Frame.{NoItem}
-use Rattle.h2_spec.specs.State.{State}
 use Rattle.h2_spec.specs.Trace.{left_by, next_item}
-use Rattle.h2_conn.specs.Connection.{going, is_ended}
+use Rattle.h2_conn.specs.Connection.{going}
 use Rattle.h2_conn.specs.Runs.{TakesOne}
 use Rattle.h2_conn.proofs.FeedingLaws.{fits-more, held-all, held-offered, offered-taken, short-none, some-missing}
 use Rattle.h2_conn.proofs.Runs.{if_err, stop-none}
@@ -96,11 +95,6 @@ returns-in_err-push-clause-within g c = IfOk-from_err c.from_residual.result _ c
 
 pub returns-in_err-push-clause-err : goal.returns-in_err-push-clause-err
 returns-in_err-push-clause-err g c = if_err c.from_residual.result (c.loop-splitter.invariant.same, c.loop-splitter.invariant.quiet)
-
-pub offer-requires : goal.offer-requires
-offer-requires g c =
-    let i = c.loop-splitter.invariant in
-    λ k. ((refl, tt), (i.fits, subst (λ (s : State). is_ended s.core.phase ≡ false) (sym i.same) c.requires.goes))
 
 pub returns-in_err-offer-clause-ok : goal.returns-in_err-offer-clause-ok
 returns-in_err-offer-clause-ok g c = IfOk-from_err c.from_residual-in_err-offer.result _ c.from_residual-in_err-offer.ensures.0

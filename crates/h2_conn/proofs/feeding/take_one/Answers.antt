@@ -1,4 +1,4 @@
-use Rattle.std.proofs.Common.{◌≡◌, ◌∙◌, ℕ, List, [], false, true≢false, ap, refl, subst, sym}
+use Rattle.std.proofs.Common.{◌≡◌, ◌∙◌, ℕ, List, [], false, true≢false, subst, sym}
 use Rattle.std.specs.Prelude.{IfOk}
 use Rattle.std.proofs.lemmas.List.{nil_from_length}
 use Rattle.h2_spec.specs.Trace.{left_by}
@@ -14,9 +14,6 @@ returns-then-is_ended-clause-ok g c =
 
 pub returns-then-is_ended-clause-rest : goal.returns-then-is_ended-clause-rest
 returns-then-is_ended-clause-rest g c = c.requires
-
-pub take_in_hand-requires : goal.take_in_hand-requires
-take_in_hand-requires g c = λ k. ((refl, tt), (c.requires, (rw c.phase.ensures at (sym c.is_ended.ensures ∙ c.if-is_ended.false), nil_from_length c.args.splitter.now.octets (sym c.rest_len.ensures ∙ c.if-rest_len-eq0.true))))
 
 pub returns-then-rest_len-eq0-clause-ok : goal.returns-then-rest_len-eq0-clause-ok
 returns-then-rest_len-eq0-clause-ok g c =
@@ -36,9 +33,6 @@ pub returns-then-rest_len-eq0-clause-over : goal.returns-then-rest_len-eq0-claus
 returns-then-rest_len-eq0-clause-over g c =
     let goes : is_ended c.args.state.now.core.phase ≡ false = rw c.phase.ensures at (sym c.is_ended.ensures ∙ c.if-is_ended.false) in
     λ over. absurd (true≢false (sym over ∙ goes))
-
-pub complete-requires : goal.complete-requires
-complete-requires g c = λ k. ((refl, tt), (c.requires, rw c.phase.ensures at (sym c.is_ended.ensures ∙ c.if-is_ended.false)))
 
 pub returns-clause-ok : goal.returns-clause-ok
 returns-clause-ok g c = c.complete.ensures.ok

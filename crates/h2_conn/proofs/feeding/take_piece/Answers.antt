@@ -1,4 +1,4 @@
-use Rattle.std.proofs.Common.{◌≡◌, ◌∙◌, ℕ, List, [], true, false, true≢false, refl, subst, sym}
+use Rattle.std.proofs.Common.{◌≡◌, ◌∙◌, ℕ, List, [], true, false, true≢false, subst, sym}
 use Rattle.std.specs.Prelude.{IfOk, OnErr}
 use Rattle.std.proofs.lemmas.Bool.{not-false, not-true}
 use Rattle.std.proofs.lemmas.List.{nil_from_length}
@@ -41,9 +41,6 @@ returns-clause-ok g c =
 pub returns-then-is_ended-clause-rest : goal.returns-then-is_ended-clause-rest
 returns-then-is_ended-clause-rest g c = c.requires
 
-pub take_rest-requires : goal.take_rest-requires
-take_rest-requires g c = λ k. ((refl, tt), (c.requires.0, nil_from_length c.args.splitter.now.octets (sym c.rest_len.ensures ∙ c.if-rest_len-eq0.true)))
-
 pub returns-then-rest_len-eq0-clause-ok : goal.returns-then-rest_len-eq0-clause-ok
 returns-then-rest_len-eq0-clause-ok g c =
     let s = c.args.state.now in
@@ -68,9 +65,6 @@ returns-then-rest_len-eq0-clause-over g c =
     let goes : is_ended c.args.state.now.core.phase ≡ false = rw c.phase.ensures at (sym c.is_ended.ensures ∙ c.if-is_ended.false) in
     λ over. absurd (true≢false (sym over ∙ goes))
 
-pub complete-requires : goal.complete-requires
-complete-requires g c = λ k. ((refl, tt), (c.requires, rw c.phase.ensures at (sym c.is_ended.ensures ∙ c.if-is_ended.false)))
-
 pub returns-in_err-one-clause-ok : goal.returns-in_err-one-clause-ok
 returns-in_err-one-clause-ok g c = IfOk-from_err c.from_residual.result _ c.from_residual.ensures.0
 
@@ -84,9 +78,6 @@ returns-in_err-one-clause-over g c =
 
 pub returns-then-not-one-clause-rest : goal.returns-then-not-one-clause-rest
 returns-then-not-one-clause-rest g c = c.in_ok-one.ensures.rest
-
-pub take_rest-requires-2 : goal.take_rest-requires-2
-take_rest-requires-2 g c = λ k. ((refl, tt), (c.in_ok-one.ensures.rest.0, c.in_ok-one.ensures.empty (not-false c.in_ok-one.one.item c.if-not-one.false)))
 
 pub returns-in_err-count-clause-ok : goal.returns-in_err-count-clause-ok
 returns-in_err-count-clause-ok g c = IfOk-from_err c.from_residual-in_err-count.result _ c.from_residual-in_err-count.ensures.0

@@ -55,15 +55,3 @@ returns-in-Some-opening-clause-ok g c =
 
 pub returns-in-Some-opening-clause-verdict : goal.returns-in-Some-opening-clause-verdict
 returns-in-Some-opening-clause-verdict g c = subst (λ (e : FrameEffect). IfOk c.finish.result (λ verdict. verdict ≡ effect_verdict e)) (sym (made g c)) c.finish.ensures.verdict
-
-pub returns-in-Some-opening-clause-err : goal.returns-in-Some-opening-clause-err
-returns-in-Some-opening-clause-err g c = c.finish.ensures.err
-
-pub returns-in-None-opening-clause-ok : goal.returns-in-None-opening-clause-ok
-returns-in-None-opening-clause-ok g c = c.ends_otherwise.ensures.ok
-
-pub returns-in-None-opening-clause-verdict : goal.returns-in-None-opening-clause-verdict
-returns-in-None-opening-clause-verdict g c = c.ends_otherwise.ensures.verdict
-
-pub returns-in-None-opening-clause-err : goal.returns-in-None-opening-clause-err
-returns-in-None-opening-clause-err g c = c.ends_otherwise.ensures.err

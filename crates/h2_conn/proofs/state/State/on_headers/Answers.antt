@@ -28,9 +28,6 @@ returns-in-Err-clause-ok g c =
 pub returns-in-Err-clause-verdict : goal.returns-in-Err-clause-verdict
 returns-in-Err-clause-verdict g c = subst (λ (e : FrameEffect). IfOk c.fail.result (λ verdict. verdict ≡ effect_verdict e)) (sym (refused g c)) c.fail.ensures.verdict
 
-pub returns-in-Err-clause-err : goal.returns-in-Err-clause-err
-returns-in-Err-clause-err g c = c.fail.ensures.err
-
 -- what HEADERS that open a block result in
 opened : (g : Over) (c : goal.After-on_fragment g) → (let s = c.args.self.now in let h = c.args.head.now in rule.on_headers s h (headers_seen c.args.part) (headers_cell h.stream (stream_at s.core.last s.streams h.stream).kind) ≡ fragment s c.fresh_block-shown.result c.renew.new.self c.args.part.fragment.now c.has-end_headers.result)
 opened g c =

@@ -59,9 +59,6 @@ returns-in-Data-clause-verdict g c =
     subst (λ (p : Part). IfOk c.take_data.result (λ verdict. verdict ≡ effect_verdict (frame_effect c.args.self.now c.args.head.now c.args.payload.now (part_seen p)))) (sym c.in-Data.is)
     (subst (λ (d : ReceivedData). IfOk c.take_data.result (λ verdict. verdict ≡ effect_verdict (makes c.args.self.now (let st = stream_at c.args.self.now.core.last c.args.self.now.streams c.args.head.now.stream in on_data c.args.self.now.config c.args.self.now.core (body_length c.args.self.now.book st) d st)))) c.incoming.ensures c.take_data.ensures.verdict)
 
-pub returns-in-Data-clause-err : goal.returns-in-Data-clause-err
-returns-in-Data-clause-err g c = c.take_data.ensures.err
-
 pub returns-in-Headers-clause-ok : goal.returns-in-Headers-clause-ok
 returns-in-Headers-clause-ok g c =
     let s = c.args.self.now in
@@ -70,9 +67,6 @@ returns-in-Headers-clause-ok g c =
 pub returns-in-Headers-clause-verdict : goal.returns-in-Headers-clause-verdict
 returns-in-Headers-clause-verdict g c =
     subst (λ (p : Part). IfOk c.on_headers.result (λ verdict. verdict ≡ effect_verdict (frame_effect c.args.self.now c.args.head.now c.args.payload.now (part_seen p)))) (sym c.in-Headers.is) c.on_headers.ensures.verdict
-
-pub returns-in-Headers-clause-err : goal.returns-in-Headers-clause-err
-returns-in-Headers-clause-err g c = c.on_headers.ensures.err
 
 pub returns-in-Priority-clause-ok : goal.returns-in-Priority-clause-ok
 returns-in-Priority-clause-ok g c =
@@ -83,9 +77,6 @@ pub returns-in-Priority-clause-verdict : goal.returns-in-Priority-clause-verdict
 returns-in-Priority-clause-verdict g c =
     subst (λ (p : Part). IfOk c.take_ignored.result (λ verdict. verdict ≡ effect_verdict (frame_effect c.args.self.now c.args.head.now c.args.payload.now (part_seen p)))) (sym c.in-Priority.is) c.take_ignored.ensures.verdict
 
-pub returns-in-Priority-clause-err : goal.returns-in-Priority-clause-err
-returns-in-Priority-clause-err g c = c.take_ignored.ensures.err
-
 pub returns-in-RstStream-clause-ok : goal.returns-in-RstStream-clause-ok
 returns-in-RstStream-clause-ok g c =
     let s = c.args.self.now in
@@ -94,9 +85,6 @@ returns-in-RstStream-clause-ok g c =
 pub returns-in-RstStream-clause-verdict : goal.returns-in-RstStream-clause-verdict
 returns-in-RstStream-clause-verdict g c =
     subst (λ (p : Part). IfOk c.take_reset.result (λ verdict. verdict ≡ effect_verdict (frame_effect c.args.self.now c.args.head.now c.args.payload.now (part_seen p)))) (sym c.in-RstStream.is) c.take_reset.ensures.verdict
-
-pub returns-in-RstStream-clause-err : goal.returns-in-RstStream-clause-err
-returns-in-RstStream-clause-err g c = c.take_reset.ensures.err
 
 pub returns-in-Settings-clause-ok : goal.returns-in-Settings-clause-ok
 returns-in-Settings-clause-ok g c =
@@ -107,9 +95,6 @@ pub returns-in-Settings-clause-verdict : goal.returns-in-Settings-clause-verdict
 returns-in-Settings-clause-verdict g c =
     subst (λ (p : Part). IfOk c.take_settings.result (λ verdict. verdict ≡ effect_verdict (frame_effect c.args.self.now c.args.head.now c.args.payload.now (part_seen p)))) (sym c.in-Settings.is) c.take_settings.ensures.verdict
 
-pub returns-in-Settings-clause-err : goal.returns-in-Settings-clause-err
-returns-in-Settings-clause-err g c = c.take_settings.ensures.err
-
 pub returns-in-SettingsAck-clause-ok : goal.returns-in-SettingsAck-clause-ok
 returns-in-SettingsAck-clause-ok g c =
     let s = c.args.self.now in
@@ -119,9 +104,6 @@ pub returns-in-SettingsAck-clause-verdict : goal.returns-in-SettingsAck-clause-v
 returns-in-SettingsAck-clause-verdict g c =
     subst (λ (p : Part). IfOk c.on_acknowledged.result (λ verdict. verdict ≡ effect_verdict (frame_effect c.args.self.now c.args.head.now c.args.payload.now (part_seen p)))) (sym c.in-SettingsAck.is) c.on_acknowledged.ensures.verdict
 
-pub returns-in-SettingsAck-clause-err : goal.returns-in-SettingsAck-clause-err
-returns-in-SettingsAck-clause-err g c = c.on_acknowledged.ensures.err
-
 pub returns-in-PushPromise-clause-ok : goal.returns-in-PushPromise-clause-ok
 returns-in-PushPromise-clause-ok g c =
     let s = c.args.self.now in
@@ -130,9 +112,6 @@ returns-in-PushPromise-clause-ok g c =
 pub returns-in-PushPromise-clause-verdict : goal.returns-in-PushPromise-clause-verdict
 returns-in-PushPromise-clause-verdict g c =
     subst (λ (p : Part). IfOk c.take_push_promise.result (λ verdict. verdict ≡ effect_verdict (frame_effect c.args.self.now c.args.head.now c.args.payload.now (part_seen p)))) (sym c.in-PushPromise.is) c.take_push_promise.ensures.verdict
-
-pub returns-in-PushPromise-clause-err : goal.returns-in-PushPromise-clause-err
-returns-in-PushPromise-clause-err g c = c.take_push_promise.ensures.err
 
 pub returns-in-Ping-clause-ok : goal.returns-in-Ping-clause-ok
 returns-in-Ping-clause-ok g c =
@@ -145,9 +124,6 @@ returns-in-Ping-clause-verdict g c =
     subst (λ (p : Part). IfOk c.take_ping.result (λ verdict. verdict ≡ effect_verdict (frame_effect c.args.self.now c.args.head.now c.args.payload.now (part_seen p)))) (sym c.in-Ping.is)
     (subst (λ (b : Bool). IfOk c.take_ping.result (λ verdict. verdict ≡ effect_verdict (makes c.args.self.now (if b then ignore c.args.self.now.core PingAcknowledgement else Continues (record (only_counts c.args.self.now.core) { connection_frame = PingAck c.in-Ping.octets }))))) c.has.ensures c.take_ping.ensures.verdict)
 
-pub returns-in-Ping-clause-err : goal.returns-in-Ping-clause-err
-returns-in-Ping-clause-err g c = c.take_ping.ensures.err
-
 pub returns-in-Goaway-clause-ok : goal.returns-in-Goaway-clause-ok
 returns-in-Goaway-clause-ok g c =
     let s = c.args.self.now in
@@ -156,9 +132,6 @@ returns-in-Goaway-clause-ok g c =
 pub returns-in-Goaway-clause-verdict : goal.returns-in-Goaway-clause-verdict
 returns-in-Goaway-clause-verdict g c =
     subst (λ (p : Part). IfOk c.take_goaway.result (λ verdict. verdict ≡ effect_verdict (frame_effect c.args.self.now c.args.head.now c.args.payload.now (part_seen p)))) (sym c.in-Goaway.is) c.take_goaway.ensures.verdict
-
-pub returns-in-Goaway-clause-err : goal.returns-in-Goaway-clause-err
-returns-in-Goaway-clause-err g c = c.take_goaway.ensures.err
 
 pub returns-in-WindowUpdate-clause-ok : goal.returns-in-WindowUpdate-clause-ok
 returns-in-WindowUpdate-clause-ok g c =
@@ -169,9 +142,6 @@ pub returns-in-WindowUpdate-clause-verdict : goal.returns-in-WindowUpdate-clause
 returns-in-WindowUpdate-clause-verdict g c =
     subst (λ (p : Part). IfOk c.take_window_update.result (λ verdict. verdict ≡ effect_verdict (frame_effect c.args.self.now c.args.head.now c.args.payload.now (part_seen p)))) (sym c.in-WindowUpdate.is) c.take_window_update.ensures.verdict
 
-pub returns-in-WindowUpdate-clause-err : goal.returns-in-WindowUpdate-clause-err
-returns-in-WindowUpdate-clause-err g c = c.take_window_update.ensures.err
-
 pub returns-in-Continuation-clause-ok : goal.returns-in-Continuation-clause-ok
 returns-in-Continuation-clause-ok g c =
     let s = c.args.self.now in
@@ -181,9 +151,6 @@ pub returns-in-Continuation-clause-verdict : goal.returns-in-Continuation-clause
 returns-in-Continuation-clause-verdict g c =
     subst (λ (p : Part). IfOk c.on_continuation.result (λ verdict. verdict ≡ effect_verdict (frame_effect c.args.self.now c.args.head.now c.args.payload.now (part_seen p)))) (sym c.in-Continuation.is) c.on_continuation.ensures.verdict
 
-pub returns-in-Continuation-clause-err : goal.returns-in-Continuation-clause-err
-returns-in-Continuation-clause-err g c = c.on_continuation.ensures.err
-
 pub returns-in-Unknown-clause-ok : goal.returns-in-Unknown-clause-ok
 returns-in-Unknown-clause-ok g c =
     let s = c.args.self.now in
@@ -192,6 +159,3 @@ returns-in-Unknown-clause-ok g c =
 pub returns-in-Unknown-clause-verdict : goal.returns-in-Unknown-clause-verdict
 returns-in-Unknown-clause-verdict g c =
     subst (λ (p : Part). IfOk c.take_ignored-in-Unknown.result (λ verdict. verdict ≡ effect_verdict (frame_effect c.args.self.now c.args.head.now c.args.payload.now (part_seen p)))) (sym c.in-Unknown.is) c.take_ignored-in-Unknown.ensures.verdict
-
-pub returns-in-Unknown-clause-err : goal.returns-in-Unknown-clause-err
-returns-in-Unknown-clause-err g c = c.take_ignored-in-Unknown.ensures.err
