@@ -50,6 +50,11 @@ pub taken-some : (o : Option TakenItem) (s t : State) (b out out' : List ℕ) �
 taken-some None s t b out out' some x = absurd (true≢false (sym some))
 taken-some (Some taken) s t b out out' some x = (taken.used, x)
 
+-- where none is taken the state stays as it was
+pub taken-none : (o : Option TakenItem) (s t : State) (b out out' : List ℕ) → is_some o ≡ false → TakesIfAny s b out t out' (used_by o) → t ≡ s
+taken-none None s t b out out' none x = x.same
+taken-none (Some taken) s t b out out' none x = absurd (true≢false none)
+
 event-follows : (s t : State) (n : Next) (e : Event) (used : ℕ) → IsOrdered s → event_on s n ≡ One e t used → Follows s t
 event-follows s t NoItem e used o h = cc
 event-follows s t (Got x u) e used o h = let same : (step s x).state ≡ t = cc in subst (λ (v : State). Follows s v) same (step-follows s x o)

@@ -1,21 +1,27 @@
 -- What a fragment that is decoded results in.
-use Rattle.std.proofs.Common.{◌≡◌, ◌≢◌, ℕ, Bool, true, false, cond, not, ◌+◌, nat_lt, List, ◌++◌, length, Option, Some, None, refl, sym, ap, ◌∙◌}
+use Rattle.std.proofs.Common.{◌≡◌, ◌≢◌, ℕ, Bool, true, false, cond, not, ◌+◌, nat_lt, List, ◌++◌, length, Option, Some, None, refl, sym, ap, subst, ◌∙◌}
 use Rattle.std.specs.Prelude.{◌==◌}
 use Rattle.std.proofs.lemmas.Option.{none-some}
 use Rattle.h2_fields.specs.Blocks.{faulted}
 use Rattle.h2_instruction.specs.declared.fault.BlockFault.{BlockFault}
 use Rattle.h2_instruction.specs.declared.fault.BlockFault.TheVariants as fault
 use Rattle.h2_spec.specs.declared.connection.BlockView.{BlockView}
+use Rattle.h2_spec.specs.declared.connection.Config.{Config}
+use Rattle.h2_spec.specs.declared.connection.ConnectionState.{ConnectionState}
 use Rattle.h2_spec.specs.declared.connection.Purpose.{Purpose}
 use Rattle.h2_spec.specs.declared.causes.Cause.{Cause}
 use Rattle.h2_spec.specs.declared.causes.Cause.TheVariants.{BlockTooLarge, BlockTruncated, SizeUpdateMissing}
+use Rattle.h2_spec.specs.declared.reactions.Change.{Change}
+use Rattle.h2_spec.specs.declared.streams.Stream.{Stream}
 use Rattle.h2_instruction.specs.Faults.{fault_of}
+use Rattle.h2_spec.specs.Answer.{Entry}
 use Rattle.h2_spec.specs.Block.{Fault, ZeroIndex, Index, Integer, Huffman, LateUpdate, LargeUpdate, MissingUpdate, Decoded, Faulty, Outcome, Unfinished, decoded, list_size}
 use Rattle.h2_spec.specs.DynamicTable.{Table}
 use Rattle.h2_spec.specs.Headers as headers
 use Rattle.h2_spec.specs.Headers.{FrameEffect, fragment_decoded, fragment_read, fault_cause}
 use Rattle.h2_spec.specs.State as state
 use Rattle.h2_rules.specs.Block.{cause_by, refused_end}
+use Rattle.h2_rules.specs.Open.{state_of}
 use Rattle.h2_block.specs.Blocks.{bad_end}
 use Rattle.h2_block.specs.Fragments.{HasFault, after_fragment, before_fragment}
 
@@ -82,3 +88,18 @@ ends-badly s b d cause h = by (length d.rest == 0) d.due h
     by false due e = breaks BlockTruncated e
     by true true e = breaks SizeUpdateMissing e
     by true false e = absurd (none-some cause e)
+
+-- a block that ends well, in a state of these parts: what it results in is made
+pub ends-well : (s : state.State) (b : BlockView) (d : state.Decoding) (book : List Entry) (config : Config) (core : ConnectionState) (streams : List Stream) (c : Change) → bad_end d ≡ None →
+    state_of book config core s.block s.table streams ≡ s → c ≡ headers.block_ends (state_of book config core s.block s.table streams) b.stream b.ends d.fields d.purpose →
+    headers.fragment_read s b d true ≡ headers.Makes (headers.with_block s None) c
+ends-well s b d book config core streams c h same made =
+    let is : c ≡ headers.block_ends s b.stream b.ends d.fields d.purpose = subst (λ (x : state.State). c ≡ headers.block_ends x b.stream b.ends d.fields d.purpose) same made in
+    by (length d.rest == 0) d.due h ∙ ap (λ (x : Change). let e : FrameEffect = headers.Makes (headers.with_block s None) x in e) (sym is)
+  where
+    by : (whole due : Bool) → refused_end whole due ≡ None →
+        cond (not whole) (headers.Breaks BlockTruncated) (cond due (headers.Breaks SizeUpdateMissing) (headers.Makes (headers.with_block s None) (headers.block_ends s b.stream b.ends d.fields d.purpose)))
+        ≡ headers.Makes (headers.with_block s None) (headers.block_ends s b.stream b.ends d.fields d.purpose)
+    by false due e = absurd (none-some BlockTruncated (sym e))
+    by true true e = absurd (none-some SizeUpdateMissing (sym e))
+    by true false e = refl

@@ -7,11 +7,12 @@ use Rattle.h2_spec.specs.SettingsFrame.{comes_into_force}
 use Rattle.h2_spec.specs.State.{State, configured}
 use Rattle.h2_spec.specs.Stream.{Records}
 use Rattle.h2_spec.specs.Trace.{then_sent}
-use Rattle.h2_conn.specs.Blocks.{IsStopped}
+use Rattle.h2_conn.specs.Blocks.{IsOpenFor, IsStopped}
 use Rattle.h2_conn.specs.Does.{Does}
 use Rattle.h2_send.specs.Sending.{open_window, records_after, CanSend}
 use Rattle.h2_rules.specs.Sound.{AreInRange, IsSoundState, updated_records}
 use Rattle.h2_conn.proofs.ApplyChangeLaws.{counts-sent, did, stopped-open}
+use Rattle.h2_conn.proofs.Runs.{if_err}
 use Rattle.h2_send.proofs.SendChangeLaws.{can-come}
 use Rattle.h2_send.proofs.SentLaws.{sent-sound}
 use Rattle.h2_rules.proofs.SoundLaws.{in-force-sound}
@@ -64,3 +65,32 @@ returns-in-Ok-clause-ok g c =
     let kept : c.lower_limit.new.self.table ≡ inside.table.table = ap (λ (t : LimitedTable). t.table) c.lower_limit.ensures ∙ ap (λ (t : LimitedTable). t.table) c.in_ok-set_limit.ensures.limited in
     let whole = subst (λ (t : Table). Does (then_sent inside.core.phase (made held (comes_into_force inside.core (configured inside.config)))) out (record sent { table = t }) (g.O.Outgoing.octets now.out)) (sym kept) came in
     subst (λ (s : State). Does (then_sent s.core.phase (made s (comes_into_force s.core (configured s.config)))) out (record sent { table = c.lower_limit.new.self.table }) (g.O.Outgoing.octets now.out)) c.self.view_is whole
+
+pub invariant_of-self : goal.invariant_of-self
+invariant_of-self g c =
+    let before = c.self.invariant in
+    (before.0, ap (λ (t : LimitedTable). t.limit) c.in_err-set_limit.ensures.unchanged ∙ before.1, before.2, before.3)
+
+pub returns-in_err-set_limit-clause-err : goal.returns-in_err-set_limit-clause-err
+returns-in_err-set_limit-clause-err g c =
+    let inside = c.self.inside in
+    let held : Table → State = λ t. record { book = inside.book.now; config = inside.config; core = inside.core; block = inside.block; table = t; streams = inside.streams.streams } in
+    if_err c.from_residual.result (ap (λ (t : LimitedTable). held t.table) c.in_err-set_limit.ensures.unchanged ∙ c.self.view_is, refl)
+
+pub invariant_of-self-in-Err : goal.invariant_of-self-in-Err
+invariant_of-self-in-Err g c =
+    let before = c.self.invariant in
+    let same = sym c.in-Err.ensures.err.0 in (
+      subst (IsSoundState c.self.inside.book.now c.self.inside.core) same before.0,
+      ap (λ (t : LimitedTable). t.limit) c.lower_limit-in-Err.ensures ∙ c.limit-before.ensures ∙ before.1,
+      subst (λ (r : Records). IsOpenFor r c.self.inside.block) same before.2,
+      before.3,
+    )
+
+pub returns-in-Err-clause-err : goal.returns-in-Err-clause-err
+returns-in-Err-clause-err g c =
+    let inside = c.self.inside in
+    let same = c.in-Err.ensures.err in
+    let held : Table → Records → State = λ t r. record { book = inside.book.now; config = inside.config; core = inside.core; block = inside.block; table = t; streams = r.streams } in
+    let kept : c.lower_limit-in-Err.new.self.table ≡ inside.table.table = ap (λ (t : LimitedTable). t.table) c.lower_limit-in-Err.ensures ∙ ap (λ (t : LimitedTable). t.table) c.in_ok-set_limit.ensures.limited in
+    (ap (λ (t : Table). held t c.send_and_update.new.streams) kept ∙ ap (held inside.table.table) same.0 ∙ c.self.view_is, same.1)

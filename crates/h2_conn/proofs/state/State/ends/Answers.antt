@@ -1,13 +1,16 @@
-use Rattle.std.proofs.Common.{◌∙◌, ap, rules, subst, sym}
-use Rattle.std.specs.Prelude.{OnOk}
-use Rattle.h2_spec.specs.Effect.{concluded}
-use Rattle.h2_spec.specs.Headers.{FrameEffect}
-use Rattle.h2_spec.specs.State.{State}
+use Rattle.std.proofs.Common.{◌≡◌, ◌∙◌, true, None, ap, refl, subst, sym}
+use Rattle.std.specs.Prelude.{IfOk, OnOk}
+use Rattle.h2_spec.specs.declared.connection.ConnectionState.{ConnectionState}
+use Rattle.h2_spec.specs.Effect.{concluded, effect_verdict}
+use Rattle.h2_spec.specs.Headers.{FrameEffect, block_ends, fragment_read}
+use Rattle.h2_spec.specs.State.{Decoding, State}
 use Rattle.h2_block.specs.Fragments.{after_of}
-use Rattle.h2_conn.specs.Blocks.{with_table}
+use Rattle.h2_rules.specs.Open.{state_of}
+use Rattle.h2_conn.specs.Blocks.{makes_open, with_table}
 use Rattle.h2_conn.specs.Does.{Does, stepped}
 use Rattle.h2_conn.proofs.FinishLaws.{block-made}
-use Rattle.h2_conn.proofs.FragmentLaws.{ends-badly}
+use Rattle.h2_conn.proofs.FragmentLaws.{ends-badly, ends-well}
+use Rattle.h2_conn.proofs.state.State.ends.Given.{Over}
 use Rattle.h2_conn.proofs.state.State.ends.Goals as goal
 
 pub finish-requires : goal.finish-requires
@@ -19,7 +22,7 @@ finish-requires g c = λ k.
     let last = c.self.invariant.0.last ∙ ap (λ (x : State). x.core.last) is in
     let made = block-made s inside.book.now inside.config c.core.result inside.streams c.args.shown.stream c.args.shown.ends block.collected.fields block.purpose c.in-Some-opening.change
     (ap (λ (x : State). x.book) is) (ap (λ (x : State). x.streams) is) last c.core.ensures.counts (c.in-Some-opening.ensures.rule s.block s.table) c.in-Some-opening.ensures.sound in
-    (search rules, (c.requires.stopped, (c.requires.sized, (c.requires.belongs, (made.0, (tt, made.1))))))
+    ((refl, tt), (c.requires.stopped, (c.requires.sized, (c.requires.belongs, (made.0, (tt, made.1))))))
 
 pub returns-in-Some-clause-ok : goal.returns-in-Some-clause-ok
 returns-in-Some-clause-ok g c =
@@ -27,3 +30,28 @@ returns-in-Some-clause-ok g c =
     let s = a.self.now in
     let broken = ends-badly (with_table s a.edit.now) a.shown (after_of a.decoding.now a.tentative) c.in-Some.cause (sym c.bad_end.ensures ∙ c.in-Some.is) in
     subst (λ (e : FrameEffect). OnOk c.refuse.result (Does (stepped (concluded s e)) (g.O.Outgoing.octets a.out.now) c.refuse.new.self (g.O.Outgoing.octets c.refuse.new.out))) (sym broken) c.refuse.ensures.ok
+
+pub returns-in-Some-clause-verdict : goal.returns-in-Some-clause-verdict
+returns-in-Some-clause-verdict g c =
+    let a = c.args in
+    let broken = ends-badly (with_table a.self.now a.edit.now) a.shown (after_of a.decoding.now a.tentative) c.in-Some.cause (sym c.bad_end.ensures ∙ c.in-Some.is) in
+    subst (λ (e : FrameEffect). IfOk c.refuse.result (λ verdict. verdict ≡ effect_verdict e)) (sym broken) c.refuse.ensures.verdict
+
+-- a request that opens its stream is made
+made : (g : Over) (c : goal.After-finish g) → fragment_read (with_table c.args.self.now c.args.edit.now) c.args.shown (after_of c.args.decoding.now c.args.tentative) true ≡ makes_open c.args.self.now c.args.edit.now None (after_of c.args.decoding.now c.args.tentative) c.in-Some-opening.change
+made g c =
+    let s = with_table c.args.self.now c.args.edit.now in
+    let inside = c.self.inside in
+    let is = c.self.view_is in
+    let core : c.core.result ≡ inside.core = c.core.ensures.counts ∙ sym (ap (λ (x : State). x.core) is) in
+    let same : state_of inside.book.now inside.config c.core.result s.block s.table inside.streams.streams ≡ s =
+    ap (λ (k : ConnectionState). state_of inside.book.now inside.config k s.block s.table inside.streams.streams) core ∙ ap (λ (x : State). record x { block = s.block; table = s.table }) is in
+    ends-well s c.args.shown (after_of c.args.decoding.now c.args.tentative) inside.book.now inside.config c.core.result inside.streams.streams c.in-Some-opening.change (sym c.bad_end.ensures ∙ c.in-None.is) same
+    (subst (λ (d : Decoding). c.in-Some-opening.change ≡ block_ends (state_of inside.book.now inside.config c.core.result s.block s.table inside.streams.streams) c.args.shown.stream c.args.shown.ends d.fields d.purpose) c.decoding.view_is (c.in-Some-opening.ensures.rule s.block s.table))
+
+pub returns-in-Some-opening-clause-ok : goal.returns-in-Some-opening-clause-ok
+returns-in-Some-opening-clause-ok g c =
+    subst (λ (e : FrameEffect). OnOk c.finish.result (Does (stepped (concluded c.args.self.now e)) (g.O.Outgoing.octets c.args.out.now) c.finish.new.self (g.O.Outgoing.octets c.finish.new.out))) (sym (made g c)) c.finish.ensures.ok
+
+pub returns-in-Some-opening-clause-verdict : goal.returns-in-Some-opening-clause-verdict
+returns-in-Some-opening-clause-verdict g c = subst (λ (e : FrameEffect). IfOk c.finish.result (λ verdict. verdict ≡ effect_verdict e)) (sym (made g c)) c.finish.ensures.verdict

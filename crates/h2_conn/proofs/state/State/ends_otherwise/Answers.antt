@@ -1,6 +1,16 @@
-use Rattle.std.proofs.Common.{◌∙◌, ap, rules}
-use Rattle.h2_spec.specs.State.{State}
+use Rattle.std.proofs.Common.{◌≡◌, ◌∙◌, true, None, ap, refl, subst, sym}
+use Rattle.std.specs.Prelude.{IfOk, OnOk}
+use Rattle.h2_spec.specs.declared.connection.ConnectionState.{ConnectionState}
+use Rattle.h2_spec.specs.Effect.{concluded, effect_verdict}
+use Rattle.h2_spec.specs.Headers.{FrameEffect, block_ends, fragment_read}
+use Rattle.h2_spec.specs.State.{Decoding, State}
+use Rattle.h2_block.specs.Fragments.{after_of}
+use Rattle.h2_rules.specs.Open.{state_of}
+use Rattle.h2_conn.specs.Blocks.{makes_open, with_table}
+use Rattle.h2_conn.specs.Does.{Does, stepped}
 use Rattle.h2_conn.proofs.FinishLaws.{block-made}
+use Rattle.h2_conn.proofs.FragmentLaws.{ends-well}
+use Rattle.h2_conn.proofs.state.State.ends_otherwise.Given.{Over}
 use Rattle.h2_conn.proofs.state.State.ends_otherwise.Goals as goal
 
 pub finish-requires : goal.finish-requires
@@ -12,4 +22,26 @@ finish-requires g c = λ k.
     let last = c.self.invariant.0.last ∙ ap (λ (x : State). x.core.last) is in
     let made = block-made s inside.book.now inside.config c.core.result inside.streams c.args.shown.stream c.args.shown.ends block.collected.fields block.purpose c.block_ends-change.result
     (ap (λ (x : State). x.book) is) (ap (λ (x : State). x.streams) is) last c.core.ensures.counts (c.block_ends-change.ensures.rule s.block s.table) c.block_ends-change.ensures.sound in
-    (search rules, (c.requires.stopped, (c.requires.sized, (c.requires.belongs, (made.0, (tt, made.1))))))
+    ((refl, tt), (c.requires.stopped, (c.requires.sized, (c.requires.belongs, (made.0, (tt, made.1))))))
+
+-- what the block results in is made
+made : (g : Over) (c : goal.After-finish g) → fragment_read (with_table c.args.self.now c.args.edit.now) c.args.shown (after_of c.args.decoding.now c.args.tentative) true ≡ makes_open c.args.self.now c.args.edit.now None (after_of c.args.decoding.now c.args.tentative) c.block_ends-change.result
+made g c =
+    let s = with_table c.args.self.now c.args.edit.now in
+    let inside = c.self.inside in
+    let is = c.self.view_is in
+    let core : c.core.result ≡ inside.core = c.core.ensures.counts ∙ sym (ap (λ (x : State). x.core) is) in
+    let same : state_of inside.book.now inside.config c.core.result s.block s.table inside.streams.streams ≡ s =
+    ap (λ (k : ConnectionState). state_of inside.book.now inside.config k s.block s.table inside.streams.streams) core ∙ ap (λ (x : State). record x { block = s.block; table = s.table }) is in
+    ends-well s c.args.shown (after_of c.args.decoding.now c.args.tentative) inside.book.now inside.config c.core.result inside.streams.streams c.block_ends-change.result c.requires.whole same
+    (subst (λ (d : Decoding). c.block_ends-change.result ≡ block_ends (state_of inside.book.now inside.config c.core.result s.block s.table inside.streams.streams) c.args.shown.stream c.args.shown.ends d.fields d.purpose) c.decoding.view_is (c.block_ends-change.ensures.rule s.block s.table))
+
+pub returns-clause-ok : goal.returns-clause-ok
+returns-clause-ok g c =
+    subst (λ (e : FrameEffect). OnOk c.finish.result (Does (stepped (concluded c.args.self.now e)) (g.O.Outgoing.octets c.args.out.now) c.finish.new.self (g.O.Outgoing.octets c.finish.new.out))) (sym (made g c)) c.finish.ensures.ok
+
+pub returns-clause-verdict : goal.returns-clause-verdict
+returns-clause-verdict g c = subst (λ (e : FrameEffect). IfOk c.finish.result (λ verdict. verdict ≡ effect_verdict e)) (sym (made g c)) c.finish.ensures.verdict
+
+pub returns-clause-err : goal.returns-clause-err
+returns-clause-err g c = c.finish.ensures.err

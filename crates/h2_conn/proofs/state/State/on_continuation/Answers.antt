@@ -1,5 +1,8 @@
-use Rattle.std.proofs.Common.{◌≡◌, ℕ, List, Bool, Option, Some, None, ap, refl, subst, sym}
-use Rattle.std.specs.Prelude.{OnOk}
+use Rattle.std.proofs.Common.{◌≡◌, ℕ, List, Bool, Option, Some, None, ap, refl, subst, sym, ◌∙◌}
+use Rattle.std.specs.Prelude.{IfOk, OnOk}
+use Rattle.std.proofs.lemmas.Option.{none-some}
+use Rattle.std.proofs.lemmas.Result.{on_err_weaker}
+use Rattle.h2_spec.specs.declared.causes.Cause.TheVariants.{ContinuationOutsideBlock}
 use Rattle.h2_spec.specs.declared.connection.BlockView.{BlockView}
 use Rattle.h2_spec.specs.Cause.{code_of}
 use Rattle.h2_spec.specs.Change.{Step, broken, ended, only_shown}
@@ -44,3 +47,36 @@ returns-else-is_err-clause-ok g c =
     let flagged = subst (λ (b : Bool). Q (stopped s) (headers.fragment s x.0 x.1 octets b)) c.has-end_headers.ensures taken in
     let whole = subst P (concluded-stopped s (headers.fragment s x.0 x.1 octets ends)) flagged in
     subst (λ (e : FrameEffect). Q s e) (sym (goes-on s s.block x octets ends c.in-Some.ensures.taken)) whole
+
+-- there is no block that can go on
+none-goes-on : (s : State) (b : Option OpenBlock) (octets : List ℕ) (end_headers : Bool) → None ≡ decoding_of b → headers.continuation s b octets end_headers ≡ Breaks ContinuationOutsideBlock
+none-goes-on s None octets end_headers h = refl
+none-goes-on s (Some b) octets end_headers h = go b.decoding h
+  where
+    go : (d : Option Decoding) → None ≡ decoding_in b.shown d → headers.continued s b.shown d octets end_headers ≡ Breaks ContinuationOutsideBlock
+    go None h = refl
+    go (Some d) h = absurd (none-some (b.shown, d) h)
+
+pub returns-in-None-clause-ok : goal.returns-in-None-clause-ok
+returns-in-None-clause-ok g c =
+    let s = c.args.self.now in
+    subst (λ (e : FrameEffect). OnOk c.not_open.result (Does (stepped (rule.concluded s e)) (g.O.Outgoing.octets c.args.out.now) c.not_open.new.self (g.O.Outgoing.octets c.not_open.new.out))) (sym (none-goes-on s s.block c.args.octets.now (has c.args.head.now.flags END_HEADERS) c.in-None.ensures.taken))
+    (subst (λ (t : State). OnOk c.not_open.result (Does (broken t ContinuationOutsideBlock) (g.O.Outgoing.octets c.args.out.now) c.not_open.new.self (g.O.Outgoing.octets c.not_open.new.out))) c.in-None.ensures.unchanged c.not_open.ensures.ok)
+
+pub returns-in-None-clause-verdict : goal.returns-in-None-clause-verdict
+returns-in-None-clause-verdict g c =
+    let s = c.args.self.now in
+    subst (λ (e : FrameEffect). IfOk c.not_open.result (λ verdict. verdict ≡ rule.effect_verdict e)) (sym (none-goes-on s s.block c.args.octets.now (has c.args.head.now.flags END_HEADERS) c.in-None.ensures.taken)) c.not_open.ensures.verdict
+
+pub returns-in-None-clause-err : goal.returns-in-None-clause-err
+returns-in-None-clause-err g c = on_err_weaker c.not_open.result (λ same. (same.0 ∙ c.in-None.ensures.unchanged, same.1)) c.not_open.ensures.err
+
+pub returns-else-is_err-clause-verdict : goal.returns-else-is_err-clause-verdict
+returns-else-is_err-clause-verdict g c =
+    let s = c.args.self.now in
+    let octets = c.args.octets.now in
+    let x : BlockView × Decoding = (c.in-Some.shown, c.take_decoding.new.decoding) in
+    let P : FrameEffect → Type 0 = λ e. IfOk c.on_fragment-result.result (λ verdict. verdict ≡ rule.effect_verdict e) in
+    let taken = subst (λ (t : State). P (headers.fragment t x.0 x.1 octets c.has-end_headers.result)) c.take_decoding.ensures.stopped c.on_fragment-result.ensures.verdict in
+    let flagged = subst (λ (b : Bool). P (headers.fragment (stopped s) x.0 x.1 octets b)) c.has-end_headers.ensures taken in
+    subst P (sym (goes-on s s.block x octets (has c.args.head.now.flags END_HEADERS) c.in-Some.ensures.taken)) flagged

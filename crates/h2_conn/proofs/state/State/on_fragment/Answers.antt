@@ -1,0 +1,81 @@
+use Rattle.std.proofs.Common.{◌≡◌, ◌∙◌, ℕ, List, Bool, true, false, Err, Ok, Result, ap, refl, subst, sym}
+use Rattle.std.specs.Prelude.{IfOk, OnOk}
+use Rattle.std.proofs.lemmas.Result.{on_err_weaker}
+use Rattle.h2_spec.specs.declared.causes.Cause.{Cause}
+use Rattle.h2_spec.specs.declared.connection.BlockView.{BlockView}
+use Rattle.h2_spec.specs.declared.connection.Purpose.{Purpose}
+use Rattle.h2_spec.specs.Effect.{concluded, effect_verdict}
+use Rattle.h2_spec.specs.Headers.{Breaks, FrameEffect, fragment, fragment_read}
+use Rattle.h2_spec.specs.State.{Decoding, State}
+use Rattle.h2_block.specs.Fragments.{after_of}
+use Rattle.h2_rules.specs.Open.{IsOpenAt}
+use Rattle.h2_conn.specs.Blocks.{effect_read, with_table}
+use Rattle.h2_conn.specs.Does.{Does, stepped}
+use Rattle.h2_conn.specs.Records.{records}
+use Rattle.h2_conn.proofs.state.State.on_fragment.Given.{Over}
+use Rattle.h2_conn.proofs.state.State.on_fragment.Goals as goal
+
+-- a fragment of which this is read
+fragment-is : (s t : State) (b : BlockView) (d before after : Decoding) (octets : List ℕ) (ends e : Bool) (read r : Result BlockView Cause) →
+    ((x : Bool) → effect_read t after x read ≡ fragment s b before octets x) → before ≡ d → read ≡ r → ends ≡ e → fragment s b d octets ends ≡ effect_read t after e r
+fragment-is s t b d before after octets ends e read r effect same is end =
+    ap (λ (x : Decoding). fragment s b x octets ends) (sym same) ∙ sym (effect ends) ∙ ap (effect_read t after ends) is ∙ ap (λ (x : Bool). effect_read t after x r) end
+
+open-ended : (g : Over) (c : goal.After-ends g) → IsOpenAt (records c.args.self.now) c.in-Ok-Ok.shown.stream c.fragment.new.decoding.purpose
+open-ended g c =
+    let r = records c.args.self.now in
+    let stream : c.in-Ok-Ok.shown.stream ≡ c.args.shown.stream = rw c.in-Ok-Ok.field-0-is at c.in-Ok-Ok.ensures.stream in
+    subst (λ (i : ℕ). IsOpenAt r i c.fragment.new.decoding.purpose) (sym stream)
+    (subst (λ (p : Purpose). IsOpenAt r c.args.shown.stream p) (sym (c.fragment.ensures.purpose ∙ ap (λ (d : Decoding). d.purpose) c.unchanged-tentative.ensures.before)) c.requires.known)
+
+ended : (g : Over) (c : goal.After-ends g) → fragment c.args.self.now c.args.shown c.args.decoding.now c.args.octets.now c.args.end_headers ≡ fragment_read (with_table c.args.self.now c.fragment.new.edit) c.in-Ok-Ok.shown (after_of c.fragment.new.decoding c.fragment.new.tentative) true
+ended g c =
+    fragment-is c.args.self.now (with_table c.args.self.now c.fragment.new.edit) c.args.shown c.args.decoding.now _ (after_of c.fragment.new.decoding c.fragment.new.tentative) c.args.octets.now c.args.end_headers true c.in-Ok-Ok.field-0 (Ok c.in-Ok-Ok.shown) c.in-Ok-Ok.ensures.effect c.unchanged-tentative.ensures.before c.in-Ok-Ok.field-0-is c.if-end_headers.true
+
+pub returns-then-end_headers-clause-ok : goal.returns-then-end_headers-clause-ok
+returns-then-end_headers-clause-ok g c =
+    subst (λ (e : FrameEffect). OnOk c.ends.result (Does (stepped (concluded c.args.self.now e)) (g.O.Outgoing.octets c.args.out.now) c.ends.new.self (g.O.Outgoing.octets c.ends.new.out))) (sym (ended g c)) c.ends.ensures.ok
+
+pub returns-then-end_headers-clause-verdict : goal.returns-then-end_headers-clause-verdict
+returns-then-end_headers-clause-verdict g c = subst (λ (e : FrameEffect). IfOk c.ends.result (λ verdict. verdict ≡ effect_verdict e)) (sym (ended g c)) c.ends.ensures.verdict
+
+pub returns-then-end_headers-clause-err : goal.returns-then-end_headers-clause-err
+returns-then-end_headers-clause-err g c = on_err_weaker c.ends.result (λ same. (same.0 ∙ c.fragment.ensures.before ∙ c.unchanged-tentative.ensures.before, same.1, same.2)) c.ends.ensures.err
+
+open-goes : (g : Over) (c : goal.After-goes_on g) → IsOpenAt (records c.args.self.now) c.in-Ok-Ok.shown.stream c.fragment.new.decoding.purpose
+open-goes g c =
+    let r = records c.args.self.now in
+    let stream : c.in-Ok-Ok.shown.stream ≡ c.args.shown.stream = rw c.in-Ok-Ok.field-0-is at c.in-Ok-Ok.ensures.stream in
+    subst (λ (i : ℕ). IsOpenAt r i c.fragment.new.decoding.purpose) (sym stream)
+    (subst (λ (p : Purpose). IsOpenAt r c.args.shown.stream p) (sym (c.fragment.ensures.purpose ∙ ap (λ (d : Decoding). d.purpose) c.unchanged-tentative.ensures.before)) c.requires.known)
+
+goes : (g : Over) (c : goal.After-goes_on g) → fragment c.args.self.now c.args.shown c.args.decoding.now c.args.octets.now c.args.end_headers ≡ fragment_read (with_table c.args.self.now c.fragment.new.edit) c.in-Ok-Ok.shown (after_of c.fragment.new.decoding c.fragment.new.tentative) false
+goes g c =
+    fragment-is c.args.self.now (with_table c.args.self.now c.fragment.new.edit) c.args.shown c.args.decoding.now _ (after_of c.fragment.new.decoding c.fragment.new.tentative) c.args.octets.now c.args.end_headers false c.in-Ok-Ok.field-0 (Ok c.in-Ok-Ok.shown) c.in-Ok-Ok.ensures.effect c.unchanged-tentative.ensures.before c.in-Ok-Ok.field-0-is c.if-end_headers.false
+
+pub returns-else-end_headers-clause-ok : goal.returns-else-end_headers-clause-ok
+returns-else-end_headers-clause-ok g c =
+    subst (λ (e : FrameEffect). OnOk c.goes_on.result (Does (stepped (concluded c.args.self.now e)) (g.O.Outgoing.octets c.args.out.now) c.goes_on.new.self (g.O.Outgoing.octets c.goes_on.new.out))) (sym (goes g c)) c.goes_on.ensures.ok
+
+pub returns-else-end_headers-clause-verdict : goal.returns-else-end_headers-clause-verdict
+returns-else-end_headers-clause-verdict g c = subst (λ (e : FrameEffect). IfOk c.goes_on.result (λ verdict. verdict ≡ effect_verdict e)) (sym (goes g c)) c.goes_on.ensures.verdict
+
+pub returns-else-end_headers-clause-err : goal.returns-else-end_headers-clause-err
+returns-else-end_headers-clause-err g c = on_err_weaker c.goes_on.result (λ same. (same.0 ∙ c.fragment.ensures.before ∙ c.unchanged-tentative.ensures.before, same.1, same.2)) c.goes_on.ensures.err
+
+refused : (g : Over) (c : goal.After-refuse g) → fragment c.args.self.now c.args.shown c.args.decoding.now c.args.octets.now c.args.end_headers ≡ Breaks c.in-Ok-Err.cause
+refused g c =
+    fragment-is c.args.self.now (with_table c.args.self.now c.fragment.new.edit) c.args.shown c.args.decoding.now _ (after_of c.fragment.new.decoding c.fragment.new.tentative) c.args.octets.now c.args.end_headers c.args.end_headers c.in-Ok-Err.field-0 (Err c.in-Ok-Err.cause) c.in-Ok-Err.ensures.effect c.unchanged-tentative.ensures.before c.in-Ok-Err.field-0-is refl
+
+pub returns-in-Ok-Err-clause-ok : goal.returns-in-Ok-Err-clause-ok
+returns-in-Ok-Err-clause-ok g c =
+    subst (λ (e : FrameEffect). OnOk c.refuse.result (Does (stepped (concluded c.args.self.now e)) (g.O.Outgoing.octets c.args.out.now) c.refuse.new.self (g.O.Outgoing.octets c.refuse.new.out))) (sym (refused g c)) c.refuse.ensures.ok
+
+pub returns-in-Ok-Err-clause-verdict : goal.returns-in-Ok-Err-clause-verdict
+returns-in-Ok-Err-clause-verdict g c = subst (λ (e : FrameEffect). IfOk c.refuse.result (λ verdict. verdict ≡ effect_verdict e)) (sym (refused g c)) c.refuse.ensures.verdict
+
+pub returns-in-Ok-Err-clause-err : goal.returns-in-Ok-Err-clause-err
+returns-in-Ok-Err-clause-err g c = on_err_weaker c.refuse.result (λ same. (same.0 ∙ c.fragment.ensures.before ∙ c.unchanged-tentative.ensures.before, same.1, same.2)) c.refuse.ensures.err
+
+pub returns-in-Err-clause-err : goal.returns-in-Err-clause-err
+returns-in-Err-clause-err g c = (c.give_up.ensures ∙ c.fragment.ensures.before ∙ c.unchanged-tentative.ensures.before, refl, refl)
