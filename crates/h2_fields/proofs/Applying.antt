@@ -105,7 +105,7 @@ named l0 l1 l2 l3 n v h1 h2 h3 =
 pub still-listed : (size : ℕ) (shared old now : List Field) (marks was : List FieldMark) → (size ≡ list_size (shared ++ old)) × (was ≡ map mark_of old) → now ≡ old → marks ≡ was → (size ≡ list_size (shared ++ now)) × (marks ≡ map mark_of now)
 still-listed size shared old now marks was h e m = (h.0 ∙ ap (λ (fs : List Field). list_size (shared ++ fs)) (sym e), m ∙ h.1 ∙ ap (map mark_of) (sym e))
 
--- where memory was reserved for one more, there is room
+-- where memory was reserved for one more, there is space for it
 pub room-reserved : (count room : ℕ) → count + 1 ≤ room → count < room
 room-reserved count room h = omega arith
 
