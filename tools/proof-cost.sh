@@ -5,6 +5,7 @@
 #   tools/proof-cost.sh --budget [CRATE..]   writes docs/BUDGET: a line `CRATE MB` for each crate, rounded up
 #   tools/proof-cost.sh --check [CRATE..]    names each crate above its line of docs/BUDGET; the status is then 1
 #   tools/proof-cost.sh --minutes [FILE]     processor minutes by crate and kind of the last run of tools/gate-times.sh, or as FILE has them
+#   tools/proof-cost.sh --seconds CRATE..    seconds by kind and by module of the last check of each crate, the slowest first
 #
 # `--top FOLDER` before the rest takes the crates/*/out of another copy; --functions N shows N functions instead of 40.
 #
@@ -12,6 +13,9 @@
 # each where a function has above 10. They don't depend on how busy the machine is. They are read from what `rt check`, `rt lib`, `rt run` and `rt test` leave in
 # crates/*/out; `rt ci` leaves nothing of it. The functions of a library are those of its last build. A program, a crate of tests, and a library that was checked
 # but not built since, is marked `~`: its files may include those of functions that are gone. Then remove its out/incremental and check it again.
+#
+# Seconds are between the times at which the files of a check were written, so they are right where one process wrote them: remove the crate's out/incremental, and
+# call `rt check --jobs 1`. `Lts` is what a function holds at each point, `Proof` the checker's own search for what no file answers.
 set -eu
 top=$(cd "$(dirname "$0")/.." && pwd)
 exec python3 -B - --here "$top" "$@" <<'PYTHON'
@@ -27,13 +31,14 @@ KINDS = ("proof", "second proof", "edits", "tests", "compiling")
 
 
 def arguments():
-    given = argparse.ArgumentParser(prog="proof-cost.sh", usage="proof-cost.sh [--top FOLDER] [--functions N] [--budget | --check | --minutes [FILE]] [CRATE..]")
+    given = argparse.ArgumentParser(prog="proof-cost.sh", usage="proof-cost.sh [--top FOLDER] [--functions N] [--budget | --check | --minutes [FILE] | --seconds] [CRATE..]")
     given.add_argument("--here", help=argparse.SUPPRESS)
     given.add_argument("--top")
     given.add_argument("--functions", type=int, default=40)
     given.add_argument("--budget", action="store_true")
     given.add_argument("--check", action="store_true")
     given.add_argument("--minutes", nargs="?", const="")
+    given.add_argument("--seconds", action="store_true")
     given.add_argument("crates", nargs="*")
     return given.parse_intermixed_args()
 
@@ -126,6 +131,25 @@ def show_minutes(file):
     print(*(f"{it / 60:13.1f}" for it in [*total, sum(total)]), "  all, in processor minutes", sep="")
 
 
+def module_seconds(top, crate):
+    """Of each file that a check of a crate left, in the order of writing: its module, its kind, and the seconds since the file before."""
+    files = glob.glob(f"{top}/crates/{crate}/out/incremental/*/*.oantt")
+    written = sorted((os.path.getmtime(it), os.path.basename(it).removesuffix(".oantt").removesuffix(".decls")) for it in files)
+    return [(name, name.rpartition(".")[2], time - before) for (before, _), (time, name) in zip(written, written[1:])]
+
+
+def show_seconds(top, crate, count):
+    found = module_seconds(top, crate)
+    kinds = collections.Counter()
+    for _, kind, seconds in found:
+        kinds[kind] += seconds
+    print(f"{sum(kinds.values()):7.1f}  {crate}")
+    for kind, seconds in kinds.most_common(8):
+        print(f"{seconds:7.1f}    {kind}")
+    for name, _, seconds in sorted(found, key=lambda it: -it[2])[:count]:
+        print(f"{seconds:7.1f}  {name.removeprefix('Rattle-')}")
+
+
 def main():
     given = arguments()
     here = given.here
@@ -140,6 +164,10 @@ def main():
     if unknown:
         sys.exit(f"proof-cost.sh: crates.txt has no crate {unknown[0]}")
     asked = given.crates or crates
+    if given.seconds:
+        for crate in asked:
+            show_seconds(top, crate, given.functions)
+        return 0
     found = {crate: of for crate in asked if (of := sizes(top, crate))}
     lacking = [it for it in asked if it not in found]
     if lacking:
