@@ -1,5 +1,6 @@
 pub mod AboveLaws
 pub mod AloneLaws
+mod KeptLaws
 pub mod KindLaws
 mod PiecesLaws
 pub mod PreparedLaws

@@ -2,6 +2,7 @@ use Rattle.std.proofs.Common.{◌≡◌, ◌≤◌, ◌++◌, ◌∙◌, ℕ, Li
 use Rattle.std.proofs.lemmas.Result.{on_ok_weaker}
 use Rattle.h2_spec.specs.Stream.{octets_waiting}
 use Rattle.h2_send.specs.Prepared.{content}
+use Rattle.h2_send.proofs.KeptLaws.{kept-either}
 use Rattle.h2_send.proofs.PreparedLaws.{data-length, data-on_stream, whole-body}
 use Rattle.h2_send.proofs.pieces.write_allowance.Goals as goal
 
@@ -21,3 +22,6 @@ returns-then-body-size-clause-ok g c =
     let fits : length body ≤ a.size = subst (λ (xs : List ℕ). length xs ≤ a.size) same c.if-body-size.true in
     let frames = data-on_stream st.id a.prepared.now c.requires.made ∙ sym (whole-body st.id a.size (octets_waiting st) a.allowance body c.requires.some all c.requires.waits c.requires.left fits) in
     on_ok_weaker c.write_prepared.result (λ sent. sent ∙ ap (λ (xs : List ℕ). (g.O.Outgoing.octets a.out.now) ++ xs) frames) c.write_prepared.ensures.ok
+
+pub returns-then-body-size-clause-kept : goal.returns-then-body-size-clause-kept
+returns-then-body-size-clause-kept g c = kept-either c.write_prepared.result (g.O.Outgoing.octets c.args.out.now) (g.O.Outgoing.octets c.write_prepared.new.out) _ c.write_prepared.ensures.ok c.write_prepared.ensures.err

@@ -3,6 +3,7 @@ use Rattle.std.proofs.lemmas.List.{append-nil}
 use Rattle.h2_spec.specs.Frame.{frames_octets}
 use Rattle.h2_spec.specs.Stream.{Records}
 use Rattle.h2_send.proofs.AloneLaws.{after-none, left-none, sent-none}
+use Rattle.std.proofs.Math.Seq.{take-length}
 use Rattle.h2_send.proofs.send_pending.send_ready.Goals as goal
 
 pub returns-then-none_sends-clause-count : goal.returns-then-none_sends-clause-count
@@ -25,3 +26,12 @@ pub returns-clause-count : goal.returns-clause-count
 returns-clause-count g c =
     let left = c.take_allowances.ensures.left in
     (ap (λ n. c.args.window - n) left.0, omega arith)
+
+pub returns-then-none_sends-clause-kept : goal.returns-then-none_sends-clause-kept
+returns-then-none_sends-clause-kept g c = take-length (g.O.Outgoing.octets c.args.out.now)
+
+pub returns-in_err-write_ready-clause-kept : goal.returns-in_err-write_ready-clause-kept
+returns-in_err-write_ready-clause-kept g c = c.write_ready.ensures.kept
+
+pub returns-clause-kept : goal.returns-clause-kept
+returns-clause-kept g c = c.write_ready.ensures.kept

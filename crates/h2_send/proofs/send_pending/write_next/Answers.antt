@@ -7,6 +7,7 @@ use Rattle.h2_spec.specs.Stream.{octets_waiting}
 use Rattle.h2_send.specs.Prepared.{content, IsData}
 use Rattle.h2_send.proofs.AboveLaws.{body_frames, no_frames}
 use Rattle.h2_send.proofs.PreparedLaws.{content-data, data-made}
+use Rattle.std.proofs.Math.Seq.{take-length}
 use Rattle.h2_send.proofs.send_pending.write_next.Goals as goal
 
 pub write_allowance-requires : goal.write_allowance-requires
@@ -28,3 +29,12 @@ returns-else-allowance-gt0-clause-ok g c =
     let none : c.allowance-allowance.result ≡ 0 = omega (arith, less) in
     let nothing = ap (λ n. allowance_frames a.book.now a.size n a.stream.now) (sym c.allowance-allowance.ensures.allowance ∙ none) ∙ no_frames a.book.now a.size a.stream.now in
     sym (ap (λ fs. (g.O.Outgoing.octets a.out.now) ++ frames_octets fs) nothing ∙ append-nil (g.O.Outgoing.octets a.out.now))
+
+pub returns-else-allowance-gt0-clause-kept : goal.returns-else-allowance-gt0-clause-kept
+returns-else-allowance-gt0-clause-kept g c = take-length (g.O.Outgoing.octets c.args.out.now)
+
+pub returns-in_err-write_allowance-clause-kept : goal.returns-in_err-write_allowance-clause-kept
+returns-in_err-write_allowance-clause-kept g c = c.write_allowance.ensures.kept
+
+pub returns-in_ok-write_allowance-clause-kept : goal.returns-in_ok-write_allowance-clause-kept
+returns-in_ok-write_allowance-clause-kept g c = c.write_allowance.ensures.kept

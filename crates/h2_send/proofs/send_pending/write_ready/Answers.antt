@@ -1,5 +1,6 @@
 use Rattle.std.proofs.Common.{◌-◌, ◌++◌, ◌∙◌, ap, sym, arith, append_assoc, rules}
-use Rattle.std.proofs.lemmas.Grind.{common_steps, flat_map-append}
+use Rattle.std.proofs.Math.Seq.{take-length}
+use Rattle.std.proofs.lemmas.Grind.{flat_map-append}
 use Rattle.std.proofs.lemmas.List.{append-nil}
 use Rattle.h2_spec.specs.Frame.{frame_octets, frames_octets}
 use Rattle.h2_spec.specs.SendPending.{allowance, allowance_frames}
@@ -7,6 +8,7 @@ use Rattle.h2_streams.specs.Kept.{ready_above}
 use Rattle.h2_send.specs.Above.{frames_above}
 use Rattle.h2_rules.specs.Sound.{HasBody}
 use Rattle.h2_send.proofs.AboveLaws.{all_frames, next_frames, none_frames, spent_frames, next_above, found_all, found_within}
+use Rattle.h2_send.proofs.KeptLaws.{kept-then}
 use Rattle.h2_send.proofs.send_pending.write_ready.Goals as goal
 
 pub loop-stream-init : goal.loop-stream-init
@@ -15,7 +17,7 @@ loop-stream-init g c =
     let s = a.streams.now in
     record {
       sent = ap (λ fs. (g.O.Outgoing.octets a.out.now) ++ frames_octets fs) (all_frames a.book.now a.size 0 s.last a.window s.streams c.last-last.ensures.rising);
-      kept = grind (arith, common_steps);
+      kept = take-length (g.O.Outgoing.octets a.out.now);
     }
 
 pub returns-then-left-eq0-clause-ok : goal.returns-then-left-eq0-clause-ok
@@ -67,7 +69,7 @@ loop-stream-preserved g c =
           ∙ ap (λ xs. (g.O.Outgoing.octets l.out) ++ xs) (sym (flat_map-append frame_octets here behind))
           ∙ ap (λ fs. (g.O.Outgoing.octets l.out) ++ frames_octets fs) (sym next)
           ∙ l.invariant.sent;
-      kept = grind (arith, common_steps);
+      kept = kept-then (g.O.Outgoing.octets a.out.now) (g.O.Outgoing.octets l.out) (g.O.Outgoing.octets c.write_next.new.out) l.invariant.kept c.write_next.ensures.kept;
     }
 
 pub returns-clause-ok : goal.returns-clause-ok
@@ -77,3 +79,9 @@ returns-clause-ok g c =
     let ss = a.streams.now.streams in
     let none = none_frames a.book.now a.size l.after l.left ss (sym c.next_stream.ensures.first ∙ c.in_default.is) in
     sym (append-nil (g.O.Outgoing.octets l.out)) ∙ ap (λ fs. (g.O.Outgoing.octets l.out) ++ frames_octets fs) (sym none) ∙ l.invariant.sent
+
+pub returns-then-left-eq0-clause-kept : goal.returns-then-left-eq0-clause-kept
+returns-then-left-eq0-clause-kept g c = c.loop-stream.invariant.kept
+
+pub returns-clause-kept : goal.returns-clause-kept
+returns-clause-kept g c = c.loop-stream.invariant.kept

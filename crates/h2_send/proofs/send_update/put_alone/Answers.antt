@@ -42,3 +42,12 @@ returns-clause-records g c =
     let a = c.args in
     c.in_ok-put.ensures.ok ∙ ap (λ (y : Stream). with_record y a.streams.now) c.after_sending.ensures
     ∙ records-alone a.window c.in_ok-allowance.allowance a.stream.now a.streams.now c.requires.alone c.in_ok-allowance.ensures.allowance.0
+
+pub returns-in_err-allowance-clause-kept : goal.returns-in_err-allowance-clause-kept
+returns-in_err-allowance-clause-kept g c = c.write_next.ensures.kept
+
+pub returns-in_err-put-clause-kept : goal.returns-in_err-put-clause-kept
+returns-in_err-put-clause-kept g c = c.write_next.ensures.kept
+
+pub returns-clause-kept : goal.returns-clause-kept
+returns-clause-kept g c = c.write_next.ensures.kept

@@ -1,13 +1,16 @@
-use Rattle.std.proofs.Common.{◌≡◌, ◌∙◌, true, None, ap, refl, subst, sym}
+use Rattle.std.proofs.Common.{◌≡◌, ◌∙◌, ℕ, true, None, ap, refl, subst, sym}
 use Rattle.std.specs.Prelude.{IfOk, OnOk}
 use Rattle.h2_spec.specs.declared.connection.ConnectionState.{ConnectionState}
 use Rattle.h2_spec.specs.Effect.{concluded, effect_verdict}
 use Rattle.h2_spec.specs.Headers.{FrameEffect, block_ends, fragment_read}
 use Rattle.h2_spec.specs.State.{Decoding, State}
+use Rattle.h2_spec.specs.Stream.{Records}
 use Rattle.h2_block.specs.Fragments.{after_of}
-use Rattle.h2_rules.specs.Open.{state_of}
+use Rattle.h2_rules.specs.Open.{IsOpenAt, state_of}
+use Rattle.h2_rules.specs.Sound.{IsSoundState}
 use Rattle.h2_conn.specs.Blocks.{makes_open, with_table}
 use Rattle.h2_conn.specs.Does.{Does, stepped}
+use Rattle.h2_conn.specs.Records.{records}
 use Rattle.h2_conn.proofs.FinishLaws.{block-made}
 use Rattle.h2_conn.proofs.FragmentLaws.{ends-badly, ends-well}
 use Rattle.h2_conn.proofs.state.State.ends.Given.{Over}
@@ -55,3 +58,16 @@ returns-in-Some-opening-clause-ok g c =
 
 pub returns-in-Some-opening-clause-verdict : goal.returns-in-Some-opening-clause-verdict
 returns-in-Some-opening-clause-verdict g c = subst (λ (e : FrameEffect). IfOk c.finish.result (λ verdict. verdict ≡ effect_verdict e)) (sym (made g c)) c.finish.ensures.verdict
+
+pub opening-opening-requires-clause-sound : goal.opening-opening-requires-clause-sound
+opening-opening-requires-clause-sound g c = subst (λ (k : ConnectionState). IsSoundState c.self.inside.book.now k c.self.inside.streams) (ap (λ (x : State). x.core) c.self.view_is ∙ sym c.core.ensures.counts) c.self.invariant.0
+
+pub opening-opening-requires-clause-open : goal.opening-opening-requires-clause-open
+opening-opening-requires-clause-open g c =
+    let s = c.args.self.now in
+    let inside = c.self.inside in
+    let is = c.self.view_is in
+    let last = c.self.invariant.0.last ∙ ap (λ (x : State). x.core.last) is in
+    let same = ap (λ (x : State). record inside.streams { streams = x.streams }) is ∙ ap (λ (l : ℕ). record (records s) { last = l }) last in
+    subst (λ (r : Records). IsOpenAt r c.args.shown.stream c.decoding.inside.purpose) (sym same)
+    (subst (λ (d : Decoding). IsOpenAt (records s) c.args.shown.stream d.purpose) (sym c.decoding.view_is) c.requires.open)

@@ -1,13 +1,16 @@
-use Rattle.std.proofs.Common.{◌≡◌, ◌∙◌, true, None, ap, refl, subst, sym}
+use Rattle.std.proofs.Common.{◌≡◌, ◌∙◌, ℕ, true, None, ap, refl, subst, sym}
 use Rattle.std.specs.Prelude.{IfOk, OnOk}
 use Rattle.h2_spec.specs.declared.connection.ConnectionState.{ConnectionState}
 use Rattle.h2_spec.specs.Effect.{concluded, effect_verdict}
 use Rattle.h2_spec.specs.Headers.{FrameEffect, block_ends, fragment_read}
 use Rattle.h2_spec.specs.State.{Decoding, State}
+use Rattle.h2_spec.specs.Stream.{Records}
 use Rattle.h2_block.specs.Fragments.{after_of}
-use Rattle.h2_rules.specs.Open.{state_of}
+use Rattle.h2_rules.specs.Open.{IsOpenAt, state_of}
+use Rattle.h2_rules.specs.Sound.{IsSoundState}
 use Rattle.h2_conn.specs.Blocks.{makes_open, with_table}
 use Rattle.h2_conn.specs.Does.{Does, stepped}
+use Rattle.h2_conn.specs.Records.{records}
 use Rattle.h2_conn.proofs.FinishLaws.{block-made}
 use Rattle.h2_conn.proofs.FragmentLaws.{ends-well}
 use Rattle.h2_conn.proofs.state.State.ends_otherwise.Given.{Over}
@@ -45,3 +48,16 @@ returns-clause-verdict g c = subst (λ (e : FrameEffect). IfOk c.finish.result (
 
 pub returns-clause-err : goal.returns-clause-err
 returns-clause-err g c = c.finish.ensures.err
+
+pub block_ends-change-requires-clause-sound : goal.block_ends-change-requires-clause-sound
+block_ends-change-requires-clause-sound g c = subst (λ (k : ConnectionState). IsSoundState c.self.inside.book.now k c.self.inside.streams) (ap (λ (x : State). x.core) c.self.view_is ∙ sym c.core.ensures.counts) c.self.invariant.0
+
+pub block_ends-change-requires-clause-open : goal.block_ends-change-requires-clause-open
+block_ends-change-requires-clause-open g c =
+    let s = c.args.self.now in
+    let inside = c.self.inside in
+    let is = c.self.view_is in
+    let last = c.self.invariant.0.last ∙ ap (λ (x : State). x.core.last) is in
+    let same = ap (λ (x : State). record inside.streams { streams = x.streams }) is ∙ ap (λ (l : ℕ). record (records s) { last = l }) last in
+    subst (λ (r : Records). IsOpenAt r c.args.shown.stream c.decoding.inside.purpose) (sym same)
+    (subst (λ (d : Decoding). IsOpenAt (records s) c.args.shown.stream d.purpose) (sym c.decoding.view_is) c.requires.open)
