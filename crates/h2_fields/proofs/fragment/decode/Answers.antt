@@ -214,3 +214,21 @@ returns-in-Err-More-clause-grows g c = c.loop-left.invariant.grows
 
 pub returns-in-Err-TooLong-clause-grows : goal.returns-in-Err-TooLong-clause-grows
 returns-in-Err-TooLong-clause-grows g c = c.loop-left.invariant.grows
+
+pub returns-then-is_empty-clause-belongs : goal.returns-then-is_empty-clause-belongs
+returns-then-is_empty-clause-belongs g c = c.loop-left.invariant.belongs
+
+pub returns-in_err-apply_indexed-clause-belongs : goal.returns-in_err-apply_indexed-clause-belongs
+returns-in_err-apply_indexed-clause-belongs g c = c.loop-left.invariant.belongs
+
+pub returns-in_err-apply-in-Ok-clause-belongs : goal.returns-in_err-apply-in-Ok-clause-belongs
+returns-in_err-apply-in-Ok-clause-belongs g c = c.apply.ensures.belongs
+
+pub returns-in-Err-More-clause-belongs : goal.returns-in-Err-More-clause-belongs
+returns-in-Err-More-clause-belongs g c = c.loop-left.invariant.belongs
+
+pub returns-in-Err-TooLong-clause-belongs : goal.returns-in-Err-TooLong-clause-belongs
+returns-in-Err-TooLong-clause-belongs g c = c.loop-left.invariant.belongs
+
+pub returns-in-Err-TooLong-clause-stays : goal.returns-in-Err-TooLong-clause-stays
+returns-in-Err-TooLong-clause-stays g c = c.loop-left.invariant.stays
