@@ -1,4 +1,4 @@
-pub mod Outcomes
+mod Outcomes
 mod BatchLaws
 mod Applying
 mod Chunking

@@ -1,6 +1,6 @@
 -- What the answer of a call says, by whether it is Ok.
-use Rattle.std.proofs.Common.{◌≡◌, ◌≢◌, Bool, true, false, Result, Ok, Err, OnOk, OnErr, IfOk, is_ok, refl, ap, ◌∙◌, sym}
-use Rattle.std.specs.Result.{IsErrAnd, is_err, result_eq}
+use Rattle.std.proofs.Common.{◌≡◌, ◌≢◌, Bool, true, false, Result, Ok, Err, OnOk, OnErr, is_ok, refl, ap, ◌∙◌, sym}
+use Rattle.std.specs.Result.{is_err, result_eq}
 use Rattle.h2_instruction.specs.declared.fault.BlockFault.{BlockFault}
 
 -- a fact of an answer, where the code has tested it
@@ -32,11 +32,6 @@ no_fault x f e = cc
 -- an answer that is a fault is no other
 pub same_fault : {T : Type 0} (f d : BlockFault) → ◌≡◌ {A = Result T BlockFault} (Err f) (Err d) → f ≡ d
 same_fault f d e = cc
-
--- what the exit of a `?` returns is no value
-pub exit_no_value : {T E : Type 0} (r : Result T E) (P : T → Type 0) (Q : E → Type 0) → IsErrAnd r Q → IfOk r P
-exit_no_value (Ok x) P Q h = absurd h
-exit_no_value (Err y) P Q h = tt
 
 -- what holds in any case
 pub if_err : {T E : Type 0} (r : Result T E) (P : Type 0) → P → OnErr r P

@@ -92,3 +92,7 @@ pub start-rest : (b : List ℕ) (p : Point) → IsPoint b p → p.passed ≡ 0 �
 start-rest b p h z e =
     let none = eqb-true (length b) 0 e in
     record { point = h; passed = omega (arith, z); again = omega (arith, none) }
+
+pub none_left : (b : List ℕ) → (length b == 0) ≡ true → b ≡ []
+none_left [] e = refl
+none_left (o ∷ b) e = absurd (let none = eqb-true (length (o ∷ b)) 0 e in omega (arith, none))

@@ -1,7 +1,7 @@
 -- What an edited table evicts, and what a commit moves.
-use Rattle.std.proofs.Common.{◌≡◌, ℕ, zero, suc, ◌+◌, ◌-◌, ◌<◌, ◌≤◌, List, [], ◌∷◌, ◌++◌, length, take, Some, None, ap, ◌∙◌, sym, arith}
-use Rattle.std.proofs.lemmas.List.{take_more, append_assoc}
-use Rattle.std.proofs.lemmas.Option.{slice_get_within, get_or_from_slice_get}
+use Rattle.std.proofs.Common.{◌≡◌, ℕ, zero, suc, ◌+◌, ◌-◌, ◌<◌, ◌≤◌, List, [], ◌∷◌, ◌++◌, length, length-append, get_or, take, Some, None, ap, ◌∙◌, sym, arith}
+use Rattle.std.proofs.lemmas.List.{get_or_append_left, take_more, append_assoc}
+use Rattle.std.proofs.lemmas.Option.{slice_get-get_or, slice_get_within, get_or_from_slice_get}
 use Rattle.h2_spec.specs.Field.{Field, size}
 use Rattle.h2_spec.specs.DynamicTable.{Table, total_size, fit, entry_at, insert, resize}
 use Rattle.h2_spec.proofs.TableLaws.{fit-cons, fit-none, fit-zero, fit-evict, total_size-append, total_size-length}
@@ -39,6 +39,14 @@ no_entry es zero h l e = omega arith
 no_entry [] (suc n) h l e = omega arith
 no_entry (x ∷ es) (suc zero) h l e = cc
 no_entry (x ∷ es) (suc (suc n)) h l e = no_entry es (suc n) (omega arith) (omega arith) e
+
+-- an entry among those that were added
+pub entry-added : (i : ℕ) (added rest : List Field) (x : Field) → 0 < i → i ≤ length added → x ≡ get_or added (i - 1) x → Some x ≡ entry_at i (added ++ rest)
+entry-added zero added rest x h l e = absurd (omega arith)
+entry-added (suc n) added rest x h l e =
+    let at : suc n - 1 ≡ n = omega arith in
+    let sum = length-append added rest in
+    sym (slice_get-get_or (added ++ rest) n x (omega (arith, sum)) ∙ ap Some (get_or_append_left added rest x n (omega arith) ∙ ap (λ k. get_or added k x) (sym at) ∙ sym e))
 
 -- the oldest of what was added goes to the front of the others
 pub moved : (added rest ring : List Field) (x : Field) → added ≡ rest ++ x ∷ [] → rest ++ x ∷ ring ≡ added ++ ring

@@ -1,3 +1,4 @@
+mod Entries
 mod Copied
 mod Editing
 mod Popped

@@ -1,8 +1,8 @@
 use Rattle.std.proofs.Common.{arith, ◌≡◌, ℕ, ◌+◌, ◌<◌, ◌≤◌, List, [], ◌∷◌, ◌++◌, length, take, ap, ◌∙◌, sym, Some, None, slice_get}
+use Rattle.std.proofs.lemmas.Result.{IfOk-from_err}
 use Rattle.std.proofs.lemmas.List.{take-take, take_all, take_more}
 use Rattle.std.proofs.lemmas.Option.{get_or_from_slice_get, slice_get-get_or}
 use Rattle.h2_spec.specs.Field.{Field, field}
-use Rattle.h2_fields.proofs.Outcomes.{exit_no_value}
 use Rattle.h2_fields.proofs.block.copy_rest.Goals as goal
 use Rattle.h2_fields.proofs.block.copy_rest.Goals.{in-Some+in_ok-field+in_ok-push, in_default}
 
@@ -28,14 +28,14 @@ loop-place-init g c =
     }
 
 pub returns-in_err-field-clause-copied : goal.returns-in_err-field-clause-copied
-returns-in_err-field-clause-copied g c = exit_no_value c.from_residual.result _ _ c.from_residual.ensures.1
+returns-in_err-field-clause-copied g c = IfOk-from_err c.from_residual.result _ c.from_residual.ensures.0
 
 pub returns-in_err-field-clause-begins : goal.returns-in_err-field-clause-begins
 returns-in_err-field-clause-begins g c =
     in_front (length c.args.fields.now.items) c.loop-place.place c.args.collected.now.fields c.loop-place.fields.items c.args.fields.now.items c.loop-place.invariant.copied c.loop-place.invariant.from c.requires.begins
 
 pub returns-in_err-push-clause-copied : goal.returns-in_err-push-clause-copied
-returns-in_err-push-clause-copied g c = exit_no_value c.from_residual-in_err-push.result _ _ c.from_residual-in_err-push.ensures.1
+returns-in_err-push-clause-copied g c = IfOk-from_err c.from_residual-in_err-push.result _ c.from_residual-in_err-push.ensures.0
 
 pub returns-in_err-push-clause-begins : goal.returns-in_err-push-clause-begins
 returns-in_err-push-clause-begins g c =

@@ -47,3 +47,27 @@ returns-in-Err g c =
       unchanged = λ e. absurd (let same : f ≡ faults.NoMemory = same_fault f faults.NoMemory e in let other : f ≢ faults.NoMemory = search rules in other same);
       grows = c.decode.ensures.grows;
     }
+
+pub decode-requires-clause-belongs : goal.decode-requires-clause-belongs
+decode-requires-clause-belongs g c = c.begin.ensures.belongs
+
+pub returns-in-Ok-clause-belongs : goal.returns-in-Ok-clause-belongs
+returns-in-Ok-clause-belongs g c = c.decode.ensures.belongs
+
+pub returns-in-Ok-clause-cut : goal.returns-in-Ok-clause-cut
+returns-in-Ok-clause-cut g c = c.in-Ok.ensures.cut
+
+pub returns-in-Ok-clause-rest : goal.returns-in-Ok-clause-rest
+returns-in-Ok-clause-rest g c = c.in-Ok.ensures.rest
+
+pub returns-in-Ok-clause-ticks : goal.returns-in-Ok-clause-ticks
+returns-in-Ok-clause-ticks g c = c.in-Ok.ensures.ticks
+
+pub returns-in-Ok-clause-grows : goal.returns-in-Ok-clause-grows
+returns-in-Ok-clause-grows g c = c.decode.ensures.grows
+
+pub returns-in-Err-NoMemory-clause-belongs : goal.returns-in-Err-NoMemory-clause-belongs
+returns-in-Err-NoMemory-clause-belongs g c = c.decode.ensures.belongs
+
+pub returns-in-Err-NoMemory-clause-stays : goal.returns-in-Err-NoMemory-clause-stays
+returns-in-Err-NoMemory-clause-stays g c = c.in-Err-NoMemory.ensures.stays

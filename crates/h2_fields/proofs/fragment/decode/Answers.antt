@@ -1,6 +1,6 @@
 use Rattle.std.proofs.Common.{◌≡◌, ◌==◌, true, ℕ, Err, refl, ap, ◌∙◌, sym, subst, arith, length, drop, ◌+◌, length-drop}
 use Rattle.std.proofs.lemmas.Bool.{eqb-true}
-use Rattle.std.proofs.lemmas.Result.{err_from_is_err_and}
+use Rattle.std.proofs.lemmas.Result.{IfOk-from_err, err_from_is_err_and}
 use Rattle.h2_spec.specs.Instruction as spec
 use Rattle.h2_spec.specs.Instruction.{Indexed, instr_at}
 use Rattle.h2_spec.proofs.BlockLaws.{leads-start, leads-step, leads-more}
@@ -10,7 +10,7 @@ use Rattle.h2_instruction.specs.Shapes.{shape_of, read_of}
 use Rattle.h2_instruction.specs.declared.shape.Shape.{Shape}
 use Rattle.h2_fields.specs.Rests.{IsCounted}
 use Rattle.h2_fields.proofs.Counting.{counts, counts-rest}
-use Rattle.h2_fields.proofs.Outcomes.{exit_no_value, if_err}
+use Rattle.h2_fields.proofs.Outcomes.{if_err}
 use Rattle.h2_fields.proofs.Stopping.{empty-more, grows-start, grows-then, refused-stopped, start-rest, too_long-stopped}
 use Rattle.h2_fields.proofs.FoundFaults.{fewer}
 use Rattle.h2_fields.proofs.fragment.decode.Goals as goal
@@ -147,16 +147,16 @@ pub apply_indexed-requires : goal.apply_indexed-requires
 apply_indexed-requires g c = record { belongs = c.loop-left.invariant.belongs }
 
 pub returns-in_err-apply_indexed-clause-used : goal.returns-in_err-apply_indexed-clause-used
-returns-in_err-apply_indexed-clause-used g c = exit_no_value c.from_residual.result _ _ c.from_residual.ensures.1
+returns-in_err-apply_indexed-clause-used g c = IfOk-from_err c.from_residual.result _ c.from_residual.ensures.0
 
 pub returns-in_err-apply_indexed-clause-cut : goal.returns-in_err-apply_indexed-clause-cut
-returns-in_err-apply_indexed-clause-cut g c = exit_no_value c.from_residual.result _ _ c.from_residual.ensures.1
+returns-in_err-apply_indexed-clause-cut g c = IfOk-from_err c.from_residual.result _ c.from_residual.ensures.0
 
 pub returns-in_err-apply_indexed-clause-rest : goal.returns-in_err-apply_indexed-clause-rest
-returns-in_err-apply_indexed-clause-rest g c = exit_no_value c.from_residual.result _ _ c.from_residual.ensures.1
+returns-in_err-apply_indexed-clause-rest g c = IfOk-from_err c.from_residual.result _ c.from_residual.ensures.0
 
 pub returns-in_err-apply_indexed-clause-ticks : goal.returns-in_err-apply_indexed-clause-ticks
-returns-in_err-apply_indexed-clause-ticks g c = exit_no_value c.from_residual.result _ _ c.from_residual.ensures.1
+returns-in_err-apply_indexed-clause-ticks g c = IfOk-from_err c.from_residual.result _ c.from_residual.ensures.0
 
 pub returns-in_err-apply_indexed-clause-stays : goal.returns-in_err-apply_indexed-clause-stays
 returns-in_err-apply_indexed-clause-stays g c = if_err c.from_residual.result _ c.loop-left.invariant.stays
@@ -180,16 +180,16 @@ pub apply-requires : goal.apply-requires
 apply-requires g c = record { belongs = c.loop-left.invariant.belongs }
 
 pub returns-in_err-apply-in-Ok-clause-used : goal.returns-in_err-apply-in-Ok-clause-used
-returns-in_err-apply-in-Ok-clause-used g c = exit_no_value c.from_residual-in_err-apply-in-Ok.result _ _ c.from_residual-in_err-apply-in-Ok.ensures.1
+returns-in_err-apply-in-Ok-clause-used g c = IfOk-from_err c.from_residual-in_err-apply-in-Ok.result _ c.from_residual-in_err-apply-in-Ok.ensures.0
 
 pub returns-in_err-apply-in-Ok-clause-cut : goal.returns-in_err-apply-in-Ok-clause-cut
-returns-in_err-apply-in-Ok-clause-cut g c = exit_no_value c.from_residual-in_err-apply-in-Ok.result _ _ c.from_residual-in_err-apply-in-Ok.ensures.1
+returns-in_err-apply-in-Ok-clause-cut g c = IfOk-from_err c.from_residual-in_err-apply-in-Ok.result _ c.from_residual-in_err-apply-in-Ok.ensures.0
 
 pub returns-in_err-apply-in-Ok-clause-rest : goal.returns-in_err-apply-in-Ok-clause-rest
-returns-in_err-apply-in-Ok-clause-rest g c = exit_no_value c.from_residual-in_err-apply-in-Ok.result _ _ c.from_residual-in_err-apply-in-Ok.ensures.1
+returns-in_err-apply-in-Ok-clause-rest g c = IfOk-from_err c.from_residual-in_err-apply-in-Ok.result _ c.from_residual-in_err-apply-in-Ok.ensures.0
 
 pub returns-in_err-apply-in-Ok-clause-ticks : goal.returns-in_err-apply-in-Ok-clause-ticks
-returns-in_err-apply-in-Ok-clause-ticks g c = exit_no_value c.from_residual-in_err-apply-in-Ok.result _ _ c.from_residual-in_err-apply-in-Ok.ensures.1
+returns-in_err-apply-in-Ok-clause-ticks g c = IfOk-from_err c.from_residual-in_err-apply-in-Ok.result _ c.from_residual-in_err-apply-in-Ok.ensures.0
 
 pub returns-in_err-apply-in-Ok-clause-stays : goal.returns-in_err-apply-in-Ok-clause-stays
 returns-in_err-apply-in-Ok-clause-stays g c = if_err c.from_residual-in_err-apply-in-Ok.result _ c.loop-left.invariant.stays
@@ -214,3 +214,21 @@ returns-in-Err-More-clause-grows g c = c.loop-left.invariant.grows
 
 pub returns-in-Err-TooLong-clause-grows : goal.returns-in-Err-TooLong-clause-grows
 returns-in-Err-TooLong-clause-grows g c = c.loop-left.invariant.grows
+
+pub returns-then-is_empty-clause-belongs : goal.returns-then-is_empty-clause-belongs
+returns-then-is_empty-clause-belongs g c = c.loop-left.invariant.belongs
+
+pub returns-in_err-apply_indexed-clause-belongs : goal.returns-in_err-apply_indexed-clause-belongs
+returns-in_err-apply_indexed-clause-belongs g c = c.loop-left.invariant.belongs
+
+pub returns-in_err-apply-in-Ok-clause-belongs : goal.returns-in_err-apply-in-Ok-clause-belongs
+returns-in_err-apply-in-Ok-clause-belongs g c = c.apply.ensures.belongs
+
+pub returns-in-Err-More-clause-belongs : goal.returns-in-Err-More-clause-belongs
+returns-in-Err-More-clause-belongs g c = c.loop-left.invariant.belongs
+
+pub returns-in-Err-TooLong-clause-belongs : goal.returns-in-Err-TooLong-clause-belongs
+returns-in-Err-TooLong-clause-belongs g c = c.loop-left.invariant.belongs
+
+pub returns-in-Err-TooLong-clause-stays : goal.returns-in-Err-TooLong-clause-stays
+returns-in-Err-TooLong-clause-stays g c = c.loop-left.invariant.stays

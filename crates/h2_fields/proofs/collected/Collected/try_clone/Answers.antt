@@ -1,20 +1,20 @@
 use Rattle.std.proofs.Common.{◌++◌, List, map, ap, ◌∙◌, sym}
+use Rattle.std.proofs.lemmas.Result.{IfOk-from_err}
 use Rattle.std.proofs.lemmas.List.Elements.{same_from_all_zip}
 use Rattle.h2_spec.specs.Block.{FieldsSoFar, list_size}
 use Rattle.h2_spec.specs.Field.{Field}
 use Rattle.h2_list.specs.Listed.{Listed}
 use Rattle.h2_mark.specs.Mark.{mark_of}
-use Rattle.h2_fields.proofs.Outcomes.{exit_no_value}
 use Rattle.h2_fields.proofs.collected.Collected.try_clone.Goals as goal
 
 pub returns-in_err-try_clone : goal.returns-in_err-try_clone
-returns-in_err-try_clone g c = record { same = exit_no_value c.from_residual.result _ _ c.from_residual.ensures.1 }
+returns-in_err-try_clone g c = record { same = IfOk-from_err c.from_residual.result _ c.from_residual.ensures.0 }
 
 pub returns-in_err-try_clone-2 : goal.returns-in_err-try_clone-2
-returns-in_err-try_clone-2 g c = record { same = exit_no_value c.from_residual-in_err-try_clone-2.result _ _ c.from_residual-in_err-try_clone-2.ensures.1 }
+returns-in_err-try_clone-2 g c = record { same = IfOk-from_err c.from_residual-in_err-try_clone-2.result _ c.from_residual-in_err-try_clone-2.ensures.0 }
 
 pub returns-in_err-clone : goal.returns-in_err-clone
-returns-in_err-clone g c = record { same = exit_no_value c.from_residual-in_err-clone.result _ _ c.from_residual-in_err-clone.ensures.1 }
+returns-in_err-clone g c = record { same = IfOk-from_err c.from_residual-in_err-clone.result _ c.from_residual-in_err-clone.ensures.0 }
 
 pub invariant_of-result : goal.invariant_of-result
 invariant_of-result g c =

@@ -1,11 +1,11 @@
 use Rattle.std.proofs.Common.{List, ℕ, ◌∙◌, sym, subst}
+use Rattle.std.proofs.lemmas.Result.{IfOk-from_err}
 use Rattle.std.proofs.lemmas.List.Elements.{same_from_all_zip}
 use Rattle.h2_instruction.specs.Resume.{IsRest}
-use Rattle.h2_fields.proofs.Outcomes.{exit_no_value}
 use Rattle.h2_fields.proofs.rest.Rest.try_clone.Goals as goal
 
 pub returns-in_err-clone : goal.returns-in_err-clone
-returns-in_err-clone g c = record { same = exit_no_value c.from_residual.result _ _ c.from_residual.ensures.1 }
+returns-in_err-clone g c = record { same = IfOk-from_err c.from_residual.result _ c.from_residual.ensures.0 }
 
 pub invariant_of-result : goal.invariant_of-result
 invariant_of-result g c =
