@@ -83,6 +83,7 @@ fn put_json<A: Allocator + Copy>(
 }
 
 /// Makes the text of an item.
+#[inline(always)]
 fn make_text<A: Allocator + Copy>(
     alloc: A,
     form: Form,

@@ -202,7 +202,6 @@ impl<A: Allocator + Copy> Explainer<A> {
     }
 
     /// Appends what is other than before on the streams that frames were sent on, and notes them.
-    #[inline(always)]
     fn see_sent(
         &mut self,
         conn: &Conn<'_, A>,
