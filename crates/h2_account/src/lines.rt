@@ -3,7 +3,7 @@
 //! `specs/Lines.antt`, the format: docs/FORMATS.md.
 
 ghost use Rattle.std.specs.Prelude.{◌≡◌, None, OnOk};
-ghost use Rattle.h2_account.specs.Lines.{Words as Said, blanks, cause_lines, error_lines, first_line, ignored_lines, is_silent, lines, lines_of, reason_lines, rule_lines, scope};
+ghost use Rattle.h2_account.specs.Lines.{Words as Said, blanks, cause_lines, ended, error_lines, first_line, ignored_lines, is_silent, lines, lines_of, reason_lines, rule_lines, scope, started};
 ghost use Rattle.h2_facts.specs.Special.{rule_of_cause, rule_of_reason};
 
 use crate::account::Account;
@@ -16,7 +16,7 @@ use crate::warning_words::say_warnings;
 use h2_describe::names::{error_name, scope_word};
 use h2_describe::say::TextBuilder;
 use h2_describe::spelled::BlockReader;
-use h2_device::{DeviceFault, Gathered, Number, Output, Text, texts};
+use h2_device::{DeviceFault, Gathered, Output, Text, texts};
 use h2_facts::special::{Rule, case_of_error, case_of_reason, rule_of_cause, rule_of_reason};
 use h2_item::item::Explained;
 use h2_spec::causes::Cause;
@@ -24,6 +24,7 @@ use h2_spec::connection::Phase;
 use h2_spec::frames::ItemHead;
 use h2_spec::ignored::Ignored;
 use h2_spec::special_cases::SpecialCase;
+use itoa::Buffer;
 use std::alloc::{AllocError, Allocator, Global};
 use std::marker::Model;
 use std::mem;
@@ -32,13 +33,51 @@ use std::mem;
 const INDENT: &str = "        ";
 
 /// The blanks after a number and an offset: the words begin at the ninth column, two blanks on at least.
-fn blanks(number: u64, offset: u64) -> &'static str
-    ensures { result.now ≡ blanks number offset }
-{
-    if number < 10 && offset < 10 {
-        "   "
-    } else {
-        "  "
+#[derive(Clone, Copy)]
+struct Blanks {
+    number: u64,
+    offset: u64,
+}
+
+impl Text for Blanks {
+    ghost text = { λ b. blanks b.number b.offset };
+
+    fn write_to<O: Output>(&self, output: &mut O) -> Result<(), DeviceFault> {
+        if self.number < 10 && self.offset < 10 {
+            "   ".write_to(output)
+        } else {
+            "  ".write_to(output)
+        }
+    }
+}
+
+/// The beginning of a line with colours; empty without them.
+#[derive(Clone, Copy)]
+struct LineStart(Paint, Role);
+
+impl Text for LineStart {
+    ghost text = { λ l. started l.0.0 l.1 };
+
+    fn write_to<O: Output>(&self, output: &mut O) -> Result<(), DeviceFault> {
+        match self.0.0 {
+            true => self.0.started(self.1).write_to(output),
+            false => "".write_to(output),
+        }
+    }
+}
+
+/// The end of a line.
+#[derive(Clone, Copy)]
+struct LineEnd(Paint);
+
+impl Text for LineEnd {
+    ghost text = { λ l. ended l.0.0 };
+
+    fn write_to<O: Output>(&self, output: &mut O) -> Result<(), DeviceFault> {
+        match self.0.0 {
+            true => self.0.ended().write_to(output),
+            false => "\n".write_to(output),
+        }
     }
 }
 
@@ -68,10 +107,14 @@ impl Text for FirstLine<'_> {
     ghost text = { λ l. first_line l.paint.0 l.number l.offset l.words.0.now };
 
     fn write_to<O: Output>(&self, output: &mut O) -> Result<(), DeviceFault> {
-        let start = self.paint.started(Role::Item);
-        let blanks = blanks(self.number, self.offset);
-        let (number, offset) = (Number(self.number), Number(self.offset));
-        let end = self.paint.ended();
+        let start = LineStart(self.paint, Role::Item);
+        let blanks = Blanks {
+            number: self.number,
+            offset: self.offset,
+        };
+        let (mut number, mut offset) = (Buffer::new(), Buffer::new());
+        let (number, offset) = (number.format(self.number), offset.format(self.offset));
+        let end = LineEnd(self.paint);
         texts!(start, "#", number, " @", offset, blanks, self.words, end).write_to(output)
     }
 }
@@ -308,6 +351,7 @@ fn say_words<A: Allocator + Copy>(
 /// Puts a text in the place of what was gathered.
 ///
 /// `AllocError` where memory for it is refused.
+#[inline(always)]
 fn gather<A: Allocator, T: Text>(text: &T, out: &mut Gathered<A>) -> Result<(), AllocError>
     ensures { OnOk result (out.new.octets.items ≡ T.text text.now) }
 {
@@ -334,6 +378,7 @@ fn first_of<'w>(item: &Explained<'_>, words: &'w [u8], ends: Ends, paint: Paint)
 }
 
 /// The lines of an item with these words that is no error and not ignored, without those of an opening.
+#[inline(always)]
 fn plain_lines<A: Allocator>(
     item: &Explained<'_>,
     words: &[u8],

@@ -75,6 +75,7 @@ impl Paint {
 
     /// Begins a line below the first one of an item with these words, which are given after the blanks that such a line
     /// begins with: without colours that is one part of the text.
+    #[inline(always)]
     pub fn lead<A: Allocator>(self, role: Role, indented: &str, out: &mut TextBuilder<A>) {
         if self.0 {
             self.begin(role, out);
@@ -85,7 +86,12 @@ impl Paint {
     }
 
     /// Ends a line.
+    #[inline(always)]
     pub fn end<A: Allocator>(self, out: &mut TextBuilder<A>) {
-        say_all!(out; self.ended());
+        if self.0 {
+            say_all!(out; self.ended());
+        } else {
+            say_all!(out; "\n");
+        }
     }
 }

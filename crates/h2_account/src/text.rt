@@ -306,10 +306,16 @@ pub(crate) fn say_entries<A: Allocator + Copy>(
 }
 
 /// Puts the lines of the frames that the server sent before the first item last, if there are any: none has fields.
+#[inline(always)]
 pub(crate) fn say_opening<A: Allocator>(opening: &[u8], paint: Paint, out: &mut TextBuilder<A>) {
-    if opening.is_empty() {
-        return;
+    if !opening.is_empty() {
+        say_opening_frames(opening, paint, out);
     }
+}
+
+/// The same where there are some.
+#[inline(never)]
+fn say_opening_frames<A: Allocator>(opening: &[u8], paint: Paint, out: &mut TextBuilder<A>) {
     paint.start(Role::Item, out);
     say_all!(out; "#0 @0   the server's opening");
     paint.end(out);

@@ -13,7 +13,7 @@ use Rattle.h2_spec.specs.declared.streams.Stream.{Stream}
 use Rattle.h2_spec.specs.declared.flow.Settings.{Settings}
 use Rattle.h2_spec.specs.declared.streams.StreamState.{StreamState}
 use Rattle.h2_spec.specs.declared.streams.StreamState.TheVariants.{Idle, Skipped, BothOpen, HalfRemote, HalfLocal, Ended, PeerReset, WeReset}
-use Rattle.h2_changes.specs.Changes.{CountsAreAsBefore, Differs, IsAsBefore, are_same_numbers, are_same_windows, client_table, code_of, connection_table, is_other, is_same_kind, is_same_pick, is_same_stream, last_of, listed, listed_flag, listed_if_any, numbers_table, state_row, stops, stops_with, stream_changes, stream_table}
+use Rattle.h2_changes.specs.Changes.{CountsAreAsBefore, Differs, IsAsBefore, are_same_numbers, are_same_windows, client_table, code_of, connection_changes, connection_table, is_other, is_same_kind, is_same_pick, is_same_stream, last_of, listed, listed_flag, listed_if_any, numbers_table, state_row, stops, stops_with, stream_changes, stream_table}
 use Rattle.h2_spec.specs.Stream.{is_live}
 use Rattle.h2_item.specs.declared.item.Moment.{Moment}
 use Rattle.h2_changes.specs.declared.changes.ShownChange.{ShownChange}
@@ -80,6 +80,89 @@ step x xs false e below h = (same x e, below h)
 pub all_same : (xs : List ShownChange) → filter is_other xs ≡ [] → AllSame xs
 all_same [] h = tt
 all_same (x ∷ xs) h = step x xs (is_other x) refl (all_same xs) h
+
+-- ---- where nothing differs, nothing is kept
+
+not_other : (x : ShownChange) → Same x → is_other x ≡ false
+not_other (Number stream what before after) h = rw ((Decides-int_eq before after).1 h) refl
+not_other (State stream before after) h = rw h refl
+not_other (Acknowledged false false) h = refl
+not_other (Acknowledged false true) h = sym h
+not_other (Acknowledged true false) h = h
+not_other (Acknowledged true true) h = refl
+not_other (Stops stream remaining own connection) h = absurd h
+
+none_other : (xs : List ShownChange) → AllSame xs → filter is_other xs ≡ []
+none_other [] h = refl
+none_other (x ∷ xs) h = rw (not_other x h.0, none_other xs h.1) refl
+
+-- a connection of which all that is listed is the same
+pub same_connection : (before after : Moment) → before.entries ≡ after.entries → before.table_size ≡ after.table_size → before.table_max ≡ after.table_max
+    → record before.counts { phase = after.counts.phase } ≡ after.counts → connection_changes before after ≡ []
+same_connection before after entries size max counts =
+    let at : (f : ConnectionState → ℤ) → f (record before.counts { phase = after.counts.phase }) ≡ f after.counts = λ f. ap f counts in
+    none_other (connection_table before after) (
+      at (λ c. c.recv),
+      (
+        at (λ c. pos c.owed),
+        (
+          at (λ c. c.send),
+          (
+            at (λ c. pos c.last),
+            (
+              at (λ c. listed_if_any (option_map last_of c.goaway)),
+              (
+                at (λ c. listed_if_any (option_map code_of c.goaway)),
+                (
+                  at (λ c. pos c.peer.header_table),
+                  (
+                    at (λ c. pos c.peer.push),
+                    (
+                      at (λ c. listed_if_any c.peer.streams),
+                      (
+                        at (λ c. pos c.peer.window),
+                        (
+                          at (λ c. pos c.peer.frame),
+                          (
+                            at (λ c. listed_if_any c.peer.list),
+                            (
+                              at (λ c. listed_flag c.peer.size_update_pending),
+                              (
+                                ap (λ (c : ConnectionState). c.acked) counts,
+                                (
+                                  at (λ c. pos c.own.table),
+                                  (
+                                    at (λ c. pos c.own.window),
+                                    (
+                                      at (λ c. pos c.own.frame),
+                                      (ap listed entries, (ap listed size, (ap (λ (n : ℕ). pos n) max, tt))),
+                                    ),
+                                  ),
+                                ),
+                              ),
+                            ),
+                          ),
+                        ),
+                      ),
+                    ),
+                  ),
+                ),
+              ),
+            ),
+          ),
+        ),
+      ),
+    )
+
+-- nothing is listed of stream 0
+pub none_of_zero : (before after : Stream) (send : ℤ) → after.id ≡ 0 → stream_changes before after send ≡ []
+none_of_zero before after send zero = let test : (after.id == 0) ≡ true = rw zero refl in rw test (at (is_same_stream before after))
+  where
+    at : (b : Bool) → cond (b || true) [] (filter is_other (stream_table before after) ++ stops after send) ≡ []
+    at false = refl
+    at true = refl
+
+-- ---- what two values that are listed the same say
 
 pub same_if_any : (a b : Option ℕ) → listed_if_any a ≡ listed_if_any b → a ≡ b
 same_if_any None None h = refl

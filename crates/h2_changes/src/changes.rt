@@ -1,6 +1,6 @@
 //! What an item changes of the state of a connection. Definitions: `specs/Changes.antt`.
 
-ghost use Rattle.std.specs.Prelude.{◌≡◌, ◌++◌, ◌↔◌, nat_eq, pos, IsTrue, OnOk};
+ghost use Rattle.std.specs.Prelude.{◌≡◌, ◌==◌, ◌++◌, ◌↔◌, [], false, nat_eq, pos, IsTrue, OnOk};
 ghost use Rattle.std.specs.Option.{option_eq, option_map};
 ghost use Rattle.std.specs.List.{filter};
 ghost use Rattle.h2_changes.specs.Changes.{are_same_numbers, are_same_windows, client_table, code_of, connection_changes, counts_table, header_table, is_other, is_same_kind, is_same_pick, is_same_stream, last_of, listed, listed_flag, listed_if_any, numbers_table, own_table, state_row, stops, stream_changes, stream_table};
@@ -207,6 +207,69 @@ fn code_of(goaway: Option<(u32, u32)>) -> Option<u32>
     }
 }
 
+/// Whether two of the client's GOAWAY frames are the same, none if none has arrived (RFC 9113, 6.8).
+fn is_same_goaway(before: Option<(u32, u32)>, after: Option<(u32, u32)>) -> bool
+    ensures { IsTrue result → (before ≡ after) }
+{
+    match (before, after) {
+        (None, None) => true,
+        (Some((last, code)), Some((last_after, code_after))) => {
+            last == last_after && code == code_after
+        }
+        (None, Some(_)) | (Some(_), None) => false,
+    }
+}
+
+/// Whether the client's settings are the same (RFC 9113, 6.5.2).
+fn are_same_settings(before: &Settings, after: &Settings) -> bool
+    ensures { IsTrue result → (before.now ≡ after.now) }
+{
+    before.header_table == after.header_table
+        && before.push == after.push
+        && before.streams == after.streams
+        && before.window == after.window
+        && before.frame == after.frame
+        && before.list == after.list
+        && before.size_update_pending == after.size_update_pending
+}
+
+/// Whether the server's settings that are in force are the same (RFC 9113, 6.5.3).
+fn are_same_own(before: &LocalSettings, after: &LocalSettings) -> bool
+    ensures { IsTrue result → (before.now ≡ after.now) }
+{
+    before.table == after.table && before.window == after.window && before.frame == after.frame
+}
+
+/// Whether the counts of a connection are the same, but for its phase.
+fn are_same_counts(before: &ConnectionState, after: &ConnectionState) -> bool
+    ensures { IsTrue result → (record before.now { phase = after.now.phase } ≡ after.now) }
+{
+    before.recv.value() == after.recv.value()
+        && before.send.value() == after.send.value()
+        && before.owed.owed() == after.owed.owed()
+        && before.last == after.last
+        && before.acked == after.acked
+        && is_same_goaway(before.goaway, after.goaway)
+        && are_same_settings(&before.peer, &after.peer)
+        && are_same_own(&before.own, &after.own)
+}
+
+/// Whether the entries of a header table, their size and its maximum are the same (RFC 7541, 4).
+fn is_same_table(before: &Moment, after: &Moment) -> bool
+    ensures { IsTrue result → (before.now.entries ≡ after.now.entries) × (before.now.table_size ≡ after.now.table_size) × (before.now.table_max ≡ after.now.table_max) }
+{
+    before.entries == after.entries
+        && before.table_size == after.table_size
+        && before.table_max == after.table_max
+}
+
+/// Whether all that is listed of a connection is the same: its counts and its header table.
+fn is_same_connection(before: &Moment, after: &Moment) -> bool
+    ensures { IsTrue result → (connection_changes before.now after.now ≡ []) }
+{
+    is_same_table(before, after) && are_same_counts(&before.counts, &after.counts)
+}
+
 /// The windows of the connection, its last stream, and the client's latest GOAWAY.
 fn counts_table(before: &ConnectionState, after: &ConnectionState) -> [ShownChange; 6]
     ensures { result ≡ counts_table before.now after.now }
@@ -292,11 +355,11 @@ fn put_changed<A: Allocator>(table: &[ShownChange], out: &mut Changes<A>) -> Res
     Ok(())
 }
 
-/// Appends what is other than before on the connection: its windows, its last stream, the client's GOAWAY and settings,
-/// the server's settings, and the header table, in this order (RFC 9113, 5.2, 6.5 and 6.8).
+/// Appends the rows of all tables of a connection whose value after is other than the value before.
 ///
-/// `AllocError` where the list could not grow; then it has some first changes more.
-pub fn connection_changes<A: Allocator>(
+/// `AllocError` where the list could not grow; then it has some first rows of them more.
+#[inline(never)]
+fn put_connection<A: Allocator>(
     before: &Moment,
     after: &Moment,
     out: &mut Changes<A>,
@@ -309,6 +372,24 @@ pub fn connection_changes<A: Allocator>(
     put_changed(&own_table(old, new), out)?;
     put_changed(&header_table(before, after), out)?;
     Ok(())
+}
+
+/// Appends what is other than before on the connection: its windows, its last stream, the client's GOAWAY and settings,
+/// the server's settings, and the header table, in this order (RFC 9113, 5.2, 6.5 and 6.8).
+///
+/// `AllocError` where the list could not grow; then it has some first changes more.
+#[inline(always)]
+pub fn connection_changes<A: Allocator>(
+    before: &Moment,
+    after: &Moment,
+    out: &mut Changes<A>,
+) -> Result<(), AllocError>
+    ensures { OnOk result (out.new.items ≡ out.old.items ++ connection_changes before.now after.now) }
+{
+    if is_same_connection(before, after) {
+        return Ok(());
+    }
+    put_connection(before, after, out)
 }
 
 /// The state of a stream.
@@ -373,10 +454,31 @@ fn put_stream<A: Allocator>(
     Ok(())
 }
 
+/// Appends what is other than before on a stream that is not stream 0, and where its answer stops.
+///
+/// `AllocError` where the list could not grow; then it has some first changes more.
+#[inline(never)]
+fn put_stream_changes<A: Allocator>(
+    before: &Stream,
+    after: &Stream,
+    connection: Window,
+    out: &mut Changes<A>,
+) -> Result<(), AllocError>
+    requires stream { (after.now.id == 0) ≡ false }
+    ensures { OnOk result (out.new.items ≡ out.old.items ++ stream_changes before.now after.now connection) }
+{
+    if is_same_stream(before, after) {
+        return Ok(());
+    }
+    put_stream(before, after, out)?;
+    put_stop(after, connection, out)
+}
+
 /// Appends what is other than before on a stream, and where its answer stops: nothing where the stream is as before, or
 /// is stream 0. `connection` is the send window of the connection, in octets (RFC 9113, 5.1 and 6.9).
 ///
 /// `AllocError` where the list could not grow; then it has some first changes more.
+#[inline(always)]
 pub fn stream_changes<A: Allocator>(
     before: &Stream,
     after: &Stream,
@@ -385,9 +487,8 @@ pub fn stream_changes<A: Allocator>(
 ) -> Result<(), AllocError>
     ensures { OnOk result (out.new.items ≡ out.old.items ++ stream_changes before.now after.now connection) }
 {
-    if is_same_stream(before, after) || after.id == 0 {
+    if after.id == 0 {
         return Ok(());
     }
-    put_stream(before, after, out)?;
-    put_stop(after, connection, out)
+    put_stream_changes(before, after, connection, out)
 }

@@ -19,7 +19,7 @@ use h2_conn::{Conn, ConnFault};
 use h2_describe::sent::first_of;
 use h2_entries::book::Book;
 use h2_explainer::explainer::Explainer;
-use h2_explainer::taking::take_next;
+use h2_explainer::taking::{moment_at, stream_of_next};
 use h2_item::item::{Explained, part_in};
 use h2_script::{LineFault, add_line};
 use h2_spec::connection::Config;
@@ -155,12 +155,13 @@ fn take_text(
     ensures takes { IfOk result (λ used. TakesText conn.old.state octets.now offset (map string_bytes texts.old.items) conn.new (map string_bytes texts.new.items) used) }
 {
     sent.clear();
-    let taking = match take_next(conn, octets, sent) {
-        Ok(Some(taking)) => taking,
+    let stream = stream_of_next(conn, octets);
+    let before = moment_at(conn, stream);
+    let taken = match conn.take_and_report(octets, sent) {
+        Ok(Some(taken)) => taken,
         Ok(None) => return Ok(None),
         Err(error) => return Err(error),
     };
-    let taken = taking.taken;
     let used = taken.used;
     let own = first_of(octets, used);
     let item = Explained {
@@ -174,8 +175,8 @@ fn take_text(
         cause: taken.cause,
         ignored: taken.ignored,
         sent: sent.as_slice(),
-        before: taking.before,
-        after: taking.after,
+        before,
+        after: moment_at(conn, stream),
     };
     let text = match text_of(alloc, explainer, conn, &item) {
         Ok(text) => text,

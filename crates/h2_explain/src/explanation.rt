@@ -4,6 +4,7 @@
 ghost use Rattle.std.specs.Prelude.{◌≡◌, ◌<◌, ◌≤◌, ◌+◌, ◌^◌, ◌++◌, ℕ, List, [], true, false, drop, length, option_map, IfErr, IfOk, OnErr, OnOk, is_err};
 ghost use Rattle.std.specs.String.{string_bytes};
 ghost use Rattle.std.specs.Io.KnownBytes.{Appends};
+ghost use Rattle.h2_account.specs.Lines.{EndsLine};
 ghost use Rattle.h2_spec.specs.Errors.{code_number};
 ghost use Rattle.h2_spec.specs.State.{ended_code};
 ghost use Rattle.h2_conn.specs.Connection.{going, halted};
@@ -23,9 +24,10 @@ use h2_account::lines::ItemLines;
 use h2_account::paint::Paint;
 use h2_conn::{Conn, is_ended};
 use h2_describe::sent::first_of;
+use h2_describe::spelled::BlockReader;
 use h2_device::Output;
 use h2_explainer::explainer::Explainer;
-use h2_explainer::taking::take_next;
+use h2_explainer::taking::{moment_at, stream_of_next};
 use h2_item::item::{Explained, part_in};
 use h2_json::json::json_of;
 use h2_spec::octets::octets_from;
@@ -64,7 +66,24 @@ impl<A: Allocator> Drop for ItemText<A> {
     }
 }
 
+/// Puts an item as a line of JSON in the place of the text before; `reader` has the fields of its block.
+#[inline(never)]
+fn put_json<A: Allocator + Copy>(
+    alloc: A,
+    item: &Explained<'_>,
+    account: &Account<A>,
+    reader: &BlockReader<A>,
+    lines: &mut ItemLines<A>,
+) -> Result<(), AllocError>
+    ensures { OnOk result (EndsLine false lines.new) }
+{
+    let memory = lines.take(alloc);
+    lines.set(json_of(alloc, memory, item, account, reader)?);
+    Ok(())
+}
+
 /// Makes the text of an item.
+#[inline(always)]
 fn make_text<A: Allocator + Copy>(
     alloc: A,
     form: Form,
@@ -82,9 +101,7 @@ fn make_text<A: Allocator + Copy>(
     tally.note(item, account.facts, account.warnings)?;
     let reader = &explainer.reader;
     if form.json {
-        let memory = lines.take(alloc);
-        lines.set(json_of(alloc, memory, item, account, reader)?);
-        Ok(())
+        put_json(alloc, item, account, reader, lines)
     } else {
         lines.put(alloc, item, account, reader, Paint(form.color))
     }
@@ -233,12 +250,13 @@ impl<A: Allocator + Copy> Explanation<A> {
         ensures name { O.name output.new ≡ O.name output.old }
     {
         let start = start_of(out, keeps);
-        let taking = match take_next(conn, octets, out) {
-            Ok(Some(taking)) => taking,
+        let stream = stream_of_next(conn, octets);
+        let before = moment_at(conn, stream);
+        let taken = match conn.take_and_report(octets, out) {
+            Ok(Some(taken)) => taken,
             Ok(None) => return Ok(None),
             Err(_) => return Err(ExplainFault::NoMemory),
         };
-        let taken = taking.taken;
         let used = taken.used;
         let own = first_of(octets, used);
         let item = Explained {
@@ -252,8 +270,8 @@ impl<A: Allocator + Copy> Explanation<A> {
             cause: taken.cause,
             ignored: taken.ignored,
             sent: octets_from(out.as_slice(), start),
-            before: taking.before,
-            after: taking.after,
+            before,
+            after: moment_at(conn, stream),
         };
         recorder.record(&item);
         match write_item(

@@ -16,7 +16,7 @@ pub use h2_account::waits::{AnswerWait, RequestWait, Wait};
 pub use h2_changes::changes::{Moved, ShownChange};
 pub use h2_changes::count::Count;
 pub use h2_explainer::explainer::Explainer;
-pub use h2_explainer::taking::{Taking, moment_at, take_next};
+pub use h2_explainer::taking::{moment_at, stream_of_next};
 pub use h2_facts::request_facts::RequestFacts;
 pub use h2_facts::special::CaseFacts;
 pub use h2_facts::warning::{Warning, Warnings};

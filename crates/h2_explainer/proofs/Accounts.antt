@@ -30,7 +30,7 @@ seen_notes before after number ended st is s id = rw is (at (id == st.id) refl)
     at false e = s.others_same id (eqb-false id st.id e)
 
 -- a stream that is not to be noted
-unseen_notes : {A : Type 0} (before : Notes A) (number ended : ℕ) (st : Stream) → is_noted st ≡ false → AreNotes before (with_note number ended st (note_of before))
+pub unseen_notes : {A : Type 0} (before : Notes A) (number ended : ℕ) (st : Stream) → is_noted st ≡ false → AreNotes before (with_note number ended st (note_of before))
 unseen_notes before number ended st is id = rw is refl
 
 -- after a stream was looked at

@@ -1,5 +1,5 @@
 -- An item that was taken, and the same item with more octets after it.
-use Rattle.std.proofs.Common.{Bool, true, false, ◌≡◌, ◌∙◌, ◌+◌, ◌<◌, ◌≤◌, ℕ, List, [], ◌++◌, Some, length, take, drop, refl, sym, ap, subst, arith, length-take, length-append, le-ltb, ltb, ltb-false}
+use Rattle.std.proofs.Common.{Bool, true, false, ◌≡◌, ◌∙◌, ◌<◌, ◌≤◌, ℕ, List, [], ◌++◌, Some, length, take, drop, refl, sym, ap, subst, arith, length-take, length-append, le-ltb, ltb, ltb-false}
 use Rattle.std.proofs.lemmas.List.{drop_at, take-append-le, take_all}
 use Rattle.h2_spec.specs.declared.connection.Phase.{Phase}
 use Rattle.h2_spec.specs.declared.connection.Phase.TheVariants as phase
@@ -13,10 +13,8 @@ use Rattle.h2_frame.proofs.MissingLaws.{head_of-append}
 use Rattle.h2_conn.specs.Connection.{Connection, going}
 use Rattle.h2_conn.specs.First.{TakesFirst}
 use Rattle.h2_conn.specs.Reports.{reported}
-use Rattle.h2_conn.specs.declared.report.TakenItem.{TakenItem}
 use Rattle.h2_item.specs.declared.item.Explained.{Explained}
-use Rattle.h2_explainer.specs.declared.taking.Taking.{Taking}
-use Rattle.h2_explainer.specs.Explained.{ExplainsItem, IsAhead, KeepsItem, moment_of, report_in, stream_ahead, stream_in}
+use Rattle.h2_explainer.specs.Explained.{ExplainsItem, IsAhead, moment_of, report_in, stream_ahead, stream_in}
 
 -- of no octets nothing is an item
 none-uses : (x : Front State Event) → Uses [] x → x ≡ Stop
@@ -112,23 +110,22 @@ item-more s b more number offset c x i =
     }
 
 -- what is known of an item that was taken, with its octets and those that were sent for it
-pub item-explained : (s : State) (b out out' : List ℕ) (number offset : ℕ) (c : Connection) (k : Taking) (x : Explained) → c ≡ going c.state [] → TakesFirst s b out c.state out' k.taken.used → KeepsItem s b c.state k
-    → x.number ≡ number → x.offset ≡ offset → x.octets.now ≡ take k.taken.used b → x.ahead.now ≡ b → report_in x ≡ k.taken → x.sent.now ≡ drop (length out) out' → x.before ≡ k.before → x.after ≡ k.after
+pub item-explained : (s : State) (b out out' : List ℕ) (number offset : ℕ) (c : Connection) (x : Explained) → c ≡ going c.state [] → TakesFirst s b out c.state out' x.used → Some (report_in x) ≡ reported s (next_item s b)
+    → x.number ≡ number → x.offset ≡ offset → x.octets.now ≡ take x.used b → x.ahead.now ≡ b → x.sent.now ≡ drop (length out) out'
+    → x.before ≡ moment_of s (stream_ahead s.core.phase b) → x.after ≡ moment_of c.state (stream_ahead s.core.phase b)
     → ExplainsItem s b number offset c x
-item-explained s b out out' number offset c k x ready first kept number_is offset_is octets ahead taken sent before after =
-    let same : k.taken.used ≡ x.used = ap (λ (t : TakenItem). t.used) (sym taken) in
-    let comes : next_event s b ≡ One first.event c.state x.used = subst (λ (n : ℕ). next_event s b ≡ One first.event c.state n) same first.comes in
-    let uses : Uses b (One first.event c.state x.used) = subst (λ (n : Front State Event). Uses b n) comes (event-uses s b) in
+item-explained s b out out' number offset c x ready first taken number_is offset_is octets ahead sent before after =
+    let uses : Uses b (One first.event c.state x.used) = subst (λ (n : Front State Event). Uses b n) first.comes (event-uses s b) in
     record {
       event = first.event;
-      comes = comes;
+      comes = first.comes;
       ready = ready;
       number_is = number_is;
       offset_is = offset_is;
-      octets_is = octets ∙ ap (λ (n : ℕ). take n b) same;
+      octets_is = octets;
       ahead_is = subst (λ (a : List ℕ). IsAhead b x.used a) (sym ahead) (record { whole = uses.1; begins = sym (take_all (length b) b (omega arith)) });
-      taken_is = ap (λ (t : TakenItem). Some t) taken ∙ kept.taken_is;
+      taken_is = taken;
       sent_is = sent ∙ ap (drop (length out)) first.sent ∙ drop_at out (frames_octets first.event.sent) (length out) refl;
-      before_is = before ∙ kept.before_is;
-      after_is = after ∙ kept.after_is;
+      before_is = before;
+      after_is = after;
     }

@@ -1,5 +1,5 @@
 -- An item that was taken, with what was before it and what is after it.
-use Rattle.std.specs.Prelude.{◌≡◌, ℕ, ◌≤◌, Bool, true, false, List, [], length, take, Option, Some, None, option_map}
+use Rattle.std.specs.Prelude.{◌≡◌, ℕ, ◌≤◌, Bool, true, false, List, [], length, take, Option, Some, None}
 use Rattle.h2_spec.specs.declared.connection.Phase.{Phase}
 use Rattle.h2_spec.specs.declared.connection.Phase.TheVariants.{Preface, Settings, Running, Ended}
 use Rattle.h2_spec.specs.declared.frames.Head.{Head}
@@ -16,7 +16,6 @@ use Rattle.h2_conn.specs.declared.report.TakenItem.{TakenItem}
 use Rattle.h2_account.specs.Lines.{EndsLine, Words, lines_of}
 use Rattle.h2_item.specs.declared.item.Explained.{Explained}
 use Rattle.h2_item.specs.declared.item.Moment.{Moment}
-use Rattle.h2_explainer.specs.declared.taking.Taking.{Taking}
 
 -- what is looked at of a state, with one of its streams
 abbrev pub moment_of : State → ℕ → Moment
@@ -63,20 +62,6 @@ pub record ExplainsItem (s : State) (b : List ℕ) (number offset : ℕ) (c : Co
   pub sent_is : x.sent.now ≡ frames_octets event.sent
   pub before_is : x.before ≡ moment_of s (stream_ahead s.core.phase b)
   pub after_is : x.after ≡ moment_of c.state (stream_ahead s.core.phase b)
-
--- what is kept of the next item that octets begin with, where there is one
-pub record KeepsItem (s : State) (b : List ℕ) (t : State) (x : Taking) : Type 0 where
-  pub taken_is : Some x.taken ≡ reported s (next_item s b)
-  pub before_is : x.before ≡ moment_of s (stream_ahead s.core.phase b)
-  pub after_is : x.after ≡ moment_of t (stream_ahead s.core.phase b)
-
-abbrev pub Keeps : State → List ℕ → State → Option Taking → Type 0
-Keeps s b t None = Unit {0}
-Keeps s b t (Some x) = KeepsItem s b t x
-
--- how many octets it takes
-abbrev pub used_of : Option Taking → Option ℕ
-used_of taking = option_map (λ (x : Taking). x.taken.used) taking
 
 -- the text of an item: a line of JSON, or its lines
 abbrev pub IsTextOf : (json color : Bool) → Explained → List ℕ → Type 0

@@ -1,7 +1,7 @@
 //! What is known of a connection while it is explained, and the account of each item that it makes. Definitions:
 //! `specs/Account.antt`.
 
-ghost use Rattle.std.specs.Prelude.{◌≡◌, ◌++◌, false, IfOk, OnOk};
+ghost use Rattle.std.specs.Prelude.{◌≡◌, ◌++◌, Some, false, IfOk, OnOk};
 ghost use Rattle.std.specs.BTreeMap.{IsEmpty};
 ghost use Rattle.std.specs.Option.{option_map};
 ghost use Rattle.h2_spec.specs.Stream.{stream_at};
@@ -25,7 +25,7 @@ use h2_frame::Part;
 use h2_item::error_context::ErrorContext;
 use h2_item::header_table::{EntryChange, Followed};
 use h2_item::item::Explained;
-use h2_item::notes::Notes;
+use h2_item::notes::{Notes, StreamNote};
 use h2_sentence::sentence::say_sentence;
 use h2_spec::causes::Cause;
 use h2_spec::errors::ErrorCode;
@@ -131,6 +131,22 @@ pub fn opening_of<A: Allocator + Copy>(
     Ok(opening)
 }
 
+/// Puts the frames that the server sends before it reads anything in the place of other octets, if an item is the first;
+/// else none.
+#[inline(always)]
+fn put_opening<A: Allocator + Copy>(
+    alloc: A,
+    conn: &Conn<'_, A>,
+    is_first: bool,
+    octets: &mut Vec<u8, A>,
+) -> Result<(), AllocError> {
+    octets.clear();
+    if is_first {
+        *octets = opening_of(alloc, conn, true)?;
+    }
+    Ok(())
+}
+
 impl<A: Allocator + Copy> Explainer<A> {
     /// Nothing is known.
     pub fn new(alloc: A) -> Result<Explainer<A>, AllocError>
@@ -222,9 +238,28 @@ impl<A: Allocator + Copy> Explainer<A> {
         ensures blocks { OnOk result (KeepsBlocks self.old.notes self.new.notes) }
         ensures full { self.new.is_full ≡ self.old.is_full }
     {
-        let Some(note) = self.notes.of(stream) else {
-            return Ok(());
-        };
+        match self.notes.of(stream) {
+            Some(note) => self.see_again(conn, item, stream, &note, out),
+            None => Ok(()),
+        }
+    }
+
+    /// The same of a stream that was noted.
+    #[inline(never)]
+    fn see_again(
+        &mut self,
+        conn: &Conn<'_, A>,
+        item: &Explained<'_>,
+        stream: u32,
+        note: &StreamNote,
+        out: &mut Changes<A>,
+    ) -> Result<(), AllocError>
+        requires noted { note_of self.old.notes stream ≡ Some note.now }
+        ensures changes { OnOk result (out.new.items ≡ out.old.items ++ changes_since (note_of self.old.notes stream) (stream_at conn.now.state.core.last conn.now.state.streams stream) item.now.after.counts.send) }
+        ensures notes { OnOk result (AreNotes self.new.notes (with_later_note (note_of self.old.notes stream) item.now.number (stream_at conn.now.state.core.last conn.now.state.streams stream) (note_of self.old.notes))) }
+        ensures blocks { OnOk result (KeepsBlocks self.old.notes self.new.notes) }
+        ensures full { self.new.is_full ≡ self.old.is_full }
+    {
         let now = conn.stream(stream);
         if now.id == stream && note.is_settled() && is_same_stream(&note.seen, &now) {
             return Ok(());
@@ -233,32 +268,55 @@ impl<A: Allocator + Copy> Explainer<A> {
         self.notes.see(item.number, item.number, now)
     }
 
-    /// The sentence of an item's cause, empty where it has none.
+    /// The sentence of an item's cause.
     fn sentence(
         &self,
         alloc: A,
         conn: &Conn<'_, A>,
         item: &Explained<'_>,
+        cause: Cause,
     ) -> Result<String<A>, AllocError> {
-        let Some(cause) = item.cause else {
-            return Ok(String::new(alloc));
-        };
         let mut text = TextBuilder::with(alloc, self.is_full);
         say_sentence(alloc, cause, self.context(conn, item), &mut text);
         text.finish()
     }
 
-    /// The other causes that hold of an item's block, none where it is not malformed.
-    fn others(
+    /// Puts the sentence of an item's cause, and the other causes that hold of its block, in the place of those before;
+    /// nothing where it has no cause.
+    #[inline(always)]
+    fn put_error(
         &self,
         alloc: A,
         conn: &Conn<'_, A>,
         item: &Explained<'_>,
-    ) -> Result<Vec<Cause, A>, AllocError> {
+        account: &mut Account<A>,
+    ) -> Result<(), AllocError>
+        ensures { account.new ≡ record account.old { sentence = account.new.sentence; also = account.new.also } }
+    {
+        account.sentence.clear();
+        account.also.clear();
         match item.cause {
-            Some(cause) => others_of(alloc, cause, self.context(conn, item)),
-            None => Ok(Vec::new(alloc)),
+            Some(cause) => self.say_error(alloc, conn, item, cause, account),
+            None => Ok(()),
         }
+    }
+
+    /// Puts the sentence of this cause of an item, and the other causes that hold of its block, none where it is not
+    /// malformed.
+    #[inline(never)]
+    fn say_error(
+        &self,
+        alloc: A,
+        conn: &Conn<'_, A>,
+        item: &Explained<'_>,
+        cause: Cause,
+        account: &mut Account<A>,
+    ) -> Result<(), AllocError>
+        ensures { account.new ≡ record account.old { sentence = account.new.sentence; also = account.new.also } }
+    {
+        account.sentence = self.sentence(alloc, conn, item, cause)?;
+        account.also = others_of(alloc, cause, self.context(conn, item))?;
+        Ok(())
     }
 
     /// What decides whether an item's rule is a special case; looked up where it has a rule.
@@ -266,6 +324,12 @@ impl<A: Allocator + Copy> Explainer<A> {
         if item.cause.is_none() && item.ignored.is_none() {
             return CaseFacts::none();
         }
+        self.rule_facts(conn, item)
+    }
+
+    /// The same of an item that has a rule.
+    #[inline(never)]
+    fn rule_facts(&self, conn: &Conn<'_, A>, item: &Explained<'_>) -> CaseFacts {
         facts_of(self.context(conn, item))
     }
 
@@ -334,6 +398,7 @@ impl<A: Allocator + Copy> Explainer<A> {
 
     /// Notes what an item did besides changing its stream: a stream that it refused at its end, the streams that it moved,
     /// and the end of a block. `sent` has the other streams that frames were sent on.
+    #[inline(always)]
     fn note_rest(
         &mut self,
         conn: &Conn<'_, A>,
@@ -372,11 +437,10 @@ impl<A: Allocator + Copy> Explainer<A> {
     {
         account.is_full = self.is_full;
         account.shows_fields = self.read_block(alloc, item)?;
-        self.table.follow_refused(alloc, item, &self.reader)?;
+        self.follow_refused(alloc, item)?;
         account.facts = self.facts(conn, item);
         account.warnings = warnings_of(item, account.facts, self.request_facts(item));
-        account.sentence = self.sentence(alloc, conn, item)?;
-        account.also = self.others(alloc, conn, item)?;
+        self.put_error(alloc, conn, item, account)?;
         let sent = sent_streams(alloc, item)?;
         put_moved(
             conn,
@@ -388,37 +452,66 @@ impl<A: Allocator + Copy> Explainer<A> {
         )?;
         self.put_changes(conn, item, &mut account.changes)?;
         self.note_rest(conn, item, &sent)?;
-        account.opening = opening_of(alloc, conn, item.number == 1)?;
-        account.entries = self.entries(alloc, item)?;
+        self.put_entries(alloc, item, &mut account.entries)?;
+        put_opening(alloc, conn, item.number == 1, &mut account.opening)?;
         Ok(())
     }
 
-    /// The entries of the client's header table that an item entered or evicted.
-    fn entries(
-        &mut self,
-        alloc: A,
-        item: &Explained<'_>,
-    ) -> Result<Vec<EntryChange<A>, A>, AllocError>
+    /// Follows the block of an item that is refused for an index that no entry has.
+    #[inline(always)]
+    fn follow_refused(&mut self, alloc: A, item: &Explained<'_>) -> Result<(), AllocError>
         ensures notes { self.new.notes ≡ self.old.notes }
         ensures full { self.new.is_full ≡ self.old.is_full }
     {
-        let Some(head) = item.head() else {
-            return Ok(Vec::new(alloc));
-        };
-        if !is_of_block(item, &head) {
-            return Ok(Vec::new(alloc));
+        match item.cause {
+            Some(_) => self.table.follow_refused(alloc, item, &self.reader),
+            None => Ok(()),
         }
+    }
+
+    /// Puts the entries of the client's header table that an item entered or evicted in the place of those before.
+    #[inline(always)]
+    fn put_entries(
+        &mut self,
+        alloc: A,
+        item: &Explained<'_>,
+        entries: &mut Vec<EntryChange<A>, A>,
+    ) -> Result<(), AllocError>
+        ensures notes { self.new.notes ≡ self.old.notes }
+        ensures full { self.new.is_full ≡ self.old.is_full }
+    {
+        if !entries.is_empty() {
+            entries.clear();
+        }
+        match item.head() {
+            Some(head) if is_of_block(item, &head) => self.follow(alloc, item, entries),
+            _ => Ok(()),
+        }
+    }
+
+    /// The same of an item whose frame is of a field block.
+    #[inline(never)]
+    fn follow(
+        &mut self,
+        alloc: A,
+        item: &Explained<'_>,
+        entries: &mut Vec<EntryChange<A>, A>,
+    ) -> Result<(), AllocError>
+        ensures notes { self.new.notes ≡ self.old.notes }
+        ensures full { self.new.is_full ≡ self.old.is_full }
+    {
         if item.before.block.is_none() {
             self.table.begin();
         }
-        if is_ended(item.after.counts.phase) {
-            return Ok(Vec::new(alloc));
+        if !is_ended(item.after.counts.phase) {
+            *entries = self.table.follow(alloc, item, &self.reader)?;
         }
-        self.table.follow(alloc, item, &self.reader)
+        Ok(())
     }
 
     /// Lists what an item changed: on the connection, on its stream, and on the streams that frames were sent on for it;
     /// these streams are noted.
+    #[inline(always)]
     fn put_changes(
         &mut self,
         conn: &Conn<'_, A>,
@@ -434,8 +527,21 @@ impl<A: Allocator + Copy> Explainer<A> {
         let (before, after) = (&item.before, &item.after);
         connection_changes(before, after, list)?;
         stream_changes(&before.stream, &after.stream, after.counts.send, list)?;
-        let ended = self.end_of(item);
-        self.notes.see(item.number, ended, item.after.stream)?;
+        self.see_own(item)?;
         self.see_sent(conn, item, list)
+    }
+
+    /// Notes the stream that an item is on as it is after it.
+    #[inline(always)]
+    fn see_own(&mut self, item: &Explained<'_>) -> Result<(), AllocError>
+        ensures notes { OnOk result (AreNotes self.new.notes (noted_with item.now self.old.notes.block (note_of self.old.notes))) }
+        ensures blocks { OnOk result (KeepsBlocks self.old.notes self.new.notes) }
+        ensures full { self.new.is_full ≡ self.old.is_full }
+    {
+        if item.after.stream.id == 0 {
+            return Ok(());
+        }
+        let ended = self.end_of(item);
+        self.notes.see(item.number, ended, item.after.stream)
     }
 }

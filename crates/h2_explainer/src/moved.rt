@@ -153,7 +153,23 @@ fn put_other<A: Allocator + Copy>(
     }
 }
 
+/// Appends the windows of all live streams that settings moved, unless `changes` lists them.
+#[inline(never)]
+fn put_others<A: Allocator + Copy>(
+    conn: &Conn<'_, A>,
+    notes: &Notes<A>,
+    live: &Live<A>,
+    sent: &Live<A>,
+    out: &mut Vec<Moved, A>,
+) -> Result<(), AllocError> {
+    for stream in live.keys() {
+        put_other(conn, notes, sent, *stream, out)?;
+    }
+    Ok(())
+}
+
 /// Appends what `changes` does not list of the streams that frames were sent on.
+#[inline(never)]
 fn put_sent<A: Allocator + Copy>(
     conn: &Conn<'_, A>,
     item: &Explained<'_>,
@@ -181,6 +197,7 @@ fn extent_of(block: Option<BlockView>) -> Option<(u32, u64)> {
 }
 
 /// Appends how far the open block has got, or that it is not open any more: only a frame of the block changes it.
+#[inline(always)]
 fn put_block<A: Allocator>(
     item: &Explained<'_>,
     out: &mut Vec<Moved, A>,
@@ -198,6 +215,7 @@ fn put_block<A: Allocator>(
 
 /// Lists what an item changes on streams beside what `changes` lists; `notes` are those before the item, `live` has the
 /// streams that were live then, and `sent` the other streams that frames were sent on.
+#[inline(always)]
 pub(crate) fn put_moved<A: Allocator + Copy>(
     conn: &Conn<'_, A>,
     item: &Explained<'_>,
@@ -211,16 +229,17 @@ pub(crate) fn put_moved<A: Allocator + Copy>(
         let initial = item.after.counts.peer.window;
         put_listed(&item.before.stream, &item.after.stream, initial, list)?;
     }
-    put_sent(conn, item, notes, sent, list)?;
+    if !sent.is_empty() {
+        put_sent(conn, item, notes, sent, list)?;
+    }
     if moves_windows(item) {
-        for stream in live.keys() {
-            put_other(conn, notes, sent, *stream, list)?;
-        }
+        put_others(conn, notes, live, sent, list)?;
     }
     put_block(item, list)
 }
 
 /// Notes the streams that settings have moved as they are now.
+#[inline(never)]
 fn note_live<A: Allocator + Copy>(
     conn: &Conn<'_, A>,
     number: u64,
@@ -246,8 +265,22 @@ fn keep_live<A: Allocator + Copy>(stream: &Stream, live: &mut Live<A>) -> Result
     Ok(())
 }
 
+/// Keeps the streams that frames were sent on among the live ones where they are live, and else not.
+#[inline(never)]
+fn keep_sent<A: Allocator + Copy>(
+    conn: &Conn<'_, A>,
+    live: &mut Live<A>,
+    sent: &Live<A>,
+) -> Result<(), AllocError> {
+    for stream in sent.keys() {
+        keep_live(&conn.stream(*stream), live)?;
+    }
+    Ok(())
+}
+
 /// Notes what an item has moved, and which streams are live after it; `sent` has the other streams that frames were sent
 /// on.
+#[inline(always)]
 pub(crate) fn note_moved<A: Allocator + Copy>(
     conn: &Conn<'_, A>,
     item: &Explained<'_>,
@@ -264,8 +297,8 @@ pub(crate) fn note_moved<A: Allocator + Copy>(
     if item.after.stream.id != 0 {
         keep_live(&item.after.stream, live)?;
     }
-    for stream in sent.keys() {
-        keep_live(&conn.stream(*stream), live)?;
+    if !sent.is_empty() {
+        keep_sent(conn, live, sent)?;
     }
     Ok(())
 }

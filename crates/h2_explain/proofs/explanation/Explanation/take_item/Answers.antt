@@ -2,6 +2,7 @@ use Rattle.std.proofs.Common.{◌∙◌, ◌+◌, ℕ, List, Result, ap, ap₂, 
 use Rattle.h2_explain.specs.Explains.{Gains, IsItemText, IsWritten, not_written}
 use Rattle.h2_item.specs.declared.item.Explained.{Explained}
 use Rattle.h2_explain.specs.declared.run.ExplainFault.{ExplainFault}
+use Rattle.h2_explainer.specs.Explained.{moment_of}
 use Rattle.h2_explainer.proofs.Taken.{first-uses, item-explained}
 use Rattle.h2_explain.proofs.explanation.Explanation.take_item.Goals as goal
 
@@ -14,16 +15,18 @@ overflow_add-self-2 g c =
 pub returns-clause-ok : goal.returns-clause-ok
 returns-clause-ok g c =
     let e = c.args.self.now in
-    let k = c.in-Ok-Some.taking in
-    let x : Explained = record { number = e.items + 1; offset = e.offset; octets = c.first_of-own.result; ahead = c.args.octets; used = k.taken.used; what = k.taken.item; part = c.part_in.result; part_is = c.item-1.given.0; cause = k.taken.cause; ignored = k.taken.ignored; sent = c.octets_from.result; before = k.before; after = k.after } in
+    let k = c.in-Ok-Some.taken in
+    let x : Explained = record { number = e.items + 1; offset = e.offset; octets = c.first_of-own.result; ahead = c.args.octets; used = k.used; what = k.item; part = c.part_in.result; part_is = c.item-1.given.0; cause = k.cause; ignored = k.ignored; sent = c.octets_from.result; before = c.moment_at-before.result; after = c.moment_at.result } in
     let first = rw c.in-Ok-Some.field-0-is at c.in-Ok-Some.ensures.ok in
-    let kept = rw c.in-Ok-Some.field-0-is at c.in-Ok-Some.ensures.kept in
+    let taken = rw c.in-Ok-Some.field-0-is at c.in-Ok-Some.ensures.report in
     let sent = c.octets_from.ensures ∙ ap₂ (λ (n : ℕ) (l : List ℕ). drop n l) c.start_of-start.ensures.end c.as_slice.ensures.value in
     let well = c.write_item.ensures.flag ∙ ap (λ (r : Result (Unit {0}) ExplainFault). not_written r) c.in-Ok.is in
+    let before = c.moment_at-before.ensures ∙ ap (moment_of c.args.conn.now.state) c.stream_of_next-stream.ensures in
+    let after = c.moment_at.ensures ∙ ap (moment_of c.take_and_report.new.self.state) c.stream_of_next-stream.ensures in
     record {
       item = x;
-      explains = item-explained c.args.conn.now.state c.args.octets.now c.start_of-start.new.out.items c.take_next.new.out.items (e.items + 1) e.offset c.take_next.new.conn k x c.take_next.ensures.ready first kept
-          refl refl c.first_of-own.ensures refl refl sent refl refl;
+      explains = item-explained c.args.conn.now.state c.args.octets.now c.start_of-start.new.out.items c.take_and_report.new.out.items (e.items + 1) e.offset c.take_and_report.new.self x c.take_and_report.ensures.ready first taken
+          refl refl c.first_of-own.ensures refl sent before after;
       used_is = refl;
       written = subst (λ (r : Result (Unit {0}) ExplainFault). Gains (IsWritten (λ (t : List ℕ). IsItemText e.form x t) r) (g.O.Output.written c.args.output.now) (g.O.Output.written c.write_item.new.output)) c.in-Ok.is (c.write_item.ensures.gains well);
       tallied = c.in-Ok.ensures.tally;
