@@ -1,6 +1,6 @@
 -- What one eviction takes from the ring.
-use Rattle.std.proofs.Common.{◌≡◌, ℕ, ◌+◌, ◌-◌, ◌<◌, ◌≤◌, List, [], ◌∷◌, ◌++◌, length, take, Some, None, get_or, refl, ap, ◌∙◌, sym, arith}
-use Rattle.std.proofs.lemmas.List.{take_more, take_all}
+use Rattle.std.proofs.Common.{◌≡◌, ℕ, suc, ◌+◌, ◌-◌, ◌<◌, ◌≤◌, List, [], ◌∷◌, ◌++◌, length, take, Some, None, get_or, refl, ap, ◌∙◌, sym, arith}
+use Rattle.std.proofs.lemmas.List.{take_more, take_all, length-take-le}
 use Rattle.std.proofs.lemmas.Option.{slice_get_within, get_or_from_slice_get, slice_get-get_or}
 use Rattle.circular_buffer.specs.Buffer.{last_item}
 use Rattle.h2_spec.specs.Field.{Field, size}
@@ -44,3 +44,9 @@ has_place es limit h = omega (arith, total_size-length es)
 -- a ring that holds too much has an oldest entry
 pub not_empty : (xs : List Field) (available : ℕ) → available < total_size xs → None ≡ last_item xs → ⊥
 not_empty xs available over none = omega (arith, ap total_size (last-none xs none))
+
+-- one fewer without the oldest
+pub one_fewer : {X : Type 0} (xs : List X) (x : X) → Some x ≡ last_item xs → suc (length (take (length xs - 1) xs)) ≤ length xs
+one_fewer xs x h =
+    let inside : length xs - 1 < length xs = slice_get_within xs (length xs - 1) x (sym h) in
+    omega (arith, inside, length-take-le (length xs - 1) xs (omega arith))

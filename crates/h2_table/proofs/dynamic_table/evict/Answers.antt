@@ -1,5 +1,5 @@
 use Rattle.std.proofs.Common.{arith, ◌∙◌, sym, ap, length}
-use Rattle.h2_table.proofs.Popped.{evicts, not_empty}
+use Rattle.h2_table.proofs.Popped.{evicts, not_empty, one_fewer}
 use Rattle.h2_spec.proofs.TableLaws.{fit-all}
 use Rattle.h2_table.proofs.dynamic_table.evict.Goals as goal
 
@@ -39,3 +39,16 @@ returns-in-None-clause-within g c = absurd (not_empty c.loop-left.ring.items c.a
 
 pub returns-clause-kept : goal.returns-clause-kept
 returns-clause-kept g c = sym (fit-all c.loop-left.ring.items c.args.available (omega arith)) ∙ c.loop-left.invariant.same
+
+pub loop-left-smaller : goal.loop-left-smaller
+loop-left-smaller g c = rw c.in-Some.ensures.items (one_fewer c.loop-left.ring.items c.in-Some.entry c.in-Some.ensures.value)
+
+pub overflow_add-left : goal.overflow_add-left
+overflow_add-left g c =
+    let e = evicts c.loop-left.ring.items c.in-Some.entry c.args.available c.in-Some.ensures.value (omega arith) in
+    let name = ap length c.name.ensures in
+    let value = ap length c.value.ensures in
+    omega arith
+
+pub returns-in-None-clause-places : goal.returns-in-None-clause-places
+returns-in-None-clause-places g c = ap (λ b. b.capacity) c.in-None.ensures.items ∙ c.loop-left.invariant.places
