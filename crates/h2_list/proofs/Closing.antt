@@ -1,5 +1,5 @@
 -- What more octets, fewer octets and one more span do to the fields of a list of octets.
-use Rattle.std.proofs.Common.{◌≡◌, ℕ, zero, suc, ◌+◌, ◌-◌, ◌<◌, ◌≤◌, List, [], ◌∷◌, ◌++◌, length, take, drop, map, get_or, refl, ap, ◌∙◌, sym, arith, length-drop, length-take, length-take-le}
+use Rattle.std.proofs.Common.{◌≡◌, ℕ, zero, suc, ◌+◌, ◌-◌, ◌<◌, ◌≤◌, List, [], ◌∷◌, ◌++◌, length, take, drop, map, get_or, refl, ap, ◌∙◌, sym, subst, arith, length-drop, length-take, length-take-le}
 use Rattle.std.proofs.lemmas.List.{map-append, drop-append-le, take-append-le, take_all, take-take, take-append-drop, take-map, drop-drop}
 use Rattle.std.proofs.Math.ListN.{drop_of_length-le}
 use Rattle.h2_spec.specs.Field.{field}
@@ -22,6 +22,12 @@ pub span-at : (start : ℕ) (spans : List Span) (end place : ℕ) (s : Span) →
 span-at start [] end place s h k e = absurd (omega arith)
 span-at start (x ∷ spans) end zero s h k e = rw e (record { ordered = h.1.0; within = spans-end x.end spans end h.1.1 })
 span-at start (x ∷ spans) end (suc place) s h k e = span-at x.end spans end place s h.1.1 (omega arith) e
+
+-- the span that is looked up is in order, also where there is none
+pub looked-up : (spans found : List Span) (start : ℕ) (s : Span) → ((end : ℕ) → AreSpans 0 found end → IsOrdered s × (s.end ≤ end)) → found ≡ spans → AreSpans 0 spans start → SpanAt s start
+looked-up spans found start s h e k =
+    let at = h start (subst (λ (x : List Span). AreSpans 0 x start) (sym e) k) in
+    record { ordered = at.0; within = at.1 }
 
 -- the spans before a place end where the one there starts
 pub spans-before : (start : ℕ) (spans : List Span) (end place : ℕ) (s : Span) → AreSpans start spans end → place < length spans → s ≡ get_or spans place s → AreSpans start (take place spans) s.start
@@ -84,6 +90,10 @@ begins-more start octets now then b k =
     let more = longer now then k in
     let cut : take start (take (length now) then) ≡ take start then = take-take start (length now) then b.within in
     record { held = b.held; within = omega (arith, b.within, more); same = sym cut ∙ ap (take start) k ∙ b.same }
+
+-- cut to the first octets, and then with more after
+pub begins-again : (start : ℕ) (octets cut now : List ℕ) → start ≤ length octets → cut ≡ take start octets → take (length cut) now ≡ cut → Begins start octets now
+begins-again start octets cut now w e k = begins-more start octets cut now (subst (Begins start octets) (sym e) (begins start octets w)) k
 
 -- the fields stay
 pub stay : (octets now : List ℕ) (spans : List Span) (start : ℕ) → Begins start octets now → map (field_in (take start now)) spans ≡ map (field_in (take start octets)) spans

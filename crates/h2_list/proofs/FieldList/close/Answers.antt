@@ -1,4 +1,5 @@
 use Rattle.std.proofs.Common.{arith, ◌+◌, ◌≤◌, ◌++◌, ◌∷◌, [], ℕ, List, length, take, drop, map, ◌∙◌, sym, ap, subst, refl, length-drop}
+use Rattle.std.proofs.lemmas.Result.{IfOk-from_err, MatchResult-from_err}
 use Rattle.h2_spec.specs.Field.{Field, field}
 use Rattle.h2_list.specs.Listed.{Listed}
 use Rattle.h2_list.specs.Spans.{AreSpans, field_in}
@@ -42,3 +43,18 @@ returns-clause-ok g c =
     ∙ ap (λ (fs : List Field). listed fs (drop c.len-end.result l.octets.items)) r.fields
     ∙ ap (λ (n : List ℕ). listed fields n) r.next
     ∙ ap (λ (o : Listed). listed (o.fields ++ field (take c.args.name o.next) (drop c.args.name o.next) ∷ []) []) c.self.view_is
+
+pub invariant_of-self : goal.invariant_of-self
+invariant_of-self g c =
+    let l = c.self.inside in
+    (c.self.invariant.0, subst (λ (spans : List Span). AreSpans 0 spans l.start) (sym c.in_err-push.ensures.items) c.self.invariant.1)
+
+pub returns-in_err-push-clause-ok : goal.returns-in_err-push-clause-ok
+returns-in_err-push-clause-ok g c = IfOk-from_err c.from_residual.result _ c.from_residual.ensures.0
+
+pub returns-in_err-push-clause-err : goal.returns-in_err-push-clause-err
+unfolding listed
+returns-in_err-push-clause-err g c =
+    let l = c.self.inside in
+    let same = ap (λ (spans : List Span). listed (map (field_in (take l.start l.octets.items)) spans) (drop l.start l.octets.items)) c.in_err-push.ensures.items in
+    MatchResult-from_err c.from_residual.result _ _ c.from_residual.ensures.0 (λ _. same ∙ c.self.view_is)
