@@ -127,6 +127,17 @@ pub record Writes (changed base : List Stream) (rest records : List Stream) (ent
   pub live_is : entries ++ live_entries rest records ≡ live_entries changed base
   pub behind : AllByRecursion (λ (id : ℕ). Rise id rest) (keys_of entries)
 
+-- before the first is written
+pub writes-first : (changed base : List Stream) (entries : List (ℕ × ℕ)) → Rise 0 base → Rise 0 changed → AreKnown base changed → entries ≡ [] → Writes changed base changed base entries
+writes-first changed base entries rising order known none = record {
+  rising = rising;
+  order = order;
+  known = known;
+  items = refl;
+  live_is = ap (λ es. es ++ live_entries changed base) none;
+  behind = subst (λ es. AllByRecursion (λ (id : ℕ). Rise id changed) (keys_of es)) (sym none) tt;
+}
+
 -- those that are after others are after them without the first
 behind-less : (st : Stream) (rest : List Stream) (ids : List ℕ) → AllByRecursion (λ (id : ℕ). Rise id (st ∷ rest)) ids → AllByRecursion (λ (id : ℕ). Rise id rest) ids
 behind-less st rest [] h = tt

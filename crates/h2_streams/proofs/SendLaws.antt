@@ -1,9 +1,14 @@
 -- Send windows apart from their records, and together again.
 use Rattle.std.proofs.Common.{◌≡◌, ℕ, zero, suc, ◌+◌, ◌<◌, List, [], ◌∷◌, ◌++◌, length, take, map, ℤ, refl, ap, ◌∙◌, sym, arith, get_or}
-use Rattle.std.proofs.lemmas.List.{length-map, take_more}
+use Rattle.std.proofs.lemmas.List.{length-map, map-append, take_more}
 use Rattle.h2_spec.specs.declared.streams.Stream.{Stream}
 use Rattle.h2_spec.specs.Change.{with_send}
 use Rattle.h2_streams.specs.Sends.{send_of, with_sends, without_send}
+
+-- one more of a mapped list
+pub mapped-more : {X Y : Type 0} (f : X → Y) (xs : List X) (ys : List Y) (i : ℕ) (x : X) (y : Y) → ys ≡ map f (take i xs) → i < length xs → x ≡ get_or xs i x → y ≡ f x → ys ++ y ∷ [] ≡ map f (take (i + 1) xs)
+mapped-more f xs ys i x y same inside at is =
+    ap (λ s. s ++ y ∷ []) same ∙ ap (λ z. map f (take i xs) ++ z ∷ []) (is ∙ ap f at) ∙ sym (map-append f (take i xs) (get_or xs i x ∷ [])) ∙ ap (map f) (sym (take_more xs i x inside))
 
 pub apart-joined : (xs : List Stream) → with_sends (map without_send xs) (map send_of xs) ≡ xs
 apart-joined [] = refl

@@ -1,6 +1,7 @@
-use Rattle.std.proofs.Common.{◌≡◌, [], ◌∷◌, ◌+◌, ◌∙◌, ap, arith, drop, drop_of_length-le, sym}
+use Rattle.std.proofs.Common.{◌≡◌, [], ◌∷◌, ◌+◌, ◌∙◌, ap, arith, drop, drop_of_length-le, append-nil, subst, sym}
 use Rattle.std.proofs.lemmas.List.{drop_more}
-use Rattle.h2_streams.proofs.RebuiltLaws.{as_in-nothing, writes-absent, writes-next}
+use Rattle.h2_streams.specs.Kept.{Rise, place_of}
+use Rattle.h2_streams.proofs.RebuiltLaws.{as_in-nothing, writes-absent, writes-first, writes-next}
 use Rattle.h2_streams.proofs.rebuilt.write_each.Goals as goal
 
 pub enter-requires-clause-new : goal.enter-requires-clause-new
@@ -28,3 +29,30 @@ pub returns-clause-items : goal.returns-clause-items
 returns-clause-items g c =
     let done : drop c.loop-stream.stream-index c.args.changed.now ≡ [] = drop_of_length-le c.args.changed.now (omega (arith, c.loop-stream-test.false)) in
     sym (as_in-nothing c.loop-stream.records.items) ∙ (rw done at c.loop-stream.invariant.written.items)
+
+pub loop-stream-init : goal.loop-stream-init
+loop-stream-init g c = record {
+  written = writes-first c.args.changed.now c.args.records.now.items c.args.live.now.entries c.requires.rising c.requires.changed c.requires.known c.requires.empty;
+  enough = omega (arith, c.requires.enough);
+}
+
+pub place_of-place-requires : goal.place_of-place-requires
+place_of-place-requires g c = subst (Rise 0) (sym c.as_slice.ensures.value) c.loop-stream.invariant.written.rising
+
+pub write-requires-clause-known : goal.write-requires-clause-known
+write-requires-clause-known g c =
+    let i = c.loop-stream.stream-index in
+    let st = c.stream-item.result in
+    let left : drop i c.args.changed.now ≡ st ∷ drop (i + 1) c.args.changed.now = drop_more c.args.changed.now i st c.loop-stream-test.true ∙ ap (λ x. x ∷ drop (i + 1) c.args.changed.now) (sym c.stream-item.is) in
+    (rw left at c.loop-stream.invariant.written.known).0
+
+pub write-requires-clause-place : goal.write-requires-clause-place
+write-requires-clause-place g c = c.place_of-place.ensures.value ∙ ap (place_of c.stream-item.result.id) c.as_slice.ensures.value
+
+pub enter-requires-clause-enough : goal.enter-requires-clause-enough
+enter-requires-clause-enough g c = omega (arith, c.loop-stream.invariant.enough, c.loop-stream-test.true)
+
+pub returns-clause-live : goal.returns-clause-live
+returns-clause-live g c =
+    let done : drop c.loop-stream.stream-index c.args.changed.now ≡ [] = drop_of_length-le c.args.changed.now (omega (arith, c.loop-stream-test.false)) in
+    sym (append-nil c.loop-stream.live.entries) ∙ (rw done at c.loop-stream.invariant.written.live_is)

@@ -1,4 +1,6 @@
-use Rattle.std.proofs.Common.{◌≡◌, ◌∙◌, ap, arith, map, subst, sym, take}
+use Rattle.std.proofs.Common.{◌≡◌, ◌∙◌, List, ap, arith, map, subst, sym, take}
+use Rattle.std.proofs.lemmas.Result.{IfOk-from_err}
+use Rattle.h2_spec.specs.declared.streams.Stream.{Stream}
 use Rattle.h2_spec.specs.Stream.{AreRising, Records}
 use Rattle.std.specs.Map.{values_of}
 use Rattle.h2_streams.specs.Kept.{entries_of, lives, places_of}
@@ -33,3 +35,24 @@ invariant_of-result g c =
       kept-anew c.args.last now c.write_each.new.live.entries (rising-rebuilt 0 c.args.last changed base rising) live,
       omega (arith, len, c.list_ready.ensures.capacity, c.in_ok-ready.ensures.capacity),
     )
+
+pub returns-in_err-records : goal.returns-in_err-records
+returns-in_err-records g c = IfOk-from_err c.from_residual.result _ c.from_residual.ensures.0
+
+pub returns-in_err-live : goal.returns-in_err-live
+returns-in_err-live g c = IfOk-from_err c.from_residual-in_err-live.result _ c.from_residual-in_err-live.ensures.0
+
+pub returns-in_err-ready : goal.returns-in_err-ready
+returns-in_err-ready g c = IfOk-from_err c.from_residual-in_err-ready.result _ c.from_residual-in_err-ready.ensures.0
+
+pub write_each-requires-clause-enough : goal.write_each-requires-clause-enough
+write_each-requires-clause-enough g c = c.in_ok-live.ensures.spare
+
+pub list_ready-requires : goal.list_ready-requires
+list_ready-requires g c = omega (arith, c.in_ok-ready.ensures.capacity, c.len.ensures.len)
+
+pub returns : goal.returns
+returns g c =
+    let changed = c.args.changed.now in
+    let shown = λ (xs : List Stream). let r : Records = record { streams = xs; last = c.args.last } in r in
+    ap shown (c.write_each.ensures.items ∙ ap (map (as_in changed)) c.in_ok-records.ensures ∙ ap (λ (r : Records). map (as_in changed) (take c.args.count r.streams)) c.self.view_is)
