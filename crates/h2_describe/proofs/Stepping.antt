@@ -2,12 +2,15 @@
 use Rattle.std.proofs.Common.{◌≡◌, ℕ, suc, ◌-◌, ◌≤◌, ◌<◌, inl, inr, true, false, List, [], ◌∷◌, ◌++◌, nat_lt, Option, Some, None, Ok, Err, refl, ap, ◌∙◌, arith, le-leb}
 use Rattle.std.proofs.lemmas.Bool.{lt-leb}
 use Rattle.std.proofs.lemmas.Bool.Decides.{leb_tells}
-use Rattle.h2_spec.specs.Block.{Fault, Index, Huffman, LateUpdate, LargeUpdate, apply, has_fields, index_fault, name_in, name_of, text_result}
-use Rattle.h2_spec.specs.DynamicTable.{LimitedTable, entry_at, field_at, resize, total_size}
+use Rattle.h2_spec.specs.Block.{Fault, Index, Huffman, LateUpdate, LargeUpdate, apply, has_fields, index_fault, name_in, name_of, text_result, table_after}
+use Rattle.h2_spec.specs.DynamicTable.{LimitedTable, Table, entry_at, field_at, resize, total_size}
 use Rattle.h2_spec.specs.Field.{Field, field}
 use Rattle.h2_spec.specs.Huffman.{HuffRead, Text, Eos, Padding}
 use Rattle.h2_spec.specs.Instruction.{Str, TextStr, Shape, Instruction, Indexed, Update, Literal, Mode, IncrementalIndexing, WithoutIndexing, NeverIndexed, NameRef, Ref, Named, text_of, with_text, text_str, named_text, name_text, literal_text, instruction_of}
 use Rattle.h2_spec.specs.StaticTable.{static_field}
+use Rattle.h2_instruction.specs.Shapes.{mode_of}
+use Rattle.h2_instruction.specs.declared.instruction.Mode as coded
+use Rattle.h2_instruction.specs.declared.instruction.Mode.TheVariants as coded_mode
 use Rattle.h2_describe.specs.declared.spelled.Stopped.TheVariants as stop
 use Rattle.h2_describe.specs.Spelled.{Spelled, ByIndex, AsLiteral, Reading, fields_of, keep, with_table, literal_spelling, stepped, stopped_by, literal_stop, literal_added}
 
@@ -212,3 +215,9 @@ not-added r NeverIndexed s h k = rw k refl
 -- nor does the field of an index that is not kept
 pub indexed-skipped : (r : Reading) (i : ℕ) (f : Field) → field_at i r.table.table.entries ≡ Some f → nat_lt 65536 (total_size (fields_of r.fields)) ≡ true → stepped r (Indexed i) ≡ Ok r
 indexed-skipped r i f e full = indexed-found r i f e ∙ rw full refl
+
+-- a literal that is not to be entered enters nothing
+pub not_entered : (m : coded.Mode) (t : Table) (f : Field) → (m ≡ coded_mode.IncrementalIndexing → ⊥) → table_after (mode_of m) t f ≡ t
+not_entered coded_mode.IncrementalIndexing t f other = absurd (other refl)
+not_entered coded_mode.WithoutIndexing t f other = refl
+not_entered coded_mode.NeverIndexed t f other = refl
