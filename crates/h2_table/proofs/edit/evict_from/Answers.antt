@@ -1,4 +1,4 @@
-use Rattle.std.proofs.Common.{arith, refl, ap, ◌∙◌, ◌-◌, length, take, sym}
+use Rattle.std.proofs.Common.{arith, refl, ap, ◌∙◌, ◌-◌, length, sym}
 use Rattle.std.proofs.lemmas.List.{take-take, take_all, length-take-le}
 use Rattle.circular_buffer.specs.Buffer.{buffer}
 use Rattle.h2_table.proofs.Popped.{last-none}
