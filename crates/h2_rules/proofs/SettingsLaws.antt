@@ -1,5 +1,5 @@
 -- The settings of a frame, one after another.
-use Rattle.std.proofs.Common.{◌≡◌, ℕ, ◌+◌, Bool, true, false, cond, List, [], ◌∷◌, drop, refl, sym, ap, subst, ◌∙◌, arith, leb-true, Some, Result, Ok, Err, IfOk, ◌≤◌, ◌<◌, ◌^◌}
+use Rattle.std.proofs.Common.{◌≡◌, ℕ, ◌+◌, Bool, true, false, cond, List, [], ◌∷◌, drop, refl, sym, ap, subst, ◌∙◌, arith, leb-true, Some, Result, Ok, Err, IfOk, ◌≤◌, ◌<◌, ◌^◌, ℤ}
 use Rattle.std.specs.Prelude.{slice_get, nat_le, ◌&&◌, ◌==◌}
 use Rattle.std.proofs.lemmas.Bool.{cond_both, false≢true}
 use Rattle.std.proofs.lemmas.List.{drop_more}
@@ -8,7 +8,7 @@ use Rattle.h2_spec.specs.declared.causes.Cause.{Cause}
 use Rattle.h2_spec.specs.declared.causes.Cause.TheVariants.{InitialWindowSizeOverflow}
 use Rattle.h2_spec.specs.declared.flow.Settings.{Settings}
 use Rattle.h2_spec.specs.declared.streams.Stream.{Stream}
-use Rattle.h2_spec.specs.Settings.{with_setting}
+use Rattle.h2_spec.specs.Settings.{settings_or, window_change, with_setting}
 use Rattle.h2_spec.specs.Change.{overflows, moved_by}
 use Rattle.h2_spec.specs.SettingsFrame.{setting_next, settings_applied}
 use Rattle.h2_spec.specs.declared.connection.ConnectionState.{ConnectionState}
@@ -28,6 +28,16 @@ ok_same x y e = cc
 
 ok_not_err : (x : Settings) (y : Cause) → (let r : Applied = Ok x in r ≡ Err y) → ⊥
 ok_not_err x y e = cc
+
+-- one setting that is taken, and no window passes the largest one with it
+pub one-taken : (streams : List Stream) (from now next : Settings) (id value : ℕ) (by : ℤ) → window_change now (with_setting now id value) ≡ Ok by → next ≡ settings_or now (with_setting now id value) → overflows (moved_by from.window next.window) streams ≡ false → (let r : Applied = Ok next in r ≡ one_setting streams from now id value)
+unfolding one_setting
+one-taken streams from now next id value by e k fits =
+    sym (ap (λ (r : Applied). setting_next streams from r (λ x. Ok x)) (taken-as (with_setting now id value) e k) ∙ ap (λ (b : Bool). cond b (Err InitialWindowSizeOverflow) (Ok next)) fits)
+  where
+    taken-as : (r : Applied) → window_change now r ≡ Ok by → next ≡ settings_or now r → r ≡ Ok next
+    taken-as (Ok t) e k = ap (λ x. Ok x) (sym k)
+    taken-as (Err cause) e k = absurd cc
 
 -- what is applied first decides how it goes on
 pub applied-ok : (streams : List Stream) (from now next : Settings) (id value : ℕ) (ps : List (ℕ × ℕ)) → one_setting streams from now id value ≡ Ok next →

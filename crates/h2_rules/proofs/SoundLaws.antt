@@ -1,5 +1,5 @@
 -- The counts stay within their limits, and the records within what the book has.
-use Rattle.std.proofs.Common.{◌≡◌, ℕ, ◌%◌, ltb, eqb, ◌<◌, ◌≤◌, List, [], ◌∷◌, Bool, true, false, cond, ◌||◌, ◌&&◌, not, max, Option, Some, None, refl, sym, ap, subst, ◌⊎◌, inl, inr, ◌∙◌, arith, ℤ, pos, negsuc, ◌+ℤ◌, ◌-ℤ◌, ◌≤ℤ◌, int_lt}
+use Rattle.std.proofs.Common.{◌≡◌, ℕ, ◌%◌, ltb, eqb, ◌<◌, ◌≤◌, List, [], ◌∷◌, length, Bool, true, false, cond, ◌||◌, ◌&&◌, not, max, Option, Some, None, refl, sym, ap, subst, ◌⊎◌, inl, inr, ◌∙◌, arith, ℤ, pos, negsuc, ◌+ℤ◌, ◌-ℤ◌, ◌≤ℤ◌, int_lt}
 use Rattle.std.proofs.lemmas.Bool.{false≢true}
 use Rattle.std.proofs.lemmas.Int.{ints}
 use Rattle.std.specs.List.{AllByRecursion}
@@ -13,10 +13,10 @@ use Rattle.h2_spec.specs.declared.reactions.RecordUpdate.TheVariants.{Unchanged,
 use Rattle.h2_spec.specs.declared.streams.Stream.{Stream}
 use Rattle.h2_spec.specs.declared.streams.StreamState.{StreamState}
 use Rattle.h2_spec.specs.declared.streams.StreamState.TheVariants.{Idle, Skipped, BothOpen, HalfRemote, HalfLocal, Ended, PeerReset, WeReset}
-use Rattle.h2_spec.specs.Answer.{Entry}
+use Rattle.h2_spec.specs.Answer.{Entry, picked}
 use Rattle.h2_spec.specs.Change.{follows_initial_window, moved_by, overflows, overflows_one, received, received_one, shifted, shifted_one, updated_streams, with_recv, with_send}
 use Rattle.h2_spec.specs.SettingsFrame.{comes_into_force}
-use Rattle.h2_spec.specs.StreamEnds.{server_ended, server_ended_as}
+use Rattle.h2_spec.specs.StreamEnds.{server_ended, server_ended_as, with_kind}
 use Rattle.h2_spec.specs.Stream.{Records, is_live, is_peer_open, kind_of, not_live, octets_waiting, put, record_of, recorded, stream_at}
 use Rattle.h2_spec.specs.Window.{is_above_max}
 use Rattle.h2_streams.specs.Put.{CanPut, is_closed}
@@ -46,6 +46,15 @@ not-live-body book id kind = (tt, by_test (is_live kind))
     by_test : (t : Bool) → cond t 0 0 ≤ 0
     by_test true = omega arith
     by_test false = omega arith
+
+-- ---- a stream whose peer's side ends
+
+pub half-remote-sound : (f : InForce) (st : Stream) → st.kind ≡ BothOpen → IsSoundStream f st → IsSoundStream f (with_kind st HalfRemote)
+half-remote-sound f st is sound = ((λ _. sound.0 (ap is_live is)), sound.1, λ _. sound.2 (ap follows_initial_window is))
+
+pub half-remote-body : (book : List Entry) (st : Stream) → st.kind ≡ BothOpen → HasBody book st → HasBody book (with_kind st HalfRemote)
+unfolding octets_waiting
+half-remote-body book st is has = (has.0, subst (λ (k : StreamState). octets_waiting (with_kind st k) ≤ length (picked book st.pick).body) is has.1)
 
 -- ---- the record of a live stream
 

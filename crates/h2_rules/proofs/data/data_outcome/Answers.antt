@@ -29,3 +29,19 @@ pub returns-then-incoming-clause-waits : goal.returns-then-incoming-clause-waits
 unfolding taken
 returns-then-incoming-clause-waits c = λ book same has.
     c.peer_ended.ensures.waits book (same ∙ ap (λ (st : Stream). length (picked book st.pick).body) (sym c.taken-after.ensures.rule)) (c.taken-after.ensures.waits book has)
+
+pub returns-then-exceeds-clause-sound : goal.returns-then-exceeds-clause-sound
+returns-then-exceeds-clause-sound c = λ f within sound. c.stream_error.ensures.sound f
+
+pub returns-then-exceeds-clause-waits : goal.returns-then-exceeds-clause-waits
+returns-then-exceeds-clause-waits c = λ book same has. c.stream_error.ensures.waits book
+
+pub returns-in-Some-clause-sound : goal.returns-in-Some-clause-sound
+returns-in-Some-clause-sound c = λ f within sound. c.stream_error-in-Some.ensures.sound f
+
+pub returns-in-Some-clause-waits : goal.returns-in-Some-clause-waits
+returns-in-Some-clause-waits c = λ book same has. c.stream_error-in-Some.ensures.waits book
+
+pub returns-in-Some-clause-rule : goal.returns-in-Some-clause-rule
+unfolding data_outcome
+returns-in-Some-clause-rule c = rw (← c.exceeds.ensures, c.if-exceeds.false, ← c.content_with-content_received.ensures, ← c.length_broken.ensures, c.in-Some.is) c.stream_error-in-Some.ensures.rule

@@ -1,7 +1,15 @@
-use Rattle.std.proofs.Common.{rules}
+use Rattle.std.proofs.Common.{rules, sym, ◌∙◌}
+use Rattle.h2_spec.specs.Change.{moved_by}
 use Rattle.h2_rules.specs.OneSetting.{one_setting}
+use Rattle.h2_rules.proofs.SettingsLaws.{one-taken}
 use Rattle.h2_rules.proofs.settings.one_setting.Goals as goal
 
 pub returns-then-overflows : goal.returns-then-overflows
 unfolding one_setting
 returns-then-overflows c = search rules
+
+pub returns-else-overflows : goal.returns-else-overflows
+returns-else-overflows c = λ streams greatest.
+    let a = c.args in
+    let fits = greatest (moved_by a.from.window c.apply.new.self.window) ∙ sym c.overflows.ensures ∙ c.if-overflows.false in
+    one-taken streams a.from a.now c.apply.new.self a.id a.value c.in-Ok.field-0 (sym c.apply.ensures.answer ∙ c.in-Ok.is) c.apply.ensures.settings fits
