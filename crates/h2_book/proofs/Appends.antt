@@ -1,6 +1,6 @@
 -- A book of a file is the old book and, after it, the entry of each answer.
-use Rattle.std.proofs.Common.{◌≡◌, ◌∙◌, ℕ, Bool, true, false, List, [], ◌∷◌, ◌++◌, Option, Some, None, Result, Ok, Err, length, nat_lt, if◌then◌else◌, option_and_then, refl, sym, append_assoc, append-nil}
-use Rattle.toml.specs.Data.{Items, no_items, item, Members}
+use Rattle.std.proofs.Common.{◌≡◌, ◌∙◌, ℕ, Bool, true, false, List, [], ◌∷◌, ◌++◌, Option, Some, None, Result, Ok, Err, length, nat_lt, if◌then◌else◌, option_and_then, refl, ap, sym, append_assoc, append-nil}
+use Rattle.toml.specs.Data.{Data, Items, no_items, item, Members}
 use Rattle.h2_spec.specs.Answer.{Entry}
 use Rattle.h2_spec.specs.Book.{entry_fault}
 use Rattle.h2_book.specs.Entries.{Directory, Appended, added, answers_of, book_with, book_of_answers, book_of_document, book_of_file, book_of_octets, document_in, entries_of, entry_of, most, unless_refused, with_entry}
@@ -49,3 +49,15 @@ book_of_file-appends directory path old new e = in_file (directory path) refl e
     in_file : (o : Option (List ℕ)) → directory path ≡ o → book_of_octets directory path old o ≡ Ok new → Appended directory path old new
     in_file None s e = cc
     in_file (Some octets) s e = in_octets octets (nat_lt most (length octets)) s e
+
+-- ---- one answer after another
+
+-- an answer that is refused ends it
+pub book_with-refused : (directory : Directory) (path : List ℕ) (book : List Entry) (d : Data) (ds : Items) (fault : ℕ) → with_entry book (entry_of directory path d) ≡ Err fault →
+    book_with directory path book (item d ds) ≡ Err fault
+book_with-refused directory path book d ds fault e = ap (λ (r : Result (List Entry) ℕ). unless_refused r (λ more. book_with directory path more ds)) e
+
+-- else it goes on with the entry behind the others
+pub book_with-next : (directory : Directory) (path : List ℕ) (book new : List Entry) (d : Data) (ds : Items) → with_entry book (entry_of directory path d) ≡ Ok new →
+    book_with directory path book (item d ds) ≡ book_with directory path new ds
+book_with-next directory path book new d ds e = ap (λ (r : Result (List Entry) ℕ). unless_refused r (λ more. book_with directory path more ds)) e

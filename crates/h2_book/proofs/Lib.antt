@@ -1,5 +1,7 @@
 pub mod Appends
+pub mod Bodies
 pub mod Headers
 pub mod Keys
 pub mod Pairs
+pub mod Refusals
 pub mod Texts
