@@ -6,6 +6,7 @@ use Rattle.std.proofs.lemmas.List.{drop_more}
 use Rattle.std.proofs.lemmas.Option.{get_or_from_slice_get, slice_get_within}
 use Rattle.h2_spec.specs.declared.causes.Cause.{Cause}
 use Rattle.h2_spec.specs.declared.causes.Cause.TheVariants.{InitialWindowSizeOverflow}
+use Rattle.h2_spec.specs.declared.errors.FlowFault.TheVariants.{BadSetting}
 use Rattle.h2_spec.specs.declared.flow.Settings.{Settings}
 use Rattle.h2_spec.specs.declared.streams.Stream.{Stream}
 use Rattle.h2_spec.specs.Settings.{settings_or, window_change, with_setting}
@@ -38,6 +39,15 @@ one-taken streams from now next id value by e k fits =
     taken-as : (r : Applied) → window_change now r ≡ Ok by → next ≡ settings_or now r → r ≡ Ok next
     taken-as (Ok t) e k = ap (λ x. Ok x) (sym k)
     taken-as (Err cause) e k = absurd cc
+
+-- one setting that is refused
+pub one-refused : (streams : List Stream) (from now : Settings) (id value : ℕ) (cause : Cause) → window_change now (with_setting now id value) ≡ Err (BadSetting cause) → (let r : Applied = Err cause in r ≡ one_setting streams from now id value)
+unfolding one_setting
+one-refused streams from now id value cause e = sym (ap (λ (r : Applied). setting_next streams from r (λ x. Ok x)) (refused-as (with_setting now id value) e))
+  where
+    refused-as : (r : Applied) → window_change now r ≡ Err (BadSetting cause) → r ≡ Err cause
+    refused-as (Ok t) e = absurd cc
+    refused-as (Err x) e = cc
 
 -- what is applied first decides how it goes on
 pub applied-ok : (streams : List Stream) (from now next : Settings) (id value : ℕ) (ps : List (ℕ × ℕ)) → one_setting streams from now id value ≡ Ok next →

@@ -2,7 +2,7 @@ use Rattle.std.proofs.Common.{[], ◌∷◌, ◌++◌, append_assoc, arith, take
 use Rattle.std.proofs.lemmas.Result.{IfOk-equal, IfOk-from_err}
 use Rattle.std.proofs.lemmas.List.{take_all}
 use Rattle.std.specs.Vec.{vec_len}
-use Rattle.h2_spec.specs.Instruction.{coded, coded_name, mode_high, mode_prefix, spell_name, spell_string}
+use Rattle.h2_spec.specs.Instruction.{coded, coded_name, mode_prefix, spell_name, spell_string}
 use Rattle.h2_instruction.specs.Instructions.{name_text_of}
 use Rattle.h2_instruction.specs.Shapes.{mode_of}
 use Rattle.h2_spec.specs.Integer.{spell_int}
