@@ -1,9 +1,10 @@
 -- The body that four values say, and the answer that lacks a part.
-use Rattle.std.proofs.Common.{◌≡◌, ℕ, ◌+◌, ◌<◌, ◌≤◌, Bool, List, Option, Some, None, Err, false, true, nat_lt, refl, ap, arith}
+use Rattle.std.proofs.Common.{◌≡◌, ◌∙◌, ℕ, ◌+◌, ◌<◌, ◌≤◌, Bool, List, Option, Some, None, Ok, Err, false, true, nat_lt, refl, ap, arith}
 use Rattle.std.specs.Prelude.{IsTrue, is_some}
 use Rattle.std.proofs.lemmas.Bool.{false≢true}
 use Rattle.std.proofs.lemmas.Bool.Decides.{nat_tests}
 use Rattle.toml.specs.Data.{Data}
+use Rattle.h2_spec.specs.Answer.{answer}
 use Rattle.h2_spec.specs.Field.{Field}
 use Rattle.h2_book.specs.Contents.{Contents, contents_of_values, count_of, first_said, octets_said}
 use Rattle.h2_book.specs.Entries.{Directory, entry_said, entry_with}
@@ -47,3 +48,13 @@ entry-refused directory at method path status None body early fault f b e = absu
 entry-refused directory at method path status (Some fields) None early fault f b e = absurd (false≢true b)
 entry-refused directory at method path status (Some fields) (Some body) early fault f b e =
     ap (entry_with (record { method = method; path = path; status = status; fields = fields; body = body; early = early })) e
+
+-- else it has all that is said, and the octets
+pub entry-made : (directory : Directory) (at method path : List ℕ) (status : ℕ) (fields : Option (List Field)) (body : Option Contents) (early : Bool) (fs : List Field) (octets : List ℕ) →
+    fields ≡ Some fs → IsTrue (is_some body) → octets_said directory at body ≡ Ok octets →
+    entry_said directory at (said_with (Some method) (Some path) (Some status) fields body (Some early))
+    ≡ Ok (record { method = method; path = path; answer = record (answer status fs octets) { early = early } })
+entry-made directory at method path status fields None early fs octets f b e = absurd (false≢true b)
+entry-made directory at method path status fields (Some body) early fs octets f b e =
+    ap (λ o. entry_said directory at (said_with (Some method) (Some path) (Some status) o (Some body) (Some early))) f
+    ∙ ap (entry_with (record { method = method; path = path; status = status; fields = fs; body = body; early = early })) e
