@@ -1,5 +1,5 @@
 //! What the words ask for, from an input to its output and the exit status. Definitions: `specs/ProgramEnd.antt`, over
-//! those of h2_commands and h2_check_command.
+//! those of h2_commands, h2_explain_command and h2_check_command.
 
 ghost use Rattle.std.specs.Prelude.{◌≡◌, ◌==◌, ◌⊎◌, ℕ, Bool, List, Some, None, true, false, IfErr};
 ghost use Rattle.h2_spec.specs.declared.connection.Config.{Config};
@@ -7,13 +7,14 @@ ghost use Rattle.h2_words.specs.Grammar.{BatchAsked, BookAsked, View, asked_of, 
 ghost use Rattle.h2_words.specs.Plans.{asked_in, book_asked};
 ghost use Rattle.h2_check_command.specs.CheckProgram.{EndsCheck};
 ghost use Rattle.h2_commands.specs.CommandEnd.{EndsBatch, KnowsFile, PrintsSome, file_of, no_files};
-ghost use Rattle.h2_commands.specs.ExplainProgram.{EndsExplain, form_of};
+ghost use Rattle.h2_explain_command.specs.ExplainProgram.{EndsExplain, form_of};
 ghost use Rattle.h2_bench.specs.ProgramEnd.{EndsServe, EndsSession, EndsSomehow, PrintsRefusal, asks_why, is_reader, is_serve, printed_for};
 
 use h2_book::{Files, FilesInMemory};
 use h2_check_command::check_plan;
-use h2_commands::{BenchFault, book_for_words, explain_plan, print, print_fault, respond};
+use h2_commands::{BenchFault, book_for_words, print, print_fault, respond};
 use h2_device::{FromRead, Input, IntoWrite, Output};
+use h2_explain_command::explain_plan;
 use h2_session::debug_session;
 use h2_words::Words;
 use h2_words::command::{Debug, Plan, Refusal, parse};

@@ -7,7 +7,7 @@ ghost use Rattle.h2_spec.specs.declared.connection.Config.{Config};
 ghost use Rattle.h2_book.specs.Files.{file_in};
 ghost use Rattle.h2_words.specs.Grammar.{BatchAsked, BookAsked, View, asked_of, batch, check, debug, explain};
 ghost use Rattle.h2_check_command.specs.CheckProgram.{IsCheck};
-ghost use Rattle.h2_commands.specs.ExplainProgram.{IsExplained, form_of};
+ghost use Rattle.h2_explain_command.specs.ExplainProgram.{IsExplained, form_of};
 ghost use Rattle.h2_bench.specs.Memory.{IsDebugged, printed_in, unserved};
 ghost use Rattle.h2_commands.specs.Printed.{OrCutShort, failed, places_within, printed_within};
 ghost use Rattle.h2_bench.specs.ProgramEnd.{IsRefusal, asks_why, is_serve};

@@ -8,7 +8,7 @@ ghost use Rattle.h2_commands.specs.CommandEnd.{KnowsFile};
 ghost use Rattle.h2_bench.specs.ProgramEnd.{EndsInFault, EndsShown, IsReported, IsServed};
 ghost use Rattle.h2_commands.specs.Faults.{fault_line, fault_number};
 ghost use Rattle.h2_serve.specs.Serves.{Gains};
-ghost use Rattle.h2_commands.specs.ExplainProgram.{form_of};
+ghost use Rattle.h2_explain_command.specs.ExplainProgram.{form_of};
 ghost use Rattle.h2_explain.specs.Verdicts.{strict_status};
 ghost use Rattle.h2_words.specs.Plans.{watched_asked};
 

@@ -1,5 +1,5 @@
 -- The next item of a run, and what is seen of it.
-use Rattle.std.proofs.Common.{◌≡◌, ◌∙◌, ◌++◌, ◌+◌, ◌<◌, ◌≤◌, ℕ, List, ◌∷◌, Option, Some, length, drop, refl, sym, ap, subst, arith, length-drop}
+use Rattle.std.proofs.Common.{◌≡◌, ◌∙◌, ◌++◌, ◌+◌, ℕ, List, ◌∷◌, Option, Some, drop, refl, sym, ap}
 use Rattle.std.proofs.lemmas.List.{drop-drop}
 use Rattle.h2_spec.specs.Effect.{cause_of}
 use Rattle.h2_spec.specs.Frame.{Item, Next, NoItem, Got, frames_octets}
@@ -9,7 +9,7 @@ use Rattle.h2_spec.specs.State.{State}
 use Rattle.h2_spec.specs.Trace.{Event, event_on, next_event, next_item, step}
 use Rattle.h2_spec.specs.declared.causes.Cause.{Cause}
 use Rattle.h2_spec.specs.declared.ignored.Ignored.{Ignored}
-use Rattle.h2_spec.proofs.ParseLaws.{Uses, parse_all-step}
+use Rattle.h2_spec.proofs.ParseLaws.{parse_all-step}
 use Rattle.h2_spec.proofs.TraceLaws.{event-uses}
 use Rattle.h2_conn.specs.Reports.{report_of, reported}
 use Rattle.h2_conn.specs.declared.report.TakenItem.{TakenItem}
@@ -79,12 +79,6 @@ seen_next s t octets at used e seen seen' h state same =
     ap (λ (es : List Event). with_items s seen es) (elements_next s t octets at used e h)
     ∙ ap (λ (x : State). with_items x (with_item s seen e) (parse_all next_event t (drop (at + used) octets)).elements) state
     ∙ ap (λ (x : Sight). with_items t x (parse_all next_event t (drop (at + used) octets)).elements) (sym same)
-
--- an item takes an octet or more, and no more than there are
-pub within_next : (s t : State) (octets : List ℕ) (at used : ℕ) (e : Event) → at ≤ length octets → next_event s (drop at octets) ≡ One e t used → (0 < used) × (at + used ≤ length octets)
-within_next s t octets at used e h comes =
-    let uses : Uses (drop at octets) (One e t used) = subst (λ (n : Front State Event). Uses (drop at octets) n) comes (event-uses s (drop at octets)) in
-    (uses.0, omega (arith, h, uses.1, length-drop at octets))
 
 -- where there is no item
 pub state_end : (s : State) (b : List ℕ) → next_event s b ≡ Stop → (parse_all next_event s b).state ≡ s

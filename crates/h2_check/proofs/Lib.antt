@@ -4,4 +4,3 @@ pub mod Feeds
 pub mod Gains
 pub mod Going
 pub mod Items
-pub mod Texts

@@ -1,18 +1,8 @@
 -- What lines say of octets that are sent.
-use Rattle.std.specs.Prelude.{ℕ, ◌+◌, Bool, true, false, List, [], ◌∷◌, length, nat_eq, codes, if◌then◌else◌, Option, Some, None, Result, Ok, Err}
+use Rattle.std.specs.Prelude.{ℕ, ◌+◌, Bool, true, false, List, [], ◌∷◌, length, nat_eq, codes, if◌then◌else◌, Option, Some, None}
 use Rattle.std.specs.List.{starts_with}
 use Rattle.std.specs.Str.{bytes_eq}
-use Rattle.h2_spec.specs.Assemble.{statement_at}
-use Rattle.h2_spec.specs.Script.{Statement, octets_of}
-use Rattle.h2_spec.specs.declared.scripts.SyntaxKind.{SyntaxKind}
-
-abbrev pub octets_in : Result Statement SyntaxKind → Option (List ℕ)
-octets_in (Ok s) = Some (octets_of s)
-octets_in (Err kind) = None
-
--- the octets of a line of a script, if it is one
-abbrev pub octets_at : List ℕ → Option (List ℕ)
-octets_at line = octets_in (statement_at line)
+use Rattle.h2_item_texts.specs.ItemTexts.{octets_at}
 
 -- nothing is left
 abbrev pub is_none : List ℕ → Bool

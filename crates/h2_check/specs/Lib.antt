@@ -2,7 +2,6 @@ pub mod Blessed
 pub mod Cases
 pub mod Commands
 pub mod Frames
-pub mod ItemTexts
 pub mod Seen
 pub mod Texts
 pub mod Tap

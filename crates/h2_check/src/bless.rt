@@ -8,20 +8,20 @@ ghost use Rattle.h2_check.specs.Blessed.{blessed, blessed_at, cause_line, error_
 ghost use Rattle.h2_spec.specs.Answer.{Entry};
 ghost use Rattle.h2_spec.specs.declared.connection.Config.{Config};
 ghost use Rattle.h2_check.specs.Cases.{Start, cause_text, first_place, played, sight_above};
-ghost use Rattle.h2_check.specs.Frames.{is_none, octets_at};
-ghost use Rattle.h2_check.specs.ItemTexts.{octets_or_none};
+ghost use Rattle.h2_check.specs.Frames.{is_none};
+ghost use Rattle.h2_item_texts.specs.ItemTexts.{octets_at, octets_or_none};
 ghost use Rattle.h2_cases.specs.Lines.{line_said};
 ghost use Rattle.h2_check.specs.Seen.{seen_by};
 ghost use Rattle.h2_check.specs.Tap.{Gains};
 ghost use Rattle.h2_check.specs.Walks.{IsWithin, Keeps, KeepsFrame, KeepsNone, Lets, Leaves, Tells, Walks, Writes, left_by, place_of, sight_here};
-ghost use Rattle.h2_check.specs.declared.verdict.CaseFault.TheVariants.{BadConfig, NoMemory};
+ghost use Rattle.h2_item_texts.specs.declared.fault.CaseFault.TheVariants.{BadConfig, NoMemory};
 
 use crate::growing::Growing;
-use crate::verdict::CaseFault;
 use crate::walk::{Walk, cause_name};
 use h2_cases::{Line, line_of, lines_in};
 use h2_conn::{Conn, ConnFault};
 use h2_entries::book::Book;
+use h2_item_texts::CaseFault;
 use h2_script::{LineFault, add_line, disassemble};
 use h2_spec::causes::Cause;
 use h2_spec::connection::Config;

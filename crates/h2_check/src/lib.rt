@@ -6,7 +6,6 @@
 mod bless;
 mod command;
 mod growing;
-mod item_texts;
 mod pattern;
 mod run;
 mod tap;
@@ -14,5 +13,6 @@ mod verdict;
 mod walk;
 
 pub use bless::{add_lines, bless_case};
+pub use h2_item_texts::CaseFault;
 pub use tap::{Title, plan_line, verdict_text};
-pub use verdict::{CaseFault, Verdict, Wrong, check_case};
+pub use verdict::{Verdict, Wrong, check_case};

@@ -7,13 +7,13 @@ ghost use Rattle.h2_check.specs.Cases.{IsOutcome, Start, all_hold, first_place, 
 ghost use Rattle.h2_cases.specs.Files.{expect_something};
 ghost use Rattle.h2_cases.specs.Lines.{line_said};
 ghost use Rattle.h2_check.specs.Walks.{outcome_by};
-ghost use Rattle.h2_check.specs.declared.verdict.CaseFault.TheVariants.{BadConfig, NoMemory};
+ghost use Rattle.h2_item_texts.specs.declared.fault.CaseFault.TheVariants.{BadConfig, NoMemory};
 
 use crate::command::Given;
-use crate::item_texts::item_texts;
 use crate::walk::{Walk, check_lines};
 use h2_conn::{Conn, ConnFault};
 use h2_entries::book::Book;
+use h2_item_texts::{CaseFault, item_texts};
 use h2_spec::connection::Config;
 use std::alloc::Global;
 
@@ -37,15 +37,6 @@ pub enum Verdict<'t> {
     Holds,
     /// These don't.
     Fails(Vec<Wrong<'t>>),
-}
-
-/// Why there is no verdict.
-#[derive(Clone, Copy, Debug, PartialEq, Eq)]
-pub enum CaseFault {
-    /// A limit or a setting is out of range (`Config::is_allowed`).
-    BadConfig,
-    /// Memory was refused.
-    NoMemory,
 }
 
 /// The verdict on a case whose connection is new.

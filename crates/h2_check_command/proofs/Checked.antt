@@ -16,7 +16,7 @@ use Rattle.h2_check_command.specs.declared.check.CaseTally.{CaseTally}
 use Rattle.h2_commands.specs.declared.each.PrintFault.{PrintFault}
 use Rattle.h2_commands.specs.declared.each.PrintFault.TheVariants.{Fault}
 use Rattle.h2_commands.specs.declared.fault.BenchFault.TheVariants.{NoMemory}
-use Rattle.h2_check_command.specs.declared.own.CaseSetup.{CaseSetup}
+use Rattle.h2_case_setup.specs.declared.own.CaseSetup.{CaseSetup}
 
 -- ---- texts
 

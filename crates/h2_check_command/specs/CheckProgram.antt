@@ -12,7 +12,7 @@ use Rattle.h2_cases.specs.Files.{cases_in, title_in}
 use Rattle.h2_check.specs.Tap.{IsResult}
 use Rattle.h2_words.specs.Grammar.{BookAsked}
 use Rattle.h2_commands.specs.Books.{book_said}
-use Rattle.h2_check_command.specs.CaseSetups.{setup_of}
+use Rattle.h2_case_setup.specs.CaseSetups.{setup_of}
 use Rattle.h2_commands.specs.CommandEnd.{PrintsSome}
 use Rattle.h2_commands.specs.Input.{most}
 use Rattle.h2_commands.specs.Printing.{Printed, failed, failed_after, refused}
@@ -20,8 +20,8 @@ use Rattle.h2_check_command.specs.declared.check.CaseTally.{CaseTally}
 use Rattle.h2_commands.specs.declared.each.PrintFault.{PrintFault}
 use Rattle.h2_commands.specs.declared.each.PrintFault.TheVariants.{Fault, NotWritten}
 use Rattle.h2_commands.specs.declared.fault.BenchFault.TheVariants.{NoMemory}
-use Rattle.h2_check_command.specs.declared.own.CaseSetup.{CaseSetup}
-use Rattle.h2_check_command.specs.declared.own.Common.{Common}
+use Rattle.h2_case_setup.specs.declared.own.CaseSetup.{CaseSetup}
+use Rattle.h2_case_setup.specs.declared.own.Common.{Common}
 
 -- what cases are played with that have no words of their own
 abbrev pub common_of : Common → CaseSetup

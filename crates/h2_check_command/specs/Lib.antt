@@ -1,2 +1,1 @@
-pub mod CaseSetups
 pub mod CheckProgram

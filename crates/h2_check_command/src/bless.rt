@@ -4,8 +4,8 @@ ghost use Rattle.std.specs.Prelude.{◌≡◌, ◌==◌, false};
 ghost use Rattle.h2_check_command.specs.CheckProgram.{not_checked};
 ghost use Rattle.h2_commands.specs.Each.{not_written};
 
-use crate::own::{Case, Common, OwnFault, RefusedWords, own_of, words_line};
 use h2_book::{Files, FilesFault};
+use h2_case_setup::{Case, Common, OwnFault, RefusedWords, own_of, words_line};
 use h2_cases::{case_length, have_words, lines_in, preamble_length};
 use h2_check::{CaseFault, add_lines, bless_case};
 use h2_commands::{BenchFault, PrintFault, print_end, write_reason};

@@ -15,12 +15,12 @@ ghost use Rattle.h2_commands.specs.CommandEnd.{Prints, PrintsSome};
 ghost use Rattle.h2_commands.specs.Each.{not_written};
 ghost use Rattle.h2_commands.specs.declared.each.PrintFault.TheVariants.{Fault};
 ghost use Rattle.h2_commands.specs.declared.fault.BenchFault.TheVariants.{NoMemory};
-ghost use Rattle.h2_check_command.specs.declared.own.CaseSetup.{CaseSetup};
+ghost use Rattle.h2_case_setup.specs.declared.own.CaseSetup.{CaseSetup};
 
 use crate::bless::print_blessed;
 use crate::judge::{failed_at, judge};
-use crate::own::{Case, Common};
 use h2_book::{Files, FilesFault};
+use h2_case_setup::{Case, Common};
 use h2_cases::{case_length, lines_in, preamble_length, title_of};
 use h2_check::{Title, Verdict, plan_line, verdict_text};
 use h2_commands::{BenchFault, PrintFault, book_for_words, print_fault};

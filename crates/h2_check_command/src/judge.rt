@@ -3,11 +3,11 @@
 ghost use Rattle.std.specs.Prelude.{◌≡◌, true, map, IfOk};
 ghost use Rattle.h2_check.specs.Cases.{Fails};
 ghost use Rattle.h2_check.specs.Walks.{outcome_by};
-ghost use Rattle.h2_check_command.specs.CaseSetups.{setup_of};
+ghost use Rattle.h2_case_setup.specs.CaseSetups.{setup_of};
 ghost use Rattle.h2_check_command.specs.CheckProgram.{IsCaseOutcome, IsOutcomeOn, IsOutcomeWith, common_of};
 
-use crate::own::{Case, Common, OwnFault, own_of, words_line};
 use h2_book::Files;
+use h2_case_setup::{Case, Common, OwnFault, own_of, words_line};
 use h2_cases::have_words;
 use h2_check::{CaseFault, Verdict, Wrong, check_case};
 use std::alloc::{AllocError, Global};

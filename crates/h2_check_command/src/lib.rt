@@ -5,6 +5,5 @@
 mod bless;
 mod check;
 mod judge;
-mod own;
 
 pub use check::check_plan;

@@ -1,5 +1,4 @@
 pub mod Assembled
-pub mod Explained
 pub mod Inputs
 pub mod Played
 pub mod RefusedWords

@@ -4,7 +4,6 @@ pub mod Books
 pub mod CommandEnd
 pub mod Commands
 pub mod Each
-pub mod ExplainProgram
 pub mod Faults
 pub mod Input
 pub mod Limits

@@ -1,13 +1,12 @@
 //! A command that reads its whole input, from what the words ask for to its output and the exit status. Definitions:
-//! `specs/Printed.antt`, `specs/CommandEnd.antt`, `specs/ExplainProgram.antt`.
+//! `specs/Printed.antt`, `specs/CommandEnd.antt`.
 
 ghost use Rattle.std.specs.Prelude.{◌≡◌, ◌==◌, ◌≤◌, length, ◌<◌, ◌⊎◌, ◌++◌, ℕ, List, Some, Ok, Err, true, false, IfOk, IfErr, OnOk};
-ghost use Rattle.h2_words.specs.Plans.{batch_asked, book_asked, view_asked};
+ghost use Rattle.h2_words.specs.Plans.{batch_asked};
 ghost use Rattle.h2_commands.specs.Reports.{seen};
 ghost use Rattle.h2_commands.specs.Books.{book_in};
 ghost use Rattle.h2_commands.specs.Each.{not_written, printed_after};
 ghost use Rattle.h2_commands.specs.CommandEnd.{EndsBatch, KnowsFile, Prints, PrintsSome, asks_why_batch, file_of};
-ghost use Rattle.h2_commands.specs.ExplainProgram.{EndsExplain, ReportsText, cut_off, explained_after, form_of};
 ghost use Rattle.h2_commands.specs.Faults.{fault_number};
 ghost use Rattle.h2_commands.specs.Input.{most};
 ghost use Rattle.h2_hex.specs.HexText.{octets_spelled};
@@ -15,12 +14,11 @@ ghost use Rattle.h2_commands.specs.TableProgram.{table_parts, table_text};
 ghost use Rattle.h2_commands.specs.Printed.{OrCutShort, done, failed, failed_as, places, places_play, printed, printed_play};
 ghost use Rattle.h2_commands.specs.declared.fault.BenchFault.TheVariants.{NoMemory};
 
-use crate::advice::{advise, advise_batch};
+use crate::advice::advise_batch;
 use crate::asm::asm_report;
 use crate::books::book_for_words;
 use crate::dis::dis_text;
 use crate::each::{PrintFault, write_text};
-use crate::explain::{ExplainOutcome, explain_text, read_text};
 use crate::fault::{BenchFault, FaultText};
 use crate::input::read_all;
 use crate::play::write_play;
@@ -29,8 +27,7 @@ use crate::table::write_table;
 use h2_book::Files;
 use h2_device::{Input, Output, Text};
 use h2_entries::book::Book;
-use h2_explain::Form;
-use h2_words::command::{Batch, Explain, Play};
+use h2_words::command::{Batch, Play};
 use std::alloc::Global;
 
 /// The book of a command; a sentence is written to `errors` where an entry is refused and the reason was asked for.
@@ -82,7 +79,7 @@ pub fn print_fault<O: Output>(output: &mut O, fault: BenchFault) -> u8
 }
 
 /// Writes what reports a fault, its line or its object of JSON, and gives status 1, or 3 where that failed.
-fn print_fault_as<O: Output>(output: &mut O, json: bool, fault: BenchFault) -> u8
+pub fn print_fault_as<O: Output>(output: &mut O, json: bool, fault: BenchFault) -> u8
     requires { O.has_failed output.old ≡ false }
     ensures printed { O.has_failed output.new ≡ false → (held : List ℕ) → O.written output.old ≡ Some held
         → Prints (failed_as json fault) held (O.written output.new) result }
@@ -208,85 +205,5 @@ pub fn respond<F: Files, I: Input, O: Output, E: Output>(
     match read_all(alloc, input) {
         Ok(octets) => print_input(alloc, batch, &book, octets, output),
         Err(fault) => print_fault(output, fault),
-    }
-}
-
-/// Writes what remains to say of an explanation: the fault that ended it. Gives the status: that of how the explanation
-/// ended, 1 after a fault, 3 where the output failed.
-fn print_explained<O: Output>(
-    output: &mut O,
-    json: bool,
-    ended: Result<ExplainOutcome, PrintFault>,
-) -> u8
-    requires { O.has_failed output.old ≡ cut_off ended }
-    ensures printed { O.has_failed output.new ≡ false → (held text : List ℕ) → O.written output.old ≡ Some (held ++ text)
-        → Prints (explained_after json text ended) held (O.written output.new) result }
-    ensures kept { O.has_failed output.new ≡ false → O.has_failed output.old ≡ false }
-    ensures flag { O.has_failed output.new ≡ (result == 3) }
-    ensures name { O.name output.new ≡ O.name output.old }
-{
-    match ended {
-        Ok(outcome) => outcome.status(),
-        Err(end) => match end {
-            PrintFault::Fault(fault) => print_fault_as(output, json, fault),
-            PrintFault::NotWritten => 3,
-        },
-    }
-}
-
-/// Explains a connection over a whole text, and gives the status.
-fn print_text<O: Output>(
-    alloc: Global,
-    plan: &Explain<'_>,
-    book: &Book<Global>,
-    text: &[u8],
-    output: &mut O,
-) -> u8
-    requires few { length text.now ≤ most }
-    requires writer { O.has_failed output.old ≡ false }
-    ensures printed { O.has_failed output.new ≡ false
-        → PrintsSome (λ t. ReportsText (form_of (view_asked plan.now)) book.now plan.now.config text.now t) (O.written output.old) (O.written output.new) result }
-    ensures flag { O.has_failed output.new ≡ (result == 3) }
-    ensures name { O.name output.new ≡ O.name output.old }
-{
-    let form = Form {
-        json: plan.json,
-        color: plan.color,
-        strict: plan.strict,
-        full: plan.full,
-    };
-    let ended = explain_text(alloc, form, plan.config, book, text, output);
-    print_explained(output, plan.json, ended)
-}
-
-/// Makes the book of an explanation, reads its text, and explains it.
-pub fn explain_plan<F: Files, I: Input, O: Output, E: Output>(
-    alloc: Global,
-    plan: &Explain<'_>,
-    files: &mut F,
-    input: &mut I,
-    output: &mut O,
-    errors: &mut E,
-) -> u8
-    requires reader { I.has_failed input.old ≡ false }
-    requires writer { O.has_failed output.old ≡ false }
-    ensures printed { KnowsFile plan.now.book.file.now (F.is_printed files.old) → KnowsFile plan.now.file.now (F.is_printed files.old)
-        → O.has_failed output.new ≡ false
-        → EndsExplain (form_of (view_asked plan.now)) (F.file files.old) plan.now.config plan.now.file.now (book_asked plan.now.book) (I.remaining input.old)
-        (I.has_failed input.new) (O.written output.old) (O.written output.new) result }
-    ensures flag { O.has_failed output.new ≡ (result == 3) }
-    ensures input { I.name input.new ≡ I.name input.old }
-    ensures name { O.name output.new ≡ O.name output.old }
-    ensures quiet { plan.now.book.why ≡ false → errors.new ≡ errors.old }
-    ensures errors { E.name errors.new ≡ E.name errors.old }
-{
-    let book = match book_for_words(alloc, &plan.book, files, errors) {
-        Ok(book) => book,
-        Err(fault) => return print_fault_as(output, plan.json, fault),
-    };
-    advise(alloc, plan.config, plan.book.why, errors);
-    match read_text(alloc, plan.file, files, input) {
-        Ok(text) => print_text(alloc, plan, &book, text.as_slice(), output),
-        Err(fault) => print_fault_as(output, plan.json, fault),
     }
 }

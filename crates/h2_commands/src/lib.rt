@@ -9,7 +9,6 @@ mod batch;
 mod books;
 mod dis;
 mod each;
-mod explain;
 mod fault;
 mod input;
 mod play;
@@ -18,7 +17,9 @@ mod table;
 
 pub use advice::advise;
 pub use answer::parse_answer;
-pub use batch::{explain_plan, print, print_end, print_fault, respond};
+pub use batch::{print, print_end, print_fault, print_fault_as, respond};
 pub use books::{book_for_words, write_reason};
 pub use each::PrintFault;
 pub use fault::BenchFault;
+pub use input::{read_all, read_hex};
+pub use play::refused_limits;

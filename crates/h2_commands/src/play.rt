@@ -196,7 +196,7 @@ fn octets_of(alloc: Global, input: Vec<u8>) -> Result<Vec<u8>, BenchFault>
 }
 
 /// Why an input is refused whose limits or settings are out of range: it is no hex text, or it is for them. Takes no memory.
-pub(crate) fn refused_limits(input: &[u8]) -> BenchFault
+pub fn refused_limits(input: &[u8]) -> BenchFault
     ensures { result ≡ limits_fault (octets_spelled input.now) }
 {
     if is_hex_text(input) {

@@ -4,7 +4,7 @@ use Rattle.h2_spec.specs.declared.connection.Config.{Config}
 use Rattle.h2_words.specs.Grammar.{BatchAsked, BookAsked}
 use Rattle.h2_commands.specs.Books.{book_in}
 use Rattle.h2_check_command.specs.CheckProgram.{EndsCheck}
-use Rattle.h2_commands.specs.ExplainProgram.{EndsExplain, form_of}
+use Rattle.h2_explain_command.specs.ExplainProgram.{EndsExplain, form_of}
 use Rattle.h2_explain.specs.declared.run.Form.{Form}
 use Rattle.h2_commands.specs.CommandEnd.{AnswersAs, EndsBatch, Prints, no_files}
 use Rattle.h2_bench.specs.ProgramEnd.{EndsSession, EndsSomehow}

@@ -1,7 +1,7 @@
 use Rattle.std.proofs.Common.{Some, false, inr, refl}
 use Rattle.h2_book.specs.Files.{file_in}
 use Rattle.h2_check_command.specs.CheckProgram.{IsCheck}
-use Rattle.h2_commands.specs.ExplainProgram.{IsExplained, form_of}
+use Rattle.h2_explain_command.specs.ExplainProgram.{IsExplained, form_of}
 use Rattle.h2_commands.specs.Printed.{Printed}
 use Rattle.h2_bench.proofs.InMemory.{batch-whole, printed-such, session-whole}
 use Rattle.h2_bench.proofs.memory.run_in_memory.Goals as goal

@@ -1,6 +1,6 @@
 use Rattle.std.proofs.Common.{Bor, List, ℕ, map, subst}
 use Rattle.h2_check_command.specs.CheckProgram.{IsChecked, checked_after}
-use Rattle.h2_check_command.specs.declared.own.CaseSetup.{CaseSetup}
+use Rattle.h2_case_setup.specs.declared.own.CaseSetup.{CaseSetup}
 use Rattle.h2_check_command.proofs.check.check_book.Goals as goal
 
 pub returns-clause-printed : goal.returns-clause-printed
