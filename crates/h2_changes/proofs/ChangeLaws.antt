@@ -1,10 +1,12 @@
 -- The rows of a table that are kept because their values differ.
-use Rattle.std.proofs.Common.{◌≡◌, ℕ, List, [], ◌∷◌, ◌++◌, Option, Some, None, Bool, true, false, ◌&&◌, ◌||◌, ◌<◌, nat_eq, ℤ, pos, refl, sym, ap, ap₂, arith, append_assoc, cond, ◌==◌, rules}
+use Rattle.std.proofs.Common.{◌≡◌, ℕ, List, [], ◌∷◌, ◌++◌, ◌∙◌, Option, Some, None, Result, Bool, true, false, ◌&&◌, ◌||◌, ◌<◌, ◌+◌, length, get_or, take, nat_eq, ℤ, pos, refl, sym, ap, ap₂, arith, append_assoc, cond, ◌==◌, rules}
 use Rattle.std.specs.List.{filter, All}
 use Rattle.std.specs.Ordering.{int_eq}
+use Rattle.std.specs.Prelude.{OnOk}
+use Rattle.std.proofs.lemmas.Result.{on_ok_weaker}
 use Rattle.std.specs.Option.{option_eq, option_map}
 use Rattle.std.proofs.lemmas.Bool.Decides.{Decides-eqb, Decides-int_eq}
-use Rattle.std.proofs.lemmas.List.Elements.{All-append, All-nil, All-weaker, filter_passes, filter-append}
+use Rattle.std.proofs.lemmas.List.Elements.{All-append, All-nil, All-weaker, filter_more, filter_passes, filter-append}
 use Rattle.std.proofs.lemmas.Bool.{false_from_ne_true, not-false}
 use Rattle.h2_spec.specs.declared.connection.ConnectionState.{ConnectionState}
 use Rattle.h2_spec.specs.declared.flow.LocalSettings.{LocalSettings}
@@ -25,6 +27,37 @@ pub filter_four : (p : ShownChange → Bool) (o o1 o2 o3 o4 a1 b1 c1 d1 a b c d 
     → o4 ≡ o ++ filter p (a ++ b ++ c ++ d)
 filter_four p o o1 o2 o3 o4 a1 b1 c1 d1 a b c d ea eb ec ed e1 e2 e3 e4 =
     rw (filter-append p (a ++ b ++ c) d, filter-append p (a ++ b) c, filter-append p a b, e4, e3, e2, e1, ea, eb, ec, ed) (simp append_assoc)
+
+-- the rows of two tables that are kept, one after another
+pub filter_two : (p : ShownChange → Bool) (o o1 o2 a1 b1 a b : List ShownChange) → a1 ≡ a → b1 ≡ b → o1 ≡ o ++ filter p a1 → o2 ≡ o1 ++ filter p b1
+    → o2 ≡ o ++ filter p (a ++ b)
+filter_two p o o1 o2 a1 b1 a b ea eb e1 e2 = rw (filter-append p a b, e2, e1, ea, eb) (simp append_assoc)
+
+-- the rows of a stream that was live and is: its state, and its counts
+pub live_rows : (before after : Stream) (o o1 o2 a1 b1 : List ShownChange) → is_live before.kind ≡ true → is_live after.kind ≡ true
+    → a1 ≡ state_row before after → b1 ≡ numbers_table after.id before.numbers after.numbers → o1 ≡ o ++ filter is_other a1 → o2 ≡ o1 ++ filter is_other b1
+    → o2 ≡ o ++ filter is_other (stream_table before after)
+live_rows before after o o1 o2 a1 b1 was is state numbers e1 e2 =
+    let rows : state_row before after ++ numbers_table after.id before.numbers after.numbers ≡ stream_table before after = rw (was, is) refl in
+    filter_two is_other o o1 o2 a1 b1 (state_row before after) (numbers_table after.id before.numbers after.numbers) state numbers e1 e2
+    ∙ ap (λ (xs : List ShownChange). o ++ filter is_other xs) rows
+
+-- the row of a stream that was not live or is not: its state
+pub dead_rows : (before after : Stream) (o o1 a1 : List ShownChange) → (is_live before.kind && is_live after.kind) ≡ false
+    → a1 ≡ state_row before after → o1 ≡ o ++ filter is_other a1
+    → o1 ≡ o ++ filter is_other (stream_table before after)
+dead_rows before after o o1 a1 dead state e1 =
+    let rows : state_row before after ≡ stream_table before after = rw dead refl in
+    e1 ∙ ap (λ (xs : List ShownChange). o ++ filter is_other xs) (state ∙ rows)
+
+-- the rows that are kept of some first ones and the next
+pub kept_next : (i : ℕ) (xs : List ShownChange) (d : ShownChange) (o l l1 : List ShownChange) (b : Bool) → i < length xs → b ≡ is_other (get_or xs i d)
+    → l ≡ o ++ filter is_other (take i xs) → l1 ≡ l ++ cond b (get_or xs i d ∷ []) []
+    → l1 ≡ o ++ filter is_other (take (i + 1) xs)
+kept_next i xs d o l l1 b h e before now =
+    let x = get_or xs i d in
+    let more : filter is_other (take i xs) ++ cond b (x ∷ []) [] ≡ filter is_other (take (i + 1) xs) = ap (λ (q : Bool). filter is_other (take i xs) ++ cond q (x ∷ []) []) e ∙ sym (filter_more is_other xs i d h) in
+    now ∙ ap (λ (ys : List ShownChange). ys ++ cond b (x ∷ []) []) before ∙ append_assoc o (filter is_other (take i xs)) (cond b (x ∷ []) []) ∙ ap (λ (ys : List ShownChange). o ++ ys) more
 
 -- ---- what is kept differs
 
@@ -161,6 +194,20 @@ none_of_zero before after send zero = let test : (after.id == 0) ≡ true = rw z
     at : (b : Bool) → cond (b || true) [] (filter is_other (stream_table before after) ++ stops after send) ≡ []
     at false = refl
     at true = refl
+
+-- a stream that is as before, in place of what is listed of it
+pub same_stream : (before after : Stream) (send : ℤ) (o : List ShownChange) → is_same_stream before after ≡ true → o ≡ o ++ stream_changes before after send
+same_stream before after send o h = rw h (search rules)
+
+-- what is listed of a stream that is not as before, and is not stream 0: its rows, and then where its answer stops
+pub other_stream : {T E : Type 0} (before after : Stream) (send : ℤ) (o o1 o2 : List ShownChange) (r : Result T E)
+    → is_same_stream before after ≡ false → (after.id == 0) ≡ false
+    → o1 ≡ o ++ filter is_other (stream_table before after) → OnOk r (o2 ≡ o1 ++ stops after send)
+    → OnOk r (o2 ≡ o ++ stream_changes before after send)
+other_stream before after send o o1 o2 r same zero rows stop =
+    let listed_of : stream_changes before after send ≡ filter is_other (stream_table before after) ++ stops after send = rw (same, zero) refl in
+    let whole : o ++ filter is_other (stream_table before after) ++ stops after send ≡ o ++ stream_changes before after send = append_assoc o (filter is_other (stream_table before after)) (stops after send) ∙ ap (λ xs. o ++ xs) (sym listed_of) in
+    on_ok_weaker r (λ (e : o2 ≡ o1 ++ stops after send). e ∙ ap (λ xs. xs ++ stops after send) rows ∙ whole) stop
 
 -- ---- what two values that are listed the same say
 
