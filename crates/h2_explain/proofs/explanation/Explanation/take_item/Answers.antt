@@ -1,4 +1,7 @@
-use Rattle.std.proofs.Common.{◌∙◌, ◌+◌, ℕ, List, Result, ap, ap₂, arith, drop, refl, subst}
+use Rattle.std.proofs.Common.{◌≡◌, ◌∙◌, ◌+◌, ℕ, List, [], Result, ap, ap₂, arith, drop, inl, inr, refl, subst}
+use Rattle.h2_spec.specs.State.{State}
+use Rattle.h2_conn.specs.Connection.{Connection, going}
+use Rattle.h2_explain.proofs.Steps.{gains-none}
 use Rattle.h2_explain.specs.Explains.{Gains, IsItemText, IsWritten, not_written}
 use Rattle.h2_item.specs.declared.item.Explained.{Explained}
 use Rattle.h2_explain.specs.declared.run.ExplainFault.{ExplainFault}
@@ -36,3 +39,34 @@ returns-clause-ok g c =
       held_is = refl;
       late_is = refl;
     }
+
+pub overflow_add-self : goal.overflow_add-self
+overflow_add-self g c = omega (arith, c.requires.few.0, c.requires.few.1)
+
+pub returns-clause-sent : goal.returns-clause-sent
+returns-clause-sent g c = λ keeps. rw (c.in-Ok-Some.field-0-is, c.start_of-start.ensures.kept keeps) at c.in-Ok-Some.ensures.ok
+
+pub returns-clause-flag : goal.returns-clause-flag
+returns-clause-flag g c = c.in-Ok.ensures.flag
+
+pub returns-in-Ok-None-clause-ok : goal.returns-in-Ok-None-clause-ok
+returns-in-Ok-None-clause-ok g c =
+    let none = rw c.in-Ok-None.field-0-is at c.in-Ok-None.ensures.ok in
+    record { none = none.none; conn_is = c.take_and_report.ensures.ready ∙ ap (λ (s : State). going s []) none.same; same = refl; quiet = refl }
+
+pub returns-in-Ok-None-clause-sent : goal.returns-in-Ok-None-clause-sent
+returns-in-Ok-None-clause-sent g c = λ keeps. rw (c.in-Ok-None.field-0-is, c.start_of-start.ensures.kept keeps) at c.in-Ok-None.ensures.ok
+
+pub returns-in-Err-clause-stopped : goal.returns-in-Err-clause-stopped
+returns-in-Err-clause-stopped g c = λ keeps.
+    inl (ap (λ (d : Connection). d.state) c.in-Err.ensures.unchanged.0, c.in-Err.ensures.unchanged.1 ∙ c.start_of-start.ensures.kept keeps)
+
+pub returns-in-Err-clause-cut : goal.returns-in-Err-clause-cut
+returns-in-Err-clause-cut g c = λ well. gains-none (λ (t : List ℕ). t ≡ []) refl (g.O.Output.written c.args.output.now) _ refl
+
+pub returns-in-Err-write_item-clause-stopped : goal.returns-in-Err-write_item-clause-stopped
+returns-in-Err-write_item-clause-stopped g c = λ keeps.
+    inr (c.in-Ok-Some.taken.used, rw (c.in-Ok-Some.field-0-is, c.start_of-start.ensures.kept keeps) at c.in-Ok-Some.ensures.ok)
+
+pub returns-in-Err-write_item-clause-cut : goal.returns-in-Err-write_item-clause-cut
+returns-in-Err-write_item-clause-cut g c = c.in-Err-write_item.ensures.gains

@@ -1,4 +1,4 @@
-use Rattle.std.proofs.Common.{◌≡◌, ◌∙◌, ◌+◌, ℕ, List, Option, Result, ap, arith, drop, length-drop, refl, subst, sym}
+use Rattle.std.proofs.Common.{◌≡◌, ◌∙◌, ◌+◌, ℕ, List, Option, Result, ap, arith, drop, length, length-drop, refl, subst, sym}
 use Rattle.std.proofs.lemmas.List.{drop-drop}
 use Rattle.h2_conn.proofs.Runs.{leads-refl, leads-stop, leads-takes}
 use Rattle.h2_explain.specs.Explaining.{ExplainsOn}
@@ -71,3 +71,13 @@ pub returns-in-Err-clause-cut : goal.returns-in-Err-clause-cut
 returns-in-Err-clause-cut g c = λ well.
     on-cut-then c.args.self.now c.loop-used.self c.args.conn.now.state c.loop-used.conn.state c.args.octets.now (drop c.loop-used.at c.args.octets.now)
     (g.O.Output.written c.args.output.now) (g.O.Output.written c.loop-used.output) (g.O.Output.written c.take_item.new.output) c.loop-used.invariant.on (c.in-Err.ensures.cut well)
+
+pub take_item-requires-clause-few : goal.take_item-requires-clause-few
+take_item-requires-clause-few g c =
+    let i = c.loop-used.invariant in
+    (i.on.counted, omega (arith, i.on.offset_is, c.requires.few.1, ap length c.octets_from-rest.ensures))
+
+pub returns-in-Ok-None-clause-ok : goal.returns-in-Ok-None-clause-ok
+returns-in-Ok-None-clause-ok g c =
+    let y = rw (c.octets_from-rest.ensures, c.in-Ok-None.field-0-is) at c.in-Ok-None.ensures.ok in
+    record { on = rw (y.same, y.conn_is, y.quiet) c.loop-used.invariant.on; stops = rw y.conn_is y.none }

@@ -79,3 +79,15 @@ returns-else-is_empty-clause-room g c =
 
 pub returns-else-is_empty-clause-form : goal.returns-else-is_empty-clause-form
 returns-else-is_empty-clause-form g c = on_ok_weaker c.complete.result (λ h. h.all.on.form_is) c.complete.ensures.ok
+
+pub returns-then-is_empty-clause-fed : goal.returns-then-is_empty-clause-fed
+returns-then-is_empty-clause-fed g c = c.take_in_hand.ensures.fed
+
+pub returns-then-is_empty-clause-halted : goal.returns-then-is_empty-clause-halted
+returns-then-is_empty-clause-halted g c = c.take_in_hand.ensures.halted
+
+pub returns-else-is_empty-clause-fed : goal.returns-else-is_empty-clause-fed
+returns-else-is_empty-clause-fed g c = c.complete.ensures.fed
+
+pub returns-else-is_empty-clause-halted : goal.returns-else-is_empty-clause-halted
+returns-else-is_empty-clause-halted g c = c.complete.ensures.halted
