@@ -1,6 +1,6 @@
 -- Lists that grow at their end.
 use Rattle.std.proofs.Common.{◌≡◌, ◌∙◌, ℕ, ◌+◌, ◌≤◌, length, List, [], ◌++◌, take, drop, Option, Some, None, refl, ap, sym, append_assoc}
-use Rattle.std.proofs.lemmas.List.{append-nil, take-append-drop, take-append-le}
+use Rattle.std.proofs.lemmas.List.{append-nil, take-append-drop, take-append-le, take_all}
 use Rattle.std.proofs.Math.Seq.{take-add}
 use Rattle.h2_drive.specs.Wires.{Writes, grown}
 
@@ -23,6 +23,22 @@ pub ruleset growing = (grown-take, grown-nil)
 -- nothing is written
 pub writes-none : (known : Option (List ℕ)) (out : List ℕ) → Writes known out known out
 writes-none known out = record { octets = []; known_is = sym (grown-nil known); whole = refl }
+
+-- all octets are written
+pub writes-all : (known : Option (List ℕ)) (out : List ℕ) (n : ℕ) (new : Option (List ℕ)) (rest : List ℕ) → new ≡ grown known (take n out) → length out ≤ n → rest ≡ [] → Writes known out new rest
+writes-all known out n new rest e h f = record {
+  octets = out;
+  known_is = e ∙ ap (λ (xs : List ℕ). grown known xs) (take_all n out h);
+  whole = ap (λ (xs : List ℕ). out ++ xs) f ∙ append-nil out;
+}
+
+-- the first octets are written, and the others are left
+pub writes-first : (known : Option (List ℕ)) (out : List ℕ) (n : ℕ) (new : Option (List ℕ)) (rest : List ℕ) → new ≡ grown known (take n out) → rest ≡ drop n out → Writes known out new rest
+writes-first known out n new rest e f = record {
+  octets = take n out;
+  known_is = e;
+  whole = ap (λ (xs : List ℕ). take n out ++ xs) f ∙ take-append-drop n out;
+}
 
 -- the first of the octets that are left are written
 pub writes-more : (known : Option (List ℕ)) (out : List ℕ) (mid : Option (List ℕ)) (left : List ℕ) (n : ℕ) (new : Option (List ℕ)) (rest : List ℕ)

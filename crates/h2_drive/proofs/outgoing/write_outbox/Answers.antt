@@ -1,5 +1,5 @@
-use Rattle.std.proofs.Common.{◌≡◌, ◌∙◌, ◌<◌, ◌≤◌, ℕ, List, ap, sym, refl, subst, take, drop, length, arith, length-drop}
-use Rattle.h2_drive.specs.Wires.{Writes, grown}
+use Rattle.std.proofs.Common.{◌≡◌, ◌∙◌, ℕ, List, ap, refl, take, drop, length}
+use Rattle.h2_drive.specs.Wires.{grown}
 use Rattle.h2_drive.proofs.Growing.{front-take, writes-more, writes-none}
 use Rattle.h2_drive.proofs.outgoing.write_outbox.Goals as goal
 
@@ -24,3 +24,6 @@ loop-out-preserved g c =
       lengths = c.in-Ok.ensures.read.1 ∙ kept.lengths;
       flag = c.in-Ok.ensures.flag;
     }
+
+pub returns-in-Err-clause-written : goal.returns-in-Err-clause-written
+returns-in-Err-clause-written g c = rw (c.in-Err.ensures.err, c.gather.ensures) c.loop-out.invariant.written
