@@ -1,6 +1,6 @@
 -- An explanation that goes on, item by item and piece by piece.
-use Rattle.std.proofs.Common.{true, false, IfErr, None, Result, Ok, Err, is_err, ◌≡◌, inl, inr, ◌∙◌, ◌+◌, ◌≤◌, ℕ, List, [], ◌∷◌, ◌++◌, Option, Some, length, drop, refl, sym, ap, ap₂, subst, arith, option_map, length-drop, length-append, append_assoc}
-use Rattle.std.proofs.lemmas.List.{append-nil, drop-append-le}
+use Rattle.std.proofs.Common.{true, false, IfErr, None, Result, Ok, Err, is_err, ◌≡◌, inl, inr, ◌∙◌, ◌+◌, ◌<◌, ◌≤◌, ℕ, List, [], ◌∷◌, ◌++◌, Option, Some, length, drop, refl, sym, ap, ap₂, subst, arith, option_map, length-drop, length-append, append_assoc}
+use Rattle.std.proofs.lemmas.List.{append-nil, drop-append-le, drop-drop}
 use Rattle.std.specs.Io.KnownBytes.{Appends}
 use Rattle.h2_spec.specs.Frame.{Next, NoItem, Got}
 use Rattle.h2_spec.specs.Parse.{Stop, One, Parsed, after_one}
@@ -110,6 +110,19 @@ on-next e e1 e2 s s1 b b1 c known known1 known2 used x y =
           known known1 known2 x.written y.written);
       tallied = rw (y.items_are, offset) (counts-next s s1 b b1 e.items e.offset e1.items e1.offset c y.item e.tally e1.tally e2.tally i y.tallied x.tallied);
     }
+
+-- the same, where the octets are those of all after some first ones
+pub on-next-at : {A : Type 0} (e e1 e2 : Explanation A) (s s1 : State) (b : List ℕ) (at : ℕ) (c : Connection) (known known1 known2 : Option (List ℕ)) (used : ℕ)
+    → ExplainsOn e s b known e1 s1 (drop at b) known1 → TakesItem e1 s1 (drop at b) known1 e2 c known2 used → ExplainsOn e s b known e2 c.state (drop (at + used) b) known2
+on-next-at e e1 e2 s s1 b at c known known1 known2 used x y =
+    let past : drop y.item.used (drop at b) ≡ drop (at + used) b = ap (λ (u : ℕ). drop u (drop at b)) (sym y.used_is) ∙ drop-drop used at b in
+    subst (λ (d : List ℕ). ExplainsOn e s b known e2 c.state d known2) past (on-next e e1 e2 s s1 b (drop at b) c known known1 known2 used x y)
+
+-- an item has some of the octets
+pub takes-uses : {A : Type 0} (e e1 : Explanation A) (s : State) (b : List ℕ) (known known1 : Option (List ℕ)) (c : Connection) (used : ℕ) → TakesItem e s b known e1 c known1 used → (0 < used) × (used ≤ length b)
+takes-uses e e1 s b known known1 c used y =
+    let uses = item-uses s b (e.items + 1) e.offset c y.item y.explains in
+    (omega (arith, uses.0, y.used_is), omega (arith, uses.1, y.used_is))
 
 -- the explanation of some first items is one that is cut short
 pub on-cut : {A : Type 0} (e e1 : Explanation A) (s s1 : State) (b b1 : List ℕ) (known known1 : Option (List ℕ)) → ExplainsOn e s b known e1 s1 b1 known1 → Gains (IsCutShort e s b) known known1

@@ -1,11 +1,9 @@
-use Rattle.std.proofs.Common.{◌≡◌, ◌∙◌, ◌+◌, ℕ, List, Option, Result, ap, arith, drop, length, length-drop, refl, subst, sym}
+use Rattle.std.proofs.Common.{◌∙◌, ◌+◌, ℕ, Option, Result, ap, arith, drop, length, length-drop, refl}
 use Rattle.std.proofs.lemmas.List.{drop-drop}
 use Rattle.h2_conn.proofs.Runs.{leads-refl, leads-stop, leads-takes}
-use Rattle.h2_explain.specs.Explaining.{ExplainsOn}
 use Rattle.h2_explain.specs.Explains.{not_written}
 use Rattle.h2_explain.specs.declared.run.ExplainFault.{ExplainFault}
-use Rattle.h2_explain.proofs.Steps.{first-takes, leads-stopped, on-cut-then, on-next, on-start}
-use Rattle.h2_explainer.proofs.Taken.{item-uses}
+use Rattle.h2_explain.proofs.Steps.{first-takes, leads-stopped, on-cut-then, on-next-at, on-start, takes-uses}
 use Rattle.h2_explain.proofs.explanation.Explanation.take_items.Goals as goal
 
 pub loop-used-init : goal.loop-used-init
@@ -26,15 +24,14 @@ loop-used-preserved g c =
     let at = c.loop-used.at in
     let i = c.loop-used.invariant in
     let y = rw (c.octets_from-rest.ensures, c.in-Ok-Some.field-0-is) at c.in-Ok-Some.ensures.ok in
-    let uses = item-uses _ _ _ _ _ y.item y.explains in
-    let past : drop y.item.used (drop at octets) ≡ drop (at + c.in-Ok-Some.used) octets = ap (λ (u : ℕ). drop u (drop at octets)) (sym y.used_is) ∙ drop-drop c.in-Ok-Some.used at octets in
+    let uses = takes-uses c.loop-used.self c.take_item.new.self c.loop-used.conn.state (drop c.loop-used.at c.args.octets.now) (g.O.Output.written c.loop-used.output) (g.O.Output.written c.take_item.new.output) c.take_item.new.conn c.in-Ok-Some.used y in
     record {
-      within = omega (arith, i.within, uses.1, y.used_is, length-drop at octets);
+      within = omega (arith, i.within, uses.1, length-drop at octets);
       ready = c.take_item.ensures.ready;
       writer = c.take_item.ensures.flag ∙ ap (λ (r : Result (Option ℕ) ExplainFault). not_written r) c.in-Ok-Some.is;
       name = c.take_item.ensures.name ∙ i.name;
-      on = subst (λ (d : List ℕ). ExplainsOn c.args.self.now c.args.conn.now.state octets (g.O.Output.written c.args.output.now) c.take_item.new.self c.take_item.new.conn.state d (g.O.Output.written c.take_item.new.output)) past
-          (on-next c.args.self.now c.loop-used.self c.take_item.new.self c.args.conn.now.state c.loop-used.conn.state octets (drop at octets) c.take_item.new.conn (g.O.Output.written c.args.output.now) (g.O.Output.written c.loop-used.output) (g.O.Output.written c.take_item.new.output) c.in-Ok-Some.used i.on y);
+      on = on-next-at c.args.self.now c.loop-used.self c.take_item.new.self c.args.conn.now.state c.loop-used.conn.state octets at c.take_item.new.conn
+          (g.O.Output.written c.args.output.now) (g.O.Output.written c.loop-used.output) (g.O.Output.written c.take_item.new.output) c.in-Ok-Some.used i.on y;
       held = y.held_is ∙ i.held;
       late = y.late_is ∙ i.late;
       leads = λ e.
@@ -46,14 +43,14 @@ loop-used-preserved g c =
 pub loop-used-smaller : goal.loop-used-smaller
 loop-used-smaller g c =
     let y = rw (c.octets_from-rest.ensures, c.in-Ok-Some.field-0-is) at c.in-Ok-Some.ensures.ok in
-    let uses = item-uses _ _ _ _ _ y.item y.explains in
-    omega (arith, c.loop-used.invariant.within, uses.0, uses.1, y.used_is, length-drop c.loop-used.at c.args.octets.now)
+    let uses = takes-uses c.loop-used.self c.take_item.new.self c.loop-used.conn.state (drop c.loop-used.at c.args.octets.now) (g.O.Output.written c.loop-used.output) (g.O.Output.written c.take_item.new.output) c.take_item.new.conn c.in-Ok-Some.used y in
+    omega (arith, c.loop-used.invariant.within, uses.0, uses.1, length-drop c.loop-used.at c.args.octets.now)
 
 pub overflow_add-at : goal.overflow_add-at
 overflow_add-at g c =
     let y = rw (c.octets_from-rest.ensures, c.in-Ok-Some.field-0-is) at c.in-Ok-Some.ensures.ok in
-    let uses = item-uses _ _ _ _ _ y.item y.explains in
-    omega (arith, c.loop-used.invariant.within, uses.1, y.used_is, c.requires.few.1, length-drop c.loop-used.at c.args.octets.now)
+    let uses = takes-uses c.loop-used.self c.take_item.new.self c.loop-used.conn.state (drop c.loop-used.at c.args.octets.now) (g.O.Output.written c.loop-used.output) (g.O.Output.written c.take_item.new.output) c.take_item.new.conn c.in-Ok-Some.used y in
+    omega (arith, c.loop-used.invariant.within, uses.1, c.requires.few.1, length-drop c.loop-used.at c.args.octets.now)
 
 pub returns-in-Ok-None-clause-sent : goal.returns-in-Ok-None-clause-sent
 returns-in-Ok-None-clause-sent g c = λ e.
