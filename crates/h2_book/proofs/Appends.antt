@@ -57,7 +57,7 @@ pub book_with-refused : (directory : Directory) (path : List ℕ) (book : List E
     book_with directory path book (item d ds) ≡ Err fault
 book_with-refused directory path book d ds fault e = ap (λ (r : Result (List Entry) ℕ). unless_refused r (λ more. book_with directory path more ds)) e
 
--- else it goes on with the entry behind the others
+-- else it goes on with the entry after the others
 pub book_with-next : (directory : Directory) (path : List ℕ) (book new : List Entry) (d : Data) (ds : Items) → with_entry book (entry_of directory path d) ≡ Ok new →
     book_with directory path book (item d ds) ≡ book_with directory path new ds
 book_with-next directory path book new d ds e = ap (λ (r : Result (List Entry) ℕ). unless_refused r (λ more. book_with directory path more ds)) e

@@ -195,7 +195,7 @@ none_of_zero before after send zero = let test : (after.id == 0) ≡ true = rw z
     at false = refl
     at true = refl
 
--- a stream that is as before, in place of what is listed of it
+-- a stream that is as before, instead of what is listed of it
 pub same_stream : (before after : Stream) (send : ℤ) (o : List ShownChange) → is_same_stream before after ≡ true → o ≡ o ++ stream_changes before after send
 same_stream before after send o h = rw h (search rules)
 

@@ -3,14 +3,14 @@ use Rattle.std.proofs.Common.{◌≡◌, ◌∙◌, ℕ, ◌+◌, ◌<◌, ◌�
 use Rattle.std.proofs.Math.Seq.{take-length}
 use Rattle.std.proofs.lemmas.List.{take-append-le, take_more_set}
 
--- one more behind them changes none, and has a place for one more
+-- one more after them changes none, and has a place for one more
 pub behind-kept : {X : Type 0} (kept items more : List X) (count : ℕ) (x : X) → take count items ≡ kept → count ≤ length items → more ≡ items ++ x ∷ [] →
     (take count more ≡ kept) × (count < length more)
 behind-kept kept items more count x e h m =
     let longer = ap length m ∙ length-append items (x ∷ []) in
     (ap (take count) m ∙ take-append-le count items (x ∷ []) h ∙ e, omega (arith, longer, h))
 
--- one put in the place behind them is kept too
+-- one put in the place after them is kept too
 pub put-kept : {X : Type 0} (kept items : List X) (count : ℕ) (x y : X) → take count items ≡ kept → count < length items → x ≡ y →
     take (count + 1) (slice_set items count x) ≡ kept ++ y ∷ []
 put-kept kept items count x y e h s =

@@ -10,8 +10,8 @@ pub returns-in_err-body-clause-printed : goal.returns-in_err-body-clause-printed
 returns-in_err-body-clause-printed g c = λ printed.
     let s = c.args.said in
     agrees-passed_on _ c.from_residual.result c.in_err-body.field-0.0 _ c.from_residual.ensures.1 (λ above.
-      entry-refused (g.F.Files.file c.args.files.now) c.args.path.now s.method.now s.path.now s.status (headers_in (items_view s.headers.now)) (contents_seen s.body) s.early _
-      c.requires.headers c.requires.body (c.in_err-body.ensures.printed printed above))
+    entry-refused (g.F.Files.file c.args.files.now) c.args.path.now s.method.now s.path.now s.status (headers_in (items_view s.headers.now)) (contents_seen s.body) s.early _
+    c.requires.headers c.requires.body (c.in_err-body.ensures.printed printed above))
 
 pub returns-in_err-copy_of-clause-printed : goal.returns-in_err-copy_of-clause-printed
 returns-in_err-copy_of-clause-printed g c = λ _. agrees-no_memory _ c.from_residual-in_err-copy_of.result _ c.from_residual-in_err-copy_of.ensures.1

@@ -13,8 +13,17 @@ overflow_add-count_of-2 c =
 
 pub overflow_add-count_of-3 : goal.overflow_add-count_of-3
 overflow_add-count_of-3 c =
-    omega (arith, c.count_of.ensures, c.count_of-2.ensures, c.count_of-3.ensures, c.count_of-4.ensures,
-      count_of-most (data_at c.args.text), count_of-most (data_at c.args.hex), count_of-most (data_at c.args.file), count_of-most (data_at c.args.fill))
+    omega (
+      arith,
+      c.count_of.ensures,
+      c.count_of-2.ensures,
+      c.count_of-3.ensures,
+      c.count_of-4.ensures,
+      count_of-most (data_at c.args.text),
+      count_of-most (data_at c.args.hex),
+      count_of-most (data_at c.args.file),
+      count_of-most (data_at c.args.fill),
+    )
 
 pub returns-then-count_of-gt1-clause-refused : goal.returns-then-count_of-gt1-clause-refused
 returns-then-count_of-gt1-clause-refused c =

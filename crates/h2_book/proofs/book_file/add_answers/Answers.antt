@@ -18,9 +18,9 @@ returns-in-Err-clause-refused g c = λ printed above.
     let answer = get_or answers i c.index-answers-place.result in
     let inside : i < length answers = c.loop-place-test.true in
     let refused : with_entry book (entry_of files path (view answer)) ≡ Err (cause_number c.in-Err.cause) =
-        ap (λ (d : Data). with_entry book (entry_of files path d)) (sym (ap view c.index-answers-place.is))
-        ∙ ap (λ (f : Directory). with_entry book (entry_of f path (view c.index-answers-place.result))) (sym c.loop-place.invariant.same_files)
-        ∙ c.in-Err.ensures.added (c.loop-place.invariant.same_printed ∙ printed) above in
+    ap (λ (d : Data). with_entry book (entry_of files path d)) (sym (ap view c.index-answers-place.is))
+    ∙ ap (λ (f : Directory). with_entry book (entry_of f path (view c.index-answers-place.result))) (sym c.loop-place.invariant.same_files)
+    ∙ c.in-Err.ensures.added (c.loop-place.invariant.same_printed ∙ printed) above in
     sym (c.loop-place.invariant.goes_on printed) ∙ ap (book_with files path book) (items_view-drop answers i c.index-answers-place.result inside)
     ∙ book_with-refused files path book (view answer) (items_view (drop (i + 1) answers)) _ refused
 
@@ -44,9 +44,9 @@ loop-place-preserved g c =
       grown = (before.0 ++ one.0 ∷ [], one.1 ∙ ap (λ (b : List Entry). b ++ one.0 ∷ []) before.1 ∙ append_assoc c.args.book.now before.0 (one.0 ∷ []));
       goes_on = λ printed.
           let added : with_entry book (entry_of files path (view answer)) ≡ Ok c.add_answer.new.book =
-              ap (λ (d : Data). with_entry book (entry_of files path d)) (sym (ap view c.index-answers-place.is))
-              ∙ ap (λ (f : Directory). with_entry book (entry_of f path (view c.index-answers-place.result))) (sym c.loop-place.invariant.same_files)
-              ∙ c.in_default.ensures.added (c.loop-place.invariant.same_printed ∙ printed) in
+          ap (λ (d : Data). with_entry book (entry_of files path d)) (sym (ap view c.index-answers-place.is))
+          ∙ ap (λ (f : Directory). with_entry book (entry_of f path (view c.index-answers-place.result))) (sym c.loop-place.invariant.same_files)
+          ∙ c.in_default.ensures.added (c.loop-place.invariant.same_printed ∙ printed) in
           sym (book_with-next files path book c.add_answer.new.book (view answer) (items_view (drop (i + 1) answers)) added)
           ∙ ap (book_with files path book) (sym (items_view-drop answers i c.index-answers-place.result inside)) ∙ c.loop-place.invariant.goes_on printed;
     }

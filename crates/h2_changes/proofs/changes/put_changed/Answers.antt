@@ -9,9 +9,9 @@ use Rattle.h2_changes.proofs.changes.put_changed.Goals as goal
 
 pub loop-change-preserved : goal.loop-change-preserved
 loop-change-preserved g c = elim c.if-is_other.branch [
-    then-is_other+in_ok-push w ↦ kept_next c.loop-change.change-index _ _ _ _ _ true c.loop-change-test.true w.if-is_other.ensures c.loop-change.invariant (ap (λ v. v.items) w.out-is ∙ w.in_ok-push.ensures.items)
-    | else-is_other w ↦ kept_next c.loop-change.change-index _ _ _ _ _ false c.loop-change-test.true w.if-is_other.ensures c.loop-change.invariant (ap (λ v. v.items) w.out-is ∙ sym (append-nil _))
-  ]
+  | then-is_other+in_ok-push w ↦ kept_next c.loop-change.change-index _ _ _ _ _ true c.loop-change-test.true w.if-is_other.ensures c.loop-change.invariant (ap (λ v. v.items) w.out-is ∙ w.in_ok-push.ensures.items)
+  | else-is_other w ↦ kept_next c.loop-change.change-index _ _ _ _ _ false c.loop-change-test.true w.if-is_other.ensures c.loop-change.invariant (ap (λ v. v.items) w.out-is ∙ sym (append-nil _))
+]
 
 pub returns : goal.returns
 returns g c = c.loop-change.invariant ∙ ap (λ xs. c.args.out.now.items ++ filter is_other xs) (take_all _ _ c.loop-change-test.false)

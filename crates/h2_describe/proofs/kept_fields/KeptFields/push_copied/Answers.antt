@@ -26,8 +26,8 @@ index_mut-requires g c =
     elim c.if-self-len.branch [
       | then-self-len+in_ok-push w ↦
           rw w.self-inside-is (
-            let room = behind-kept _ _ _ was.count _ c.self.view_is held w.in_ok-push.ensures.items in
-            omega (arith, room.1, w.push.new.self.ok.0))
+          let room = behind-kept _ _ _ was.count _ c.self.view_is held w.in_ok-push.ensures.items in
+          omega (arith, room.1, w.push.new.self.ok.0))
       | else-self-len w ↦
           rw w.self-inside-is (omega (arith, held, was.fields.ok.0, w.if-self-len.false, c.len.ensures))
     ]
@@ -46,14 +46,14 @@ invariant_of-self-in_err-fill g c =
 pub returns-in_err-fill-clause-unchanged : goal.returns-in_err-fill-clause-unchanged
 returns-in_err-fill-clause-unchanged g c =
     MatchResult-from_err c.from_residual-in_err-fill.result _ _ c.from_residual-in_err-fill.ensures.0 (λ _.
-      let was = c.self.inside in
-      let now = c.if-self-len.self-inside in
-      let held : was.count ≤ length was.fields.items = c.self.invariant in
-      let same : take now.count now.fields.items ≡ c.args.self.now = elim c.if-self-len.branch [
-        | then-self-len+in_ok-push w ↦ rw w.self-inside-is ((behind-kept _ _ _ was.count _ c.self.view_is held w.in_ok-push.ensures.items).0)
-        | else-self-len w ↦ rw w.self-inside-is c.self.view_is
-      ] in
-      take-set now.fields.items now.count _ ∙ same)
+    let was = c.self.inside in
+    let now = c.if-self-len.self-inside in
+    let held : was.count ≤ length was.fields.items = c.self.invariant in
+    let same : take now.count now.fields.items ≡ c.args.self.now = elim c.if-self-len.branch [
+      | then-self-len+in_ok-push w ↦ rw w.self-inside-is ((behind-kept _ _ _ was.count _ c.self.view_is held w.in_ok-push.ensures.items).0)
+      | else-self-len w ↦ rw w.self-inside-is c.self.view_is
+    ] in
+    take-set now.fields.items now.count _ ∙ same)
 
 pub returns-in_err-fill-clause-kept : goal.returns-in_err-fill-clause-kept
 returns-in_err-fill-clause-kept g c = IfOk-from_err c.from_residual-in_err-fill.result _ c.from_residual-in_err-fill.ensures.0

@@ -27,7 +27,7 @@ returns g c =
           let name = each_same c.args.name.items w.in_ok-clone.field-0.items w.in_ok-clone.ensures.cases.0 in
           let value = each_same c.args.value.items w.in_ok-clone-2.field-0.items w.in_ok-clone-2.ensures.cases.0 in
           let put : c.match-mode.self ≡ entered (field w.in_ok-clone.field-0.items w.in_ok-clone-2.field-0.items) =
-              w.self-is ∙ ap (λ (t : LimitedTable). let x : Reading = record { table = t; fields = was.fields; updates = was.updates.items } in x) w.insert-in-IncrementalIndexing.ensures.value in
+          w.self-is ∙ ap (λ (t : LimitedTable). let x : Reading = record { table = t; fields = was.fields; updates = was.updates.items } in x) w.insert-in-IncrementalIndexing.ensures.value in
           put ∙ ap (λ ns. entered (field ns w.in_ok-clone-2.field-0.items)) name ∙ ap (λ vs. entered (field c.args.name.items vs)) value
           ∙ ap (λ (r : Reading). with_table r (insert r.table.table s.field)) c.self.view_is
           ∙ ap (λ m. with_table c.args.self.now (table_after (mode_of m) c.args.self.now.table.table s.field)) (sym w.in-IncrementalIndexing.is)

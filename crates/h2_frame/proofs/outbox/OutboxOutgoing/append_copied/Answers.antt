@@ -26,8 +26,8 @@ returns g c =
     let rest = c.args.rest.now in
     record {
       ok =
-        ap (λ (xs : List ℕ). held ++ xs) c.in_ok-copy.ensures.ok ∙ sym (append_assoc held (old ++ head ++ front) rest)
-        ∙ ap (λ (xs : List ℕ). xs ++ rest) (sym (append_assoc held (old ++ head) front)) ∙ ap (λ (xs : List ℕ). xs ++ front ++ rest) (sym (append_assoc held old head))
-        ∙ ap (λ (xs : List ℕ). xs ++ head ++ front ++ rest) c.self.view_is;
+          ap (λ (xs : List ℕ). held ++ xs) c.in_ok-copy.ensures.ok ∙ sym (append_assoc held (old ++ head ++ front) rest)
+          ∙ ap (λ (xs : List ℕ). xs ++ rest) (sym (append_assoc held (old ++ head) front)) ∙ ap (λ (xs : List ℕ). xs ++ front ++ rest) (sym (append_assoc held old head))
+          ∙ ap (λ (xs : List ℕ). xs ++ head ++ front ++ rest) c.self.view_is;
       no_memory = tt;
     }

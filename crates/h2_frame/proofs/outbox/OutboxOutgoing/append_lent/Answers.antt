@@ -25,7 +25,7 @@ returns g c =
     let payload = c.args.payload.now in
     record {
       ok =
-        ap (λ (xs : List ℕ). front ++ xs) c.in_ok-lend.ensures.ok ∙ sym (append_assoc front (rest ++ head) payload) ∙ ap (λ (xs : List ℕ). xs ++ payload) (sym (append_assoc front rest head))
-        ∙ ap (λ (xs : List ℕ). xs ++ head ++ payload) c.self.view_is;
+          ap (λ (xs : List ℕ). front ++ xs) c.in_ok-lend.ensures.ok ∙ sym (append_assoc front (rest ++ head) payload) ∙ ap (λ (xs : List ℕ). xs ++ payload) (sym (append_assoc front rest head))
+          ∙ ap (λ (xs : List ℕ). xs ++ head ++ payload) c.self.view_is;
       no_memory = tt;
     }
