@@ -1,7 +1,8 @@
 -- What is written, one after another.
 use Rattle.std.proofs.Common.{◌≡◌, ◌∙◌, ◌+◌, ◌%◌, ◌^◌, ◌<◌, ◌≤◌, ◌++◌, ◌&&◌, ℕ, Bool, true, false, suc, List, [], ◌∷◌, Some, None, length, drop, take, refl, sym, ap, arith, cond, nat_lt, nat_eq, ltb-false, flat_map, append_assoc, le-ltb, lt-ltb, subst}
+use Rattle.std.specs.Cmp.Lexicographic.{same_text}
 use Rattle.std.specs.List.{starts_with}
-use Rattle.std.proofs.lemmas.List.{length-drop, length-take-le}
+use Rattle.std.proofs.lemmas.List.{length-drop, length-take, length-take-le}
 use Rattle.hex.specs.Hex.{IsBytes}
 use Rattle.h2_spec.specs.Frame.{head_at, head_of, preface}
 use Rattle.h2_spec.specs.Octets.{four_octets, two_octets}
@@ -69,6 +70,14 @@ head_nine h b head = go (nat_lt (length b) 9) refl head
 pub next_preface : (first : Bool) (b : List ℕ) → (first && starts_with nat_eq b preface) ≡ true → next_said first b ≡ One Preface false 24
 unfolding next_said
 next_preface first b e = rw e refl
+
+-- octets that begin with the preface are at least as many
+pub preface_long : (first : Bool) (b : List ℕ) → (first && starts_with nat_eq b preface) ≡ true → 24 ≤ length b
+unfolding preface
+preface_long false b e = absurd (cc)
+preface_long true b e =
+    let front : length preface ≡ length (take 24 b) = ap length (same_text preface (take 24 b) (sym e)) in
+    omega (arith, front, length-take 24 b)
 
 -- octets have one head
 pub head_same : (b : List ℕ) (h k : Head) → Some h ≡ head_at b → Some k ≡ head_at b → h ≡ k

@@ -1,8 +1,9 @@
 use Rattle.std.proofs.Common.{◌∙◌, sym, refl, arith}
 use Rattle.std.proofs.lemmas.List.{length-drop}
+use Rattle.std.proofs.lemmas.Result.{IfOk-from_err}
 use Rattle.h2_spec.specs.Script.{Preface}
 use Rattle.h2_spec.specs.Written.{frame_said}
-use Rattle.h2_script.proofs.Written.{frame_short, head_nine, next_frame, next_none, next_preface, payload_long}
+use Rattle.h2_script.proofs.Written.{frame_short, head_nine, next_frame, next_none, next_preface, payload_long, preface_long}
 use Rattle.h2_script.proofs.disassembler.push_next.Goals as goal
 
 pub returns-then-begins_with_preface-clause-next : goal.returns-then-begins_with_preface-clause-next
@@ -33,3 +34,24 @@ returns-clause-within g c =
     let b = c.args.octets.now in
     let size = payload_long b c.in-Some.head c.in-Some.payload.now c.in-Some.ensures.1 c.in-Some.ensures.2 in
     omega (arith, size, c.in-Some.ensures.1, head_nine c.in-Some.head b c.in-Some.ensures.0, length-drop 9 b)
+
+pub returns-in_err-push_str-clause-next : goal.returns-in_err-push_str-clause-next
+returns-in_err-push_str-clause-next g c = IfOk-from_err c.from_residual.result _ c.from_residual.ensures.0
+
+pub returns-in_err-push_str-clause-within : goal.returns-in_err-push_str-clause-within
+returns-in_err-push_str-clause-within g c = IfOk-from_err c.from_residual.result _ c.from_residual.ensures.0
+
+pub returns-in_err-push_frame-clause-next : goal.returns-in_err-push_frame-clause-next
+returns-in_err-push_frame-clause-next g c = IfOk-from_err c.from_residual-in_err-push_frame.result _ c.from_residual-in_err-push_frame.ensures.0
+
+pub returns-in_err-push_frame-clause-within : goal.returns-in_err-push_frame-clause-within
+returns-in_err-push_frame-clause-within g c = IfOk-from_err c.from_residual-in_err-push_frame.result _ c.from_residual-in_err-push_frame.ensures.0
+
+pub returns-then-begins_with_preface-clause-within : goal.returns-then-begins_with_preface-clause-within
+returns-then-begins_with_preface-clause-within g c = preface_long c.args.first c.args.octets.now (sym c.begins_with_preface.ensures ∙ c.if-begins_with_preface.true)
+
+pub overflow_add-result : goal.overflow_add-result
+overflow_add-result g c =
+    let b = c.args.octets.now in
+    let size = payload_long b c.in-Some.head c.in-Some.payload.now c.in-Some.ensures.1 c.in-Some.ensures.2 in
+    omega (arith, size, frame_short b c.in-Some.head (λ i. let fits = c.type_inv.octets i in omega arith) c.in-Some.ensures.0)
