@@ -3,6 +3,7 @@ pub mod Fragments
 pub mod Instructions
 pub mod Lines
 pub mod Long
+pub mod Payloads
 pub mod Scans
 pub mod Strings
 pub mod Written
