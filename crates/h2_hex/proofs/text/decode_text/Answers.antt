@@ -60,7 +60,7 @@ loop-rest-preserved g c =
         step-decoded (octets_spelled c.args.text.now) (octets_spelled c.loop-rest.rest.now) after octets block c.extend_from_slice.new.self.items
           c.loop-rest.invariant.spelled
           (c.in-Some.ensures.spelled ∙ ap (all_in_front block) passed)
-          (c.in_ok-extend_from_slice.ensures.items ∙ ap (λ xs. octets ++ xs) c.octets_up_to.ensures);
+          (◌∙◌ {b = octets ++ c.octets_up_to.result.now} c.in_ok-extend_from_slice.ensures.items (ap (λ xs. octets ++ xs) c.octets_up_to.ensures));
       some = c.width_after-width.ensures.some;
       few = c.width_after-width.ensures.few;
     }
