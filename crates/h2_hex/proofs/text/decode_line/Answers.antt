@@ -26,3 +26,27 @@ returns-in-Some-clause-within c =
     let long = ap (λ xs. length xs) c.octets_up_to.ensures ∙ length-take-le used.result c.args.text.now used.ensures.within in
     let few : c.in-Some.count ≤ most_octets = omega (arith, c.in-Some.ensures.count, long, used.ensures.few) in
     (some, used.ensures.within, few)
+
+pub returns-then-used-lt-LINE-clause-spelled : goal.returns-then-used-lt-LINE-clause-spelled
+returns-then-used-lt-LINE-clause-spelled c = c.decode_spaced.ensures.spelled
+
+pub returns-then-used-lt-LINE-clause-within : goal.returns-then-used-lt-LINE-clause-within
+returns-then-used-lt-LINE-clause-within c = c.decode_spaced.ensures.within
+
+pub returns-then-used-lt-LINE-clause-none : goal.returns-then-used-lt-LINE-clause-none
+returns-then-used-lt-LINE-clause-none c = c.decode_spaced.ensures.none
+
+pub returns-then-used-lt-LINE-clause-same : goal.returns-then-used-lt-LINE-clause-same
+returns-then-used-lt-LINE-clause-same c = c.decode_spaced.ensures.same
+
+pub returns-in-None-clause-spelled : goal.returns-in-None-clause-spelled
+returns-in-None-clause-spelled c = c.decode_spaced-in-None.ensures.spelled
+
+pub returns-in-None-clause-within : goal.returns-in-None-clause-within
+returns-in-None-clause-within c = c.decode_spaced-in-None.ensures.within
+
+pub returns-in-None-clause-none : goal.returns-in-None-clause-none
+returns-in-None-clause-none c = c.decode_spaced-in-None.ensures.none
+
+pub returns-in-None-clause-same : goal.returns-in-None-clause-same
+returns-in-None-clause-same c = c.decode_spaced-in-None.ensures.same ∙ c.decode_block.ensures.same
