@@ -11,7 +11,7 @@ decode_block-requires-clause-block c = c.requires.block
 pub returns-in-Some-clause-spelled : goal.returns-in-Some-clause-spelled
 returns-in-Some-clause-spelled c =
     plain-decoded c.args.text.now (take c.in-Some.count c.decode_block.new.block) c.min-used.result
-      (ap body_of (sym c.octets_up_to.ensures) ∙ c.in-Some.ensures.some)
+    (ap body_of (sym c.octets_up_to.ensures) ∙ c.in-Some.ensures.some)
 
 pub returns-in-Some-clause-within : goal.returns-in-Some-clause-within
 returns-in-Some-clause-within c =

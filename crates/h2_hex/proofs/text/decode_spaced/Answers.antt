@@ -8,7 +8,7 @@ pub returns-in-Some-clause-spelled : goal.returns-in-Some-clause-spelled
 returns-in-Some-clause-spelled c =
     let t = c.take_digits-used in
     spaced-decoded c.args.text.now t.new.digits.items (take c.in-Some.count c.decode_block.new.block) t.result t.ensures.digits
-      (ap body_of (sym c.as_slice.ensures.value) ∙ c.in-Some.ensures.some)
+    (ap body_of (sym c.as_slice.ensures.value) ∙ c.in-Some.ensures.some)
 
 pub returns-in-Some-clause-within : goal.returns-in-Some-clause-within
 returns-in-Some-clause-within c =
@@ -20,7 +20,7 @@ pub returns-in-None-clause-none : goal.returns-in-None-clause-none
 returns-in-None-clause-none c =
     let t = c.take_digits-used in
     spaced-refused c.args.text.now t.new.digits.items t.result t.ensures.digits t.ensures.few t.ensures.whole
-      (ap body_of (sym c.as_slice.ensures.value) ∙ c.in-None.ensures.none)
+    (ap body_of (sym c.as_slice.ensures.value) ∙ c.in-None.ensures.none)
 
 pub decode_block-requires-clause-block : goal.decode_block-requires-clause-block
 decode_block-requires-clause-block c = c.requires.block

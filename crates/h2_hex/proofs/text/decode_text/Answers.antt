@@ -14,8 +14,8 @@ returns-in_err-reserve-clause-none g c = IfOk-from_err c.from_residual.result _ 
 pub loop-rest-init : goal.loop-rest-init
 loop-rest-init g c = record {
   spelled =
-    sym c.after_spaces-rest.ensures.spelled
-    ∙ none-decoded (octets_spelled c.after_spaces-rest.result.now) c.reserve.new.self.items (c.in_ok-reserve.ensures.items ∙ c.requires);
+      sym c.after_spaces-rest.ensures.spelled
+      ∙ none-decoded (octets_spelled c.after_spaces-rest.result.now) c.reserve.new.self.items (c.in_ok-reserve.ensures.items ∙ c.requires);
   some = omega arith;
   few = omega arith;
 }
@@ -46,7 +46,7 @@ pub loop-rest-smaller : goal.loop-rest-smaller
 loop-rest-smaller g c =
     let passed = ap (λ xs. length xs) c.octets_from-after.ensures ∙ length-drop c.in-Some.used c.loop-rest.rest.now in
     let less : length c.after_spaces-rest-in-loop-rest.result.now < length c.loop-rest.rest.now =
-        omega (arith, c.after_spaces-rest-in-loop-rest.ensures.within, passed, c.in-Some.ensures.within.0, c.in-Some.ensures.within.1) in
+    omega (arith, c.after_spaces-rest-in-loop-rest.ensures.within, passed, c.in-Some.ensures.within.0, c.in-Some.ensures.within.1) in
     less
 
 pub loop-rest-preserved : goal.loop-rest-preserved
@@ -57,7 +57,7 @@ loop-rest-preserved g c =
     let passed = ap octets_spelled (sym c.octets_from-after.ensures) ∙ sym c.after_spaces-rest-in-loop-rest.ensures.spelled in
     record {
       spelled =
-        step-decoded (octets_spelled c.args.text.now) (octets_spelled c.loop-rest.rest.now) after octets block c.extend_from_slice.new.self.items
+          step-decoded (octets_spelled c.args.text.now) (octets_spelled c.loop-rest.rest.now) after octets block c.extend_from_slice.new.self.items
           c.loop-rest.invariant.spelled
           (c.in-Some.ensures.spelled ∙ ap (all_in_front block) passed)
           (◌∙◌ {b = octets ++ c.octets_up_to.result.now} c.in_ok-extend_from_slice.ensures.items (ap (λ xs. octets ++ xs) c.octets_up_to.ensures));

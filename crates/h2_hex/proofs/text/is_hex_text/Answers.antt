@@ -25,7 +25,7 @@ pub loop-rest-smaller : goal.loop-rest-smaller
 loop-rest-smaller c =
     let passed = ap (λ (xs : List ℕ). length xs) c.octets_from-after.ensures ∙ length-drop c.in-Some.used c.loop-rest.rest.now in
     let less : length c.after_spaces-rest-in-loop-rest.result.now < length c.loop-rest.rest.now =
-        omega (arith, c.after_spaces-rest-in-loop-rest.ensures.within, passed, c.in-Some.ensures.within.0, c.in-Some.ensures.within.1) in
+    omega (arith, c.after_spaces-rest-in-loop-rest.ensures.within, passed, c.in-Some.ensures.within.0, c.in-Some.ensures.within.1) in
     less
 
 pub loop-rest-preserved : goal.loop-rest-preserved
@@ -34,7 +34,7 @@ loop-rest-preserved c =
     let passed = ap octets_spelled (sym c.octets_from-after.ensures) ∙ sym c.after_spaces-rest-in-loop-rest.ensures.spelled in
     record {
       spelled =
-        step-some (octets_spelled c.args.text.now) (octets_spelled c.loop-rest.rest.now) after _ c.loop-rest.invariant.spelled
+          step-some (octets_spelled c.args.text.now) (octets_spelled c.loop-rest.rest.now) after _ c.loop-rest.invariant.spelled
           (c.in-Some.ensures.spelled ∙ ap (all_in_front _) passed);
       some = c.width_after-width.ensures.some;
       few = c.width_after-width.ensures.few;
