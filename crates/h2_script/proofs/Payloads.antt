@@ -28,12 +28,12 @@ pub payload_instructions : (text rest : List ℕ) (form : ℕ) → text ≡ form
 unfolding payload_at
 payload_instructions text rest form is instructions = rw (is, instructions) refl
 
--- octets stand for themselves
+-- octets are what they say
 pub octets_said : (read : Option (List ℕ)) → read ≡ option_map payload_octets (option_map Octets read)
 octets_said None = refl
 octets_said (Some octets) = refl
 
--- settings stand for six octets each
+-- each setting is six octets
 pub settings_said : (read : Option (List (ℕ × ℕ))) → option_map (flat_map setting_octets) read ≡ option_map payload_octets (option_map Pairs read)
 settings_said None = refl
 settings_said (Some pairs) = refl
