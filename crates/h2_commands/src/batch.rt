@@ -1,14 +1,13 @@
 //! A command that reads its whole input, from what the words ask for to its output and the exit status. Definitions:
 //! `specs/Printed.antt`, `specs/CommandEnd.antt`.
 
-ghost use Rattle.std.specs.Prelude.{◌≡◌, ◌==◌, ◌≤◌, length, ◌<◌, ◌⊎◌, ◌++◌, ℕ, List, Some, Ok, Err, true, false, IfOk, IfErr, OnOk};
+ghost use Rattle.std.specs.Prelude.{◌≡◌, ◌==◌, ◌<◌, ◌⊎◌, ◌++◌, ℕ, List, Some, Ok, Err, false, IfOk, IfErr, OnOk};
 ghost use Rattle.h2_words.specs.Plans.{batch_asked};
 ghost use Rattle.h2_commands.specs.Reports.{seen};
 ghost use Rattle.h2_commands.specs.Books.{book_in};
 ghost use Rattle.h2_commands.specs.Each.{not_written, printed_after};
 ghost use Rattle.h2_commands.specs.CommandEnd.{EndsBatch, KnowsFile, Prints, PrintsSome, asks_why_batch, file_of};
 ghost use Rattle.h2_commands.specs.Faults.{fault_number};
-ghost use Rattle.h2_commands.specs.Input.{most};
 ghost use Rattle.h2_hex.specs.HexText.{octets_spelled};
 ghost use Rattle.h2_commands.specs.TableProgram.{table_parts, table_text};
 ghost use Rattle.h2_commands.specs.Printed.{OrCutShort, done, failed, failed_as, places, places_play, printed, printed_play};

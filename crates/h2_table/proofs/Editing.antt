@@ -2,6 +2,7 @@
 use Rattle.std.proofs.Common.{◌≡◌, ℕ, zero, suc, ◌+◌, ◌-◌, ◌<◌, ◌≤◌, List, [], ◌∷◌, ◌++◌, length, length-append, get_or, take, Some, None, slice_get, refl, ap, ◌∙◌, sym, arith}
 use Rattle.std.proofs.lemmas.List.{get_or_append_left, take_more, take_all, append_assoc, length-take}
 use Rattle.std.proofs.lemmas.Option.{slice_get-get_or, slice_get_within, slice_get_past, get_or_from_slice_get}
+use Rattle.circular_buffer.proofs.Places.{slice_get-append_right, slice_get-take}
 use Rattle.h2_spec.specs.Field.{Field, size}
 use Rattle.h2_spec.specs.DynamicTable.{Table, total_size, fit, entry_at, insert, resize}
 use Rattle.h2_spec.proofs.TableLaws.{fit-cons, fit-none, fit-zero, fit-evict, total_size-append, total_size-length}
@@ -48,24 +49,13 @@ entry-added (suc n) added rest x h l e =
     let sum = length-append added rest in
     sym (slice_get-get_or (added ++ rest) n x (omega (arith, sum)) ∙ ap Some (get_or_append_left added rest x n (omega arith) ∙ ap (λ k. get_or added k x) (sym at) ∙ sym e))
 
--- what follows a list
-slice_get-after : (xs ys : List Field) (n : ℕ) → slice_get (xs ++ ys) (length xs + n) ≡ slice_get ys n
-slice_get-after [] ys n = let e : 0 + n ≡ n = omega arith in ap (slice_get ys) e
-slice_get-after (x ∷ xs) ys n = let e : suc (length xs) + n ≡ suc (length xs + n) = omega arith in ap (slice_get (x ∷ (xs ++ ys))) e ∙ slice_get-after xs ys n
-
-slice_get-take : (n kept : ℕ) (xs : List Field) → n < kept → slice_get xs n ≡ slice_get (take kept xs) n
-slice_get-take n zero xs h = absurd (omega arith)
-slice_get-take n (suc k) [] h = refl
-slice_get-take zero (suc k) (x ∷ xs) h = refl
-slice_get-take (suc n) (suc k) (x ∷ xs) h = slice_get-take n k xs (omega arith)
-
 -- an entry of the table's own
 pub entry-own : (i count kept : ℕ) (added own : List Field) → count ≡ length added → count < i → i - count ≤ kept → entry_at (i - count) own ≡ entry_at i (added ++ take kept own)
 entry-own i count kept added own e h l =
     let n = i - count - 1 in
     let here : i - count ≡ suc n = omega arith in
     let there : i ≡ suc (length added + n) = omega (arith, e) in
-    ap (λ k. entry_at k own) here ∙ slice_get-take n kept own (omega arith) ∙ sym (slice_get-after added (take kept own) n) ∙ ap (λ k. entry_at k (added ++ take kept own)) (sym there)
+    ap (λ k. entry_at k own) here ∙ sym (slice_get-take kept own n (omega arith)) ∙ sym (slice_get-append_right added (take kept own) (length added + n) n refl) ∙ ap (λ k. entry_at k (added ++ take kept own)) (sym there)
 
 -- none is past the oldest
 pub entry-past : (i count kept : ℕ) (added own : List Field) → count ≡ length added → kept < i - count → None ≡ entry_at i (added ++ take kept own)
