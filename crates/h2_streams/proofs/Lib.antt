@@ -1,5 +1,6 @@
 mod IdsLaws
 mod LiveLaws
+mod PatchLaws
 pub mod PlaceLaws
 mod ReadyRows
 pub mod RebuiltLaws

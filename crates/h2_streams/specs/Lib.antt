@@ -1,6 +1,7 @@
 pub mod Greatest
 pub mod Hash
 pub mod Kept
+pub mod Patches
 pub mod Put
 pub mod Rebuilt
 pub mod Sends

@@ -1,83 +1,29 @@
 //! The records of streams that can still change, kept to be made again later (RFC 9113, 5.1). Lists that are kept one
-//! after another share the records that they have in common, by counted pointers, and a list that is the same as the one
-//! before is shared as a whole. Send windows are a list apart (`sends.rt`). Contracts see the records that were kept, and
-//! nothing of what is shared. Definitions: `specs/Sends.antt`.
+//! after another share the records that they have in common, by counted pointers. A list that is the same as the one
+//! before is shared as a whole; one that differs little is the list before it that was kept whole, and a patch of it
+//! (`patch.rt`). Send windows are a list apart (`sends.rt`). Contracts see the records that were kept, and nothing of
+//! what is shared. Definitions: `specs/Sends.antt`, `specs/Patches.antt`.
 
-ghost use Rattle.std.specs.Prelude.{◌≡◌, ◌↔◌, IfOk, length, map, true};
+ghost use Rattle.std.specs.Prelude.{◌≡◌, IfOk, length, map};
 ghost use Rattle.std.specs.List.{filter};
-ghost use Rattle.h2_spec.specs.Change.{with_send};
 ghost use Rattle.h2_streams.specs.Rebuilt.{is_live_or};
 ghost use Rattle.h2_streams.specs.Sends as spec;
 
+use crate::patch::{Patch, count_steps};
 use crate::records::Streams;
-use crate::sends::{Record, new_sends, next_sends};
+use crate::sends::{new_sends, next_sends};
+use crate::shared::{SharedStream, are_these, joined, shared_streams};
 use h2_spec::flow::Window;
 use h2_spec::streams::Stream;
 use std::alloc::{AllocError, Allocator};
 use std::marker::Model;
 use std::rc::Rc;
 
-/// A record that lists share; contracts see the record.
-#[derive(Drop)]
-struct SharedStream<A: Allocator> {
-    record: Rc<Record, A>,
-}
-
-impl<A: Allocator> Model for SharedStream<A> {
-    ghost use Rattle.h2_spec.specs.declared.streams.Stream as spec;
-
-    ghost Value = { spec.Stream };
-
-    ghost view = { λ s. s.record.value };
-}
-
-impl<A: Allocator + Copy> SharedStream<A> {
-    /// The record without its send window, which can be shared.
-    fn of(stream: &Stream, alloc: A) -> Result<Self, AllocError>
-        ensures { IfOk result (λ shared. shared ≡ spec.without_send stream.now) }
-    {
-        match Rc::new(alloc, Record::of(stream)) {
-            Ok(record) => Ok(SharedStream { record }),
-            Err(_) => Err(AllocError),
-        }
-    }
-
-    /// A copy of the record, shared.
-    fn share(&self) -> Result<Self, AllocError>
-        ensures { IfOk result (λ shared. shared ≡ self.now) }
-    {
-        Ok(SharedStream {
-            record: self.record.clone()?,
-        })
-    }
-
-    /// The stream's identifier.
-    fn id(&self) -> u32
-        ensures { result ≡ self.now.id }
-    {
-        self.record.as_ref().id()
-    }
-
-    /// The record with this send window.
-    fn with_send(&self, send: Window) -> Stream
-        ensures { result ≡ with_send self.now send }
-    {
-        self.record.as_ref().with_send(send)
-    }
-
-    /// Whether it is this record without its send window.
-    fn is(&self, stream: &Stream) -> bool
-        ensures { (result ≡ true) ↔ (self.now ≡ spec.without_send stream.now) }
-    {
-        self.record.as_ref().is(stream)
-    }
-}
-
 /// The records of streams that could still change at one time, in the order of opening.
 #[derive(Drop)]
 pub struct KeptStreams<A: Allocator> {
     /// The records without their send windows.
-    records: Rc<Vec<SharedStream<A>, A>, A>,
+    records: SharedList<A>,
     /// Their send windows.
     sends: Rc<Vec<Window, A>, A>,
 }
@@ -89,9 +35,9 @@ impl<A: Allocator> Model for KeptStreams<A> {
 
     ghost Value = { List streams.Stream };
 
-    ghost view = { λ k. with_sends k.records.value.items k.sends.value.items };
+    ghost view = { λ k. with_sends k.records k.sends.value.items };
 
-    ghost invariant = { λ k. length k.sends.value.items ≡ length k.records.value.items };
+    ghost invariant = { λ k. length k.sends.value.items ≡ length k.records };
 }
 
 impl<A: Allocator + Copy> Streams<A> {
@@ -132,17 +78,12 @@ impl<A: Allocator + Copy> KeptStreams<A> {
     pub fn list(&self) -> Result<Vec<Stream, A>, AllocError>
         ensures same { IfOk result (λ list. list.items ≡ self.now) }
     {
-        let alloc = *self.allocator();
-        joined(
-            self.records.as_ref().as_slice(),
-            self.sends.as_ref().as_slice(),
-            alloc,
-        )
+        self.records.with_sends(self.sends.as_ref().as_slice())
     }
 
     /// The allocator that the records are from.
     pub fn allocator(&self) -> &A {
-        self.records.as_ref().allocator()
+        self.sends.as_ref().allocator()
     }
 }
 
@@ -165,120 +106,149 @@ fn records_after<A: Allocator + Copy>(
     streams: &[Stream],
     earlier: Option<&KeptStreams<A>>,
     alloc: A,
-) -> Result<Rc<Vec<SharedStream<A>, A>, A>, AllocError>
-    ensures { IfOk result (λ records. records.value.items ≡ map spec.without_send streams.now) }
+) -> Result<SharedList<A>, AllocError>
+    ensures { IfOk result (λ records. records ≡ map spec.without_send streams.now) }
 {
     match earlier {
-        Some(earlier) => next_records(streams, &earlier.records, alloc),
+        Some(earlier) => earlier.records.next(streams, alloc),
         None => {
             let none = Vec::new(alloc);
-            new_records(streams, none.as_slice(), alloc)
+            SharedList::whole(streams, none.as_slice(), alloc)
         }
     }
 }
 
-/// The records without their send windows: all that there were before, where they are the same.
-fn next_records<A: Allocator + Copy>(
-    streams: &[Stream],
-    earlier: &Rc<Vec<SharedStream<A>, A>, A>,
-    alloc: A,
-) -> Result<Rc<Vec<SharedStream<A>, A>, A>, AllocError>
-    ensures { IfOk result (λ records. records.value.items ≡ map spec.without_send streams.now) }
-{
-    let records = earlier.as_ref().as_slice();
-    if are_these(records, streams) {
-        return Ok(earlier.clone()?);
-    }
-    new_records(streams, records, alloc)
+/// Records without their send windows, as a whole list that others share, and what differs from it; contracts see the
+/// records.
+#[derive(Drop)]
+struct SharedList<A: Allocator> {
+    /// The whole list.
+    base: Rc<Vec<SharedStream<A>, A>, A>,
+    /// What differs from it, if something does.
+    patch: Option<Rc<Patch<A>, A>>,
+    /// The steps of all patches of the whole list up to this one.
+    steps: usize,
 }
 
-/// The records without their send windows, each shared with an earlier one where that is the same.
-fn new_records<A: Allocator + Copy>(
-    streams: &[Stream],
-    earlier: &[SharedStream<A>],
-    alloc: A,
-) -> Result<Rc<Vec<SharedStream<A>, A>, A>, AllocError>
-    ensures { IfOk result (λ records. records.value.items ≡ map spec.without_send streams.now) }
-{
-    let records = shared_streams(streams, earlier, alloc)?;
-    match Rc::new(alloc, records) {
-        Ok(records) => Ok(records),
-        Err(_) => Err(AllocError),
-    }
+impl<A: Allocator> Model for SharedList<A> {
+    ghost use Rattle.std.specs.Prelude.{List};
+    ghost use Rattle.std.specs.Option.{option_map_or};
+    ghost use Rattle.h2_spec.specs.declared.streams.Stream as streams;
+    ghost use Rattle.h2_streams.specs.Patches.{patched};
+
+    ghost Value = { List streams.Stream };
+
+    ghost view = { λ s. option_map_or (λ p. patched s.base.value.items p.value.steps.items p.value.last) s.patch s.base.value.items };
 }
 
-/// Whether shared records are these without their send windows.
-fn are_these<A: Allocator + Copy>(shared: &[SharedStream<A>], streams: &[Stream]) -> bool
-    ensures { (result ≡ true) ↔ (shared.now ≡ map spec.without_send streams.now) }
-{
-    if shared.len() != streams.len() {
-        return false;
-    }
-    for i in 0..streams.len() {
-        if !shared[i].is(&streams[i]) {
-            return false;
+impl<A: Allocator + Copy> SharedList<A> {
+    /// A whole list of these records without their send windows, each shared with an earlier one where that is the same.
+    fn whole(streams: &[Stream], earlier: &[SharedStream<A>], alloc: A) -> Result<Self, AllocError>
+        ensures { IfOk result (λ records. records ≡ map spec.without_send streams.now) }
+    {
+        let records = shared_streams(streams, earlier, alloc)?;
+        match Rc::new(alloc, records) {
+            Ok(base) => Ok(SharedList {
+                base,
+                patch: None,
+                steps: 0,
+            }),
+            Err(_) => Err(AllocError),
         }
     }
-    true
-}
 
-/// The first place from this one on whose record's identifier is not below this one.
-fn place_from<A: Allocator + Copy>(shared: &[SharedStream<A>], from: usize, id: u32) -> usize {
-    for place in from..shared.len() {
-        if shared[place].id() >= id {
-            return place;
+    /// The records without their send windows, shared with this list where those are the same.
+    fn next(&self, streams: &[Stream], alloc: A) -> Result<Self, AllocError>
+        ensures { IfOk result (λ records. records ≡ map spec.without_send streams.now) }
+    {
+        let base = self.base.as_ref().as_slice();
+        match &self.patch {
+            Some(patch) => {
+                let list = patch.as_ref().list(base, alloc)?;
+                self.after(list.as_slice(), streams, alloc)
+            }
+            None => self.after(base, streams, alloc),
         }
     }
-    shared.len()
-}
 
-/// A record without its send window, shared with an earlier one where that is the same.
-fn share_or_copy<A: Allocator + Copy>(
-    stream: &Stream,
-    earlier: Option<&SharedStream<A>>,
-    alloc: A,
-) -> Result<SharedStream<A>, AllocError>
-    ensures { IfOk result (λ shared. shared ≡ spec.without_send stream.now) }
-{
-    if let Some(shared) = earlier {
-        if shared.is(stream) {
-            return shared.share();
+    /// The same; this list's records are given. A patch takes 16 octets for each step and a whole list 8 for each
+    /// record: where the patches of one whole list would take more than another, that is made.
+    fn after(
+        &self,
+        records: &[SharedStream<A>],
+        streams: &[Stream],
+        alloc: A,
+    ) -> Result<Self, AllocError>
+        requires { records.now ≡ self.now }
+        ensures { IfOk result (λ records. records ≡ map spec.without_send streams.now) }
+    {
+        if are_these(records, streams) {
+            return self.share();
+        }
+        let steps = count_steps(streams, self.base.as_ref().as_slice());
+        if streams.len() < 32 || self.steps.saturating_add(steps) > streams.len() / 2 {
+            return SharedList::whole(streams, records, alloc);
+        }
+        self.patched(streams, records, steps, alloc)
+    }
+
+    /// The list, shared.
+    fn share(&self) -> Result<Self, AllocError>
+        ensures { IfOk result (λ list. list ≡ self.now) }
+    {
+        let base = self.base.clone()?;
+        let patch = match &self.patch {
+            Some(patch) => Some(patch.clone()?),
+            None => None,
+        };
+        Ok(SharedList {
+            base,
+            patch,
+            steps: self.steps,
+        })
+    }
+
+    /// The records without their send windows, as the whole list of this one and a patch with this many steps.
+    fn patched(
+        &self,
+        streams: &[Stream],
+        earlier: &[SharedStream<A>],
+        steps: usize,
+        alloc: A,
+    ) -> Result<Self, AllocError>
+        ensures { IfOk result (λ records. records ≡ map spec.without_send streams.now) }
+    {
+        let patch = Patch::of(
+            streams,
+            self.base.as_ref().as_slice(),
+            earlier,
+            steps,
+            alloc,
+        )?;
+        let base = self.base.clone()?;
+        match Rc::new(alloc, patch) {
+            Ok(patch) => Ok(SharedList {
+                base,
+                patch: Some(patch),
+                steps: self.steps.saturating_add(steps),
+            }),
+            Err(_) => Err(AllocError),
         }
     }
-    SharedStream::of(stream, alloc)
-}
 
-/// Records without their send windows, shared with earlier ones where those are the same. Both are in the order of
-/// opening.
-fn shared_streams<A: Allocator + Copy>(
-    streams: &[Stream],
-    earlier: &[SharedStream<A>],
-    alloc: A,
-) -> Result<Vec<SharedStream<A>, A>, AllocError>
-    ensures { IfOk result (λ list. list.items ≡ map spec.without_send streams.now) }
-{
-    let mut list = Vec::with_capacity(alloc, streams.len())?;
-    let mut place = 0;
-    for stream in streams {
-        place = place_from(earlier, place, stream.id);
-        let shared = share_or_copy(stream, earlier.get(place), alloc)?;
-        list.push(shared)?;
+    /// The records with these send windows.
+    fn with_sends(&self, sends: &[Window]) -> Result<Vec<Stream, A>, AllocError>
+        requires { length sends.now ≡ length self.now }
+        ensures { IfOk result (λ list. list.items ≡ spec.with_sends self.now sends.now) }
+    {
+        let base = self.base.as_ref().as_slice();
+        let alloc = *self.base.as_ref().allocator();
+        match &self.patch {
+            Some(patch) => {
+                let list = patch.as_ref().list(base, alloc)?;
+                joined(list.as_slice(), sends, alloc)
+            }
+            None => joined(base, sends, alloc),
+        }
     }
-    Ok(list)
-}
-
-/// Records with their send windows.
-fn joined<A: Allocator + Copy>(
-    records: &[SharedStream<A>],
-    sends: &[Window],
-    alloc: A,
-) -> Result<Vec<Stream, A>, AllocError>
-    requires { length sends.now ≡ length records.now }
-    ensures { IfOk result (λ list. list.items ≡ spec.with_sends records.now sends.now) }
-{
-    let mut list = Vec::with_capacity(alloc, records.len())?;
-    for i in 0..records.len() {
-        list.push(records[i].with_send(sends[i]))?;
-    }
-    Ok(list)
 }

@@ -9,10 +9,12 @@ mod ids;
 mod kept;
 mod kinds;
 mod live;
+mod patch;
 mod places;
 mod rebuilt;
 mod records;
 mod sends;
+mod shared;
 mod shift;
 mod walks;
 

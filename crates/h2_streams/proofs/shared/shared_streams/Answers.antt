@@ -3,7 +3,7 @@ use Rattle.std.proofs.lemmas.List.{take_all}
 use Rattle.std.proofs.lemmas.Result.{IfOk-from_err}
 use Rattle.h2_streams.specs.Sends.{without_send}
 use Rattle.h2_streams.proofs.SendLaws.{mapped-more}
-use Rattle.h2_streams.proofs.kept.shared_streams.Goals as goal
+use Rattle.h2_streams.proofs.shared.shared_streams.Goals as goal
 
 pub returns-in_err-list : goal.returns-in_err-list
 returns-in_err-list g c = IfOk-from_err c.from_residual.result _ c.from_residual.ensures.0

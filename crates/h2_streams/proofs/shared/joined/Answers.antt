@@ -2,7 +2,7 @@ use Rattle.std.proofs.Common.{◌∙◌, arith, sym}
 use Rattle.std.proofs.lemmas.List.{take_all}
 use Rattle.h2_streams.specs.Sends.{with_sends}
 use Rattle.h2_streams.proofs.SendLaws.{joined-more, length-joined}
-use Rattle.h2_streams.proofs.kept.joined.Goals as goal
+use Rattle.h2_streams.proofs.shared.joined.Goals as goal
 
 pub loop-i-preserved : goal.loop-i-preserved
 loop-i-preserved g c =
