@@ -137,17 +137,17 @@ impl<'b, A: Allocator + Copy> State<'b, A> {
 }
 
 impl<'b, A: Allocator + Copy> Checkpoint<'b, A> {
-    /// The state that the checkpoint was taken of, made again from the records of a later one.
-    fn state_by(&self, later: &State<'b, A>) -> Result<State<'b, A>, AllocError>
-        requires { Precedes self.now later.now }
-        ensures { IfOk result (λ state. (s : states.State) → self.now ≡ checkpoint_of s → Follows s later.now → state ≡ s) }
+    /// The state that the checkpoint was taken of, made again from the records of a later one, which is as it was.
+    pub(crate) fn state_by(&self, later: &mut State<'b, A>) -> Result<State<'b, A>, AllocError>
+        requires { Precedes self.now later.old }
+        ensures restored { IfOk result (λ state. (s : states.State) → self.now ≡ checkpoint_of s → Follows s later.old → state ≡ s) }
+        ensures same { later.new ≡ later.old }
     {
         later.consistent();
-        let kept = self.changing.list()?;
-        let changing = kept.as_slice();
         let table = self.table.restore()?;
-        let streams = later.streams.rebuilt(self.count, self.core.last, changing)?;
         let block = restore_open(&self.block)?;
+        let changing = self.changing.list()?;
+        let streams = later.streams.rebuilt(self.count, self.core.last, changing)?;
         Ok(State {
             book: self.book,
             config: self.config,
@@ -158,15 +158,16 @@ impl<'b, A: Allocator + Copy> Checkpoint<'b, A> {
         })
     }
 
-    /// The connection that the checkpoint was taken of, made again from the same connection later on. The records are copied at once;
-    /// no item is taken.
+    /// The connection that the checkpoint was taken of, made again from the same connection later on. Both share the records that
+    /// cannot change any more; no item is taken.
     ///
-    /// `AllocError` where memory for the connection is refused.
-    pub fn restore(&self, later: &Conn<'b, A>) -> Result<Conn<'b, A>, AllocError>
-        requires { Precedes self.now later.now.state }
-        ensures { IfOk result (λ conn. (s : states.State) → self.now ≡ checkpoint_of s → Follows s later.now.state → conn ≡ going s []) }
+    /// `AllocError` where memory for the connection is refused. The later connection is as it was.
+    pub fn restore(&self, later: &mut Conn<'b, A>) -> Result<Conn<'b, A>, AllocError>
+        requires { Precedes self.now later.old.state }
+        ensures restored { IfOk result (λ conn. (s : states.State) → self.now ≡ checkpoint_of s → Follows s later.old.state → conn ≡ going s []) }
+        ensures same { later.new ≡ later.old }
     {
-        let state = self.state_by(later.inside())?;
+        let state = later.state_at(self)?;
         Ok(Conn::at_rest(state, *self.changing.allocator()))
     }
 }

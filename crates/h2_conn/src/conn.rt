@@ -8,6 +8,7 @@ ghost use Rattle.h2_spec.specs.Errors.{code_number};
 ghost use Rattle.h2_spec.specs.Frame.{NoItem};
 ghost use Rattle.h2_spec.specs.Opening.{opening_octets};
 ghost use Rattle.h2_spec.specs.Show.{show};
+ghost use Rattle.h2_spec.specs.State as states;
 ghost use Rattle.h2_spec.specs.State.{ended_code, opening};
 ghost use Rattle.h2_spec.specs.View.{view};
 ghost use Rattle.h2_conn.specs.Connection.{going, halted, is_ended};
@@ -15,11 +16,13 @@ ghost use Rattle.h2_spec.specs.State.{is_allowed};
 ghost use Rattle.h2_conn.specs.declared.fault.ConnFault.TheVariants.{Failed, NoMemory};
 ghost use Rattle.h2_conn.specs.Faults.{refusal_after, refusal_for};
 ghost use Rattle.h2_conn.specs.First.{TakesIfAny};
+ghost use Rattle.h2_conn.specs.Checkpoint.{Precedes, checkpoint_of};
 ghost use Rattle.h2_conn.specs.Follows.{Follows};
 ghost use Rattle.h2_conn.specs.Reports.{reported, used_by};
 ghost use Rattle.h2_conn.specs.Runs.{Feeds, FeedsOne, Halts};
 ghost use Rattle.h2_spec.specs.Trace.{next_item};
 
+use crate::checkpoint::Checkpoint;
 use crate::fault::ConnFault;
 use crate::feeding::{take_one, take_piece};
 use crate::first::empty_splitter;
@@ -257,6 +260,20 @@ impl<'b, A: Allocator + Copy> Conn<'b, A> {
             scratch: Scratch::new(alloc),
             failed: false,
         }
+    }
+
+    /// The state that an earlier checkpoint was taken of, made again; the connection is as it was.
+    ///
+    /// `AllocError` where memory for the state is refused.
+    pub(crate) fn state_at(
+        &mut self,
+        checkpoint: &Checkpoint<'b, A>,
+    ) -> Result<State<'b, A>, AllocError>
+        requires { Precedes checkpoint.now self.old.state }
+        ensures restored { IfOk result (λ state. (s : states.State) → checkpoint.now ≡ checkpoint_of s → Follows s self.old.state → state ≡ s) }
+        ensures same { self.new ≡ self.old }
+    {
+        checkpoint.state_by(&mut self.state)
     }
 
     /// What is shown of the state; after it ran out of memory that of the items before it.

@@ -1,11 +1,12 @@
 -- What is kept of places.
-use Rattle.std.proofs.Common.{◌≡◌, ◌⊎◌, ◌∙◌, inl, inr, ℕ, zero, suc, Option, Some, None, cond, ◌+◌, ◌-◌, ◌*◌, ◌<◌, ◌≤◌, ◌/◌, List, [], ◌∷◌, ◌++◌, length, drop, Bool, true, false, true≢false, refl, sym, ap, arith}
+use Rattle.std.proofs.Common.{◌≡◌, ◌⊎◌, ◌∙◌, inl, inr, ℕ, zero, suc, Option, Some, None, cond, ◌+◌, ◌-◌, ◌*◌, ◌<◌, ◌≤◌, ◌/◌, List, [], ◌∷◌, ◌++◌, length, length-drop, drop, ltb-false, ltb-true, nat_lt, Bool, true, false, true≢false, refl, sym, ap, arith}
 use Rattle.std.specs.Prelude.{slice_get, min, max, nat_le, ◌&&◌}
 use Rattle.std.specs.Option.{is_some}
 use Rattle.std.proofs.Math.Nat.{div-mul-le_self, lt-div-mul-add, mul-div-le}
 use Rattle.std.proofs.lemmas.Bool.{cases_lt, cond_both, le-leb, leb-false, leb-true}
+use Rattle.h2_spec.specs.Debug.{stop, stop_from}
 use Rattle.h2_spec.specs.Parse.{Front, Stop, One, Parsed, parse_all, parse_first, parse_upto}
-use Rattle.h2_spec.specs.Trace.{next_event, trace}
+use Rattle.h2_spec.specs.Trace.{Event, next_event, trace}
 use Rattle.h2_debug.proofs.PlaceLaws.{place-anew, place-took}
 use Rattle.h2_debug.specs.Debugging.{Debugging, IsKept, farthest_or, nearest_kept, reached_among, replay_count, replay_start}
 use Rattle.h2_conn.specs.Connection.{Connection, going}
@@ -103,11 +104,11 @@ near-kept r now far kept reached replayed target k apart = go (cases_lt (min tar
 
 -- the debugger arrives at a place that a move has led to, after what was kept of the one that it leaves
 pub kept-arrived : (r : Source) (now far p far' : Placed) (ks ks' : List Kept) (reached replayed : ℕ) → IsKept r now far ks reached replayed → IsReached r p ks' → now.position < length ks' * 64 → length ks ≤ length ks'
-    → (reached ≤ p.position → far' ≡ p) → (p.position < reached → far' ≡ far) → IsKept r p far' ks' (max p.position reached) replayed
-kept-arrived r now far p far' ks ks' reached replayed k x left more ahead behind = by (cases_lt p.position reached)
+    → (reached < p.position → far' ≡ p) → (p.position ≤ reached → far' ≡ far) → IsKept r p far' ks' (max p.position reached) replayed
+kept-arrived r now far p far' ks ks' reached replayed k x left more ahead behind = by (cases_lt reached p.position)
   where
-    by : (p.position < reached) ⊎ (reached ≤ p.position) → IsKept r p far' ks' (max p.position reached) replayed
-    by (inl before) =
+    by : (reached < p.position) ⊎ (p.position ≤ reached) → IsKept r p far' ks' (max p.position reached) replayed
+    by (inr before) =
         let same : max p.position reached ≡ reached = omega (arith, before) in
         rw (same, behind before) (record {
           now = x.place;
@@ -119,7 +120,7 @@ kept-arrived r now far p far' ks ks' reached replayed k x left more ahead behind
           reached_is = k.reached_is;
           few = k.few;
         })
-    by (inr after) =
+    by (inl after) =
         let same : max p.position reached ≡ p.position = omega (arith, after) in
         rw (same, ahead after) (record {
           now = x.place;
@@ -157,23 +158,23 @@ farthest-some (Some far) p q h = refl
 
 -- the debugger takes one item where it is
 pub kept-stepped : (r : Source) (now p : Placed) (o : Option Placed) (ks ks' : List Kept) (reached replayed : ℕ) → IsKept r now (farthest_or o now) ks reached replayed → IsReached r p ks' → p.position ≡ now.position + 1
-    → length ks ≤ length ks' → IsKept r p (farthest_or (cond (nat_le reached p.position) None o) p) ks' (max p.position reached) replayed
-kept-stepped r now p o ks ks' reached replayed k x next more = by (nat_le reached p.position) refl o k
+    → length ks ≤ length ks' → IsKept r p (farthest_or (cond (nat_lt reached p.position) None o) p) ks' (max p.position reached) replayed
+kept-stepped r now p o ks ks' reached replayed k x next more = by (nat_lt reached p.position) refl o k
   where
-    by : (b : Bool) → nat_le reached p.position ≡ b → (o : Option Placed) → IsKept r now (farthest_or o now) ks reached replayed → IsKept r p (farthest_or (cond b None o) p) ks' (max p.position reached) replayed
+    by : (b : Bool) → nat_lt reached p.position ≡ b → (o : Option Placed) → IsKept r now (farthest_or o now) ks reached replayed → IsKept r p (farthest_or (cond b None o) p) ks' (max p.position reached) replayed
     by true e o k =
-        let after : reached ≤ p.position = leb-true reached p.position e in
+        let after : reached < p.position = ltb-true reached p.position e in
         kept-arrived r now (farthest_or o now) p p ks ks' reached replayed k x (omega (arith, next, x.below)) more (λ _. refl) (λ before. absurd (omega (arith, before, after)))
     by false e (Some far) k =
-        let before : p.position < reached = leb-false reached p.position e in
+        let before : p.position ≤ reached = ltb-false reached p.position e in
         kept-arrived r now far p far ks ks' reached replayed k x (omega (arith, next, x.below)) more (λ after. absurd (omega (arith, before, after))) (λ _. refl)
     by false e None k =
-        let before : p.position < reached = leb-false reached p.position e in
+        let before : p.position ≤ reached = ltb-false reached p.position e in
         absurd (omega (arith, before, next, k.far_is.as_far))
 
 -- the same, where an item was to come
 pub kept-took : (r : Source) (now p : Placed) (o : Option Placed) (ks ks' : List Kept) (reached replayed : ℕ) (b : Bool) → IsKept r now (farthest_or o now) ks reached replayed → IsReached r p ks' → Advances r now p b → now.position < end r
-    → length ks ≤ length ks' → IsKept r p (farthest_or (cond (nat_le reached p.position) None o) p) ks' (max p.position reached) replayed
+    → length ks ≤ length ks' → IsKept r p (farthest_or (cond (nat_lt reached p.position) None o) p) ks' (max p.position reached) replayed
 kept-took r now p o ks ks' reached replayed b k x took more le = kept-stepped r now p o ks ks' reached replayed k x (place-took r now p b took more).next le
 
 -- how many items a move ran again is counted
@@ -255,3 +256,53 @@ few-again target d ran is = let few : min target d.reached - replay_start target
 
 pub again-is : (target : ℕ) (d : Debugging) (ran : ℕ) → ran ≡ target - replay_start target d → ran - (target - d.reached) ≡ replay_count target d
 again-is target d ran is = omega (arith, is)
+
+rest-false : (a b : Bool) → a ≡ true → (a && b) ≡ false → b ≡ false
+rest-false true b is apart = apart
+rest-false false b is apart = absurd (true≢false (sym is))
+
+-- a move ahead starts where the debugger is or after that
+pub replay-start-ahead : (target : ℕ) (d : Debugging) → d.position ≤ target → d.position ≤ replay_start target d
+replay-start-ahead target d le =
+    cond_both (nat_le d.position target && nat_le (nearest_kept target d) d.position) d.position (nearest_kept target d) (λ (n : ℕ). d.position ≤ n)
+    (λ _. omega arith) (λ apart. let over = leb-false (nearest_kept target d) d.position (rest-false _ _ (le-leb d.position target le) apart) in omega (arith, over))
+
+-- and not after the position that it leads to
+pub replay-start-within : (target : ℕ) (d : Debugging) → d.position ≤ target → replay_start target d ≤ target
+replay-start-within target d le =
+    cond_both (nat_le d.position target && nat_le (nearest_kept target d) d.position) d.position (nearest_kept target d) (λ (n : ℕ). n ≤ target)
+    (λ _. le) (λ _. let low : min target d.reached / 64 * 64 ≤ min target d.reached = div-mul-le_self (min target d.reached) 64 in omega (arith, low))
+
+-- ---- where no breakpoint is set
+
+stop-from-none : (q : ℕ) (es : List Event) → stop_from [] q es ≡ q + length es - 1
+stop-from-none q [] = omega arith
+stop-from-none q (e ∷ es) = let rest = stop-from-none (q + 1) es in omega (arith, rest)
+
+-- a run goes to the end
+pub stop-none : (p : ℕ) (es : List Event) → p ≤ length es → stop [] es p ≡ length es
+unfolding stop
+stop-none p es le = let last = stop-from-none (p + 1) (drop p es) in omega (arith, last, length-drop p es, le)
+
+-- ---- a place that is made again from what was kept of it and the farthest one
+
+module _ (r : Source) (now far : Placed) (ks : List Kept) (reached replayed target : ℕ) (k : Kept) (is : IsKept r now far ks reached replayed) (there : slice_get ks (min target reached / 64) ≡ Some k) where
+  found : IsKeptOf r k × (k.position ≡ (0 + min target reached / 64) * 64)
+  found = kept-at r 0 (min target reached / 64) k ks is.kept_is there
+
+  behind : k.position ≤ far.position
+  behind =
+      let low : min target reached / 64 * 64 ≤ min target reached = div-mul-le_self (min target reached) 64 in
+      let far-is = is.far_is.as_far in
+      omega (arith, found.1, low, far-is)
+
+  pub restore-precedes : Precedes k.checkpoint far.connection.state
+  restore-precedes = kept-precedes r k far found.0 is.far_is.here behind
+
+  pub restore-at : (q : Placed) → ((p : Placed) → k ≡ kept_of p → p.connection ≡ going p.connection.state [] → Follows p.connection.state far.connection.state → q ≡ record p { ran = 0 })
+      → IsAt r q × (q.position ≡ min target reached / 64 * 64) × (q.ran ≡ 0)
+  restore-at q same =
+      let p = found.0.place in
+      let kept : k.position ≡ p.position = ap (λ (j : Kept). j.position) found.0.same in
+      let follows = place-follows r p far found.0.here is.far_is.here (omega (arith, behind, kept)) in
+      rw (same p found.0.same (place-goes r p found.0.here) follows) (place-anew r p found.0.here, omega (arith, kept, found.1), refl)

@@ -198,13 +198,14 @@ place-more r p x =
     let state : p.connection.state ≡ s = ap (λ (d : Connection). d.state) x.goes in
     rw state (item-follows s (next_item s (drop p.used r.octets)) (drop p.used r.octets) p.position (events r) refl x.later x.within)
 
--- ---- items are counted anew
+-- ---- items are counted
 
-pub place-anew : (r : Source) (p : Placed) → IsAt r p → IsAt r (record p { ran = 0 })
-place-anew r p x = record {
+-- a place that counts no more items than came before it
+pub place-counted : (r : Source) (p : Placed) (count : ℕ) → count ≤ p.position → IsAt r p → IsAt r (record p { ran = count })
+place-counted r p count few x = record {
   within = x.within;
   counted = x.counted;
-  few = omega arith;
+  few = few;
   used = x.used;
   goes = x.goes;
   later = x.later;
@@ -213,3 +214,7 @@ place-anew r p x = record {
   sent = x.sent;
   follows = x.follows;
 }
+
+-- items are counted anew
+pub place-anew : (r : Source) (p : Placed) → IsAt r p → IsAt r (record p { ran = 0 })
+place-anew r p x = place-counted r p 0 (omega arith) x

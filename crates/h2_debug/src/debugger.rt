@@ -98,7 +98,7 @@ fn is_between(low: usize, position: usize, high: usize) -> bool
 }
 
 /// Takes a place as the present one. The place that is left is kept where it is the farthest one; none is where the
-/// new one is as far as any that was reached. It takes no memory.
+/// new one is farther than any that was reached. It takes no memory.
 fn arrive<'b, A: Allocator + Copy>(
     present: &mut Place<'b, A>,
     farthest: &mut Option<Place<'b, A>>,
@@ -106,10 +106,10 @@ fn arrive<'b, A: Allocator + Copy>(
     place: Place<'b, A>,
 )
     ensures present { present.new ≡ place.entry }
-    ensures ahead { reached ≤ place.entry.position → farthest_or farthest.new place.entry ≡ place.entry }
-    ensures behind { place.entry.position < reached → farthest_or farthest.new place.entry ≡ farthest_or farthest.old present.old }
+    ensures ahead { reached < place.entry.position → farthest_or farthest.new place.entry ≡ place.entry }
+    ensures behind { place.entry.position ≤ reached → farthest_or farthest.new place.entry ≡ farthest_or farthest.old present.old }
 {
-    let is_ahead = reached <= place.position();
+    let is_ahead = reached < place.position();
     let left = mem::replace(present, place);
     if is_ahead {
         *farthest = None;
@@ -120,11 +120,11 @@ fn arrive<'b, A: Allocator + Copy>(
     }
 }
 
-/// Lets the farthest place go where the present position is as far as any that was reached.
+/// Lets the farthest place go where the present position is farther than any that was reached.
 fn pass<A: Allocator>(farthest: &mut Option<Place<'_, A>>, reached: usize, position: usize)
-    ensures { farthest.new ≡ (if nat_le reached position then None else farthest.old) }
+    ensures { farthest.new ≡ (if nat_lt reached position then None else farthest.old) }
 {
-    if reached <= position {
+    if reached < position {
         *farthest = None;
     }
 }
@@ -186,22 +186,12 @@ impl<'b, A: Allocator + Copy> Debugger<'b, A> {
         self.present.has_next(&source)
     }
 
-    /// The farthest place: the present one, or one where the debugger was before it moved back.
-    fn farthest_place(&self) -> &Place<'b, A>
-        ensures at { IsAt self.now.run result.now }
-        ensures reached { self.now.reached ≤ result.now.position }
-    {
-        match &self.farthest {
-            None => &self.present,
-            Some(place) => place,
-        }
-    }
-
     /// The place where a move to a position starts: the greatest one of which a checkpoint is kept that is not after it, or
     /// the present one where that is between the two. It has taken no item yet.
     /// `AllocError` if it is out of memory.
-    fn start_for(&self, target: usize) -> Result<Place<'b, A>, AllocError>
-        ensures { IfOk result (λ p. IsAt self.now.run p × (p.position ≡ replay_start target self.now) × (p.ran ≡ 0)) }
+    fn start_for(&mut self, target: usize) -> Result<Place<'b, A>, AllocError>
+        ensures place { IfOk result (λ p. IsAt self.old.run p × (p.position ≡ replay_start target self.old) × (p.ran ≡ 0)) }
+        ensures same { self.new ≡ self.old }
     {
         let index = target.min(self.reached) / SPACING;
         let near = is_between(index * SPACING, self.present.position(), target);
@@ -210,7 +200,25 @@ impl<'b, A: Allocator + Copy> Debugger<'b, A> {
             place.count_anew();
             return Ok(place);
         }
-        kept_at(self.kept.as_slice(), index).restore(self.farthest_place())
+        let kept = kept_at(self.kept.as_slice(), index);
+        match &mut self.farthest {
+            None => kept.restore(&mut self.present),
+            Some(place) => kept.restore(place),
+        }
+    }
+
+    /// The place where a move ahead to a position starts, as `start_for` finds it, but the items up to it are counted after
+    /// those that were run to the present position. `AllocError` if it is out of memory.
+    fn start_ahead(&mut self, target: usize) -> Result<Place<'b, A>, AllocError>
+        requires { self.old.position ≤ target }
+        ensures at { IfOk result (IsAt self.old.run) }
+        ensures start { IfOk result (λ p. p.position ≡ replay_start target self.old) }
+        ensures ran { IfOk result (λ p. p.ran ≡ self.old.ran + (p.position - self.old.position)) }
+        ensures same { self.new ≡ self.old }
+    {
+        let mut place = self.start_for(target)?;
+        place.count_from(&self.present);
+        Ok(place)
     }
 
     /// Moves from a place to a position or the end, if it comes as far as `least`, and returns the new position.
@@ -274,8 +282,8 @@ impl<'b, A: Allocator + Copy> Debugger<'b, A> {
         if count == 1 {
             return self.step_one();
         }
-        let place = self.copy_present()?;
         let target = start.saturating_add(count);
+        let place = self.start_ahead(target)?;
         match self.move_to(place, target, start)? {
             None => Ok(start),
             Some(position) => Ok(position),
@@ -376,9 +384,13 @@ impl<'b, A: Allocator + Copy> Debugger<'b, A> {
     /// Moves forward to the next position that a breakpoint matches, or to the end, and returns the new position.
     /// `AllocError` leaves the debugger as it was.
     fn run_on(&mut self) -> Result<usize, AllocError>
+        requires { self.old.position < end self.old.run }
         ensures ok { IfOk result (λ p. (p ≡ stop self.old.breaks (events self.old.run) self.old.position) × (self.new ≡ moved p self.old)) }
         ensures unchanged { OnErr result (self.new ≡ self.old) }
     {
+        if self.breaks.is_empty() {
+            return self.step_some(usize::MAX);
+        }
         let mut stop = self.copy_present()?;
         keep_if_due(&self.present, &mut self.kept)?;
         let source = Source {

@@ -71,13 +71,15 @@ impl<'b, A: Allocator + Copy> Kept<'b, A> {
         })
     }
 
-    /// The place of which this was kept, made again from a later one; `AllocError` if it is out of memory.
-    pub fn restore(&self, later: &Place<'b, A>) -> Result<Place<'b, A>, AllocError>
-        requires { Precedes self.now.checkpoint later.now.connection.state }
-        ensures { IfOk result (λ place. (p : Placed) → self.now ≡ kept_of p → p.connection ≡ going p.connection.state [] → Follows p.connection.state later.now.connection.state → place ≡ record p { ran = 0 }) }
+    /// The place of which this was kept, made again from a later one, which is as it was; `AllocError` if it is out of
+    /// memory.
+    pub fn restore(&self, later: &mut Place<'b, A>) -> Result<Place<'b, A>, AllocError>
+        requires { Precedes self.now.checkpoint later.old.connection.state }
+        ensures restored { IfOk result (λ place. (p : Placed) → self.now ≡ kept_of p → p.connection ≡ going p.connection.state [] → Follows p.connection.state later.old.connection.state → place ≡ record p { ran = 0 }) }
+        ensures same { later.new ≡ later.old }
     {
         let sent = copy_of(&self.sent)?;
-        let conn = self.checkpoint.restore(later.conn())?;
+        let conn = later.conn_at(&self.checkpoint)?;
         Ok(Place::of(conn, self.position, self.used, self.reasons, sent))
     }
 }

@@ -2,19 +2,22 @@
 //! error or was ignored, what was sent for it, and how many items the connection took itself. Definitions:
 //! `specs/Places.antt`.
 
-ghost use Rattle.std.specs.Prelude.{◌≡◌, true, IfErr, IfOk, OnErr, OnOk, nat_lt};
+ghost use Rattle.std.specs.Prelude.{◌≡◌, ◌+◌, ◌-◌, ◌≤◌, [], true, IfErr, IfOk, OnErr, OnOk, nat_lt};
 ghost use Rattle.h2_spec.specs.Show.{show};
 ghost use Rattle.h2_spec.specs.View.{view};
-ghost use Rattle.h2_spec.specs.State.{is_allowed};
+ghost use Rattle.h2_spec.specs.State.{State, is_allowed};
 ghost use Rattle.h2_spec.specs.Trace.{next_in};
+ghost use Rattle.h2_conn.specs.Checkpoint.{Precedes, checkpoint_of};
+ghost use Rattle.h2_conn.specs.Connection.{going};
 ghost use Rattle.h2_conn.specs.Faults.{refusal_for};
+ghost use Rattle.h2_conn.specs.Follows.{Follows};
 ghost use Rattle.h2_debug.specs.Items.{is_item};
 ghost use Rattle.h2_debug.specs.Places.{Advances, IsAt, end};
 
 use crate::reasons::Reasons;
 use crate::source::Source;
 use h2_conn::view::View;
-use h2_conn::{Conn, ConnFault};
+use h2_conn::{Checkpoint, Conn, ConnFault};
 use h2_frame::first_item;
 use h2_spec::connection::Phase;
 use std::alloc::{AllocError, Allocator};
@@ -177,6 +180,15 @@ impl<'b, A: Allocator + Copy> Place<'b, A> {
         self.ran = 0;
     }
 
+    /// Counts the items from an earlier place up to this one as if they were taken after those that the earlier one took.
+    pub fn count_from(&mut self, earlier: &Place<'b, A>)
+        requires behind { earlier.now.position ≤ self.old.position }
+        requires few { earlier.now.ran ≤ earlier.now.position }
+        ensures { self.new ≡ record self.old { ran = earlier.now.ran + (self.old.position - earlier.now.position) } }
+    {
+        self.ran = earlier.ran + (self.position - earlier.position);
+    }
+
     /// Whether an item follows. It takes no memory.
     pub fn has_next(&self, source: &Source<'_, 'b, A>) -> bool
         requires { IsAt source.now self.now }
@@ -212,6 +224,16 @@ impl<'b, A: Allocator + Copy> Place<'b, A> {
         ensures { IfOk result (λ shown. shown ≡ view self.now.connection.state) }
     {
         self.conn.state(alloc)
+    }
+
+    /// The connection that an earlier checkpoint was taken of, made again; the place is as it was. `AllocError` if it is out
+    /// of memory.
+    pub fn conn_at(&mut self, checkpoint: &Checkpoint<'b, A>) -> Result<Conn<'b, A>, AllocError>
+        requires { Precedes checkpoint.now self.old.connection.state }
+        ensures restored { IfOk result (λ conn. (s : State) → checkpoint.now ≡ checkpoint_of s → Follows s self.old.connection.state → conn ≡ going s []) }
+        ensures same { self.new ≡ self.old }
+    {
+        checkpoint.restore(&mut self.conn)
     }
 
     /// The connection.

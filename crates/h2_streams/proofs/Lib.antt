@@ -1,8 +1,13 @@
+mod BaseLaws
 mod IdsLaws
+mod JoinedEntries
+mod JoinedLaws
+mod JoinedPut
 mod LiveLaws
 mod PatchLaws
 pub mod PlaceLaws
 mod ReadyRows
 pub mod RebuiltLaws
 mod SendLaws
+mod SharedLaws
 mod ShiftLaws

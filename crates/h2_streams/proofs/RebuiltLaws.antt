@@ -12,19 +12,19 @@ use Rattle.h2_streams.specs.Kept.{Rise, entries_of, lives, next_entry, place_of,
 use Rattle.h2_streams.specs.Rebuilt.{AreKnown, AreOthersClosed, as_in, if_live, is_live_or, live_at, live_entries, rebuilt}
 use Rattle.h2_streams.proofs.PlaceLaws.{found-id, none-below}
 
-eqb-other : (a b : ℕ) → a < b → eqb a b ≡ false
+pub eqb-other : (a b : ℕ) → a < b → eqb a b ≡ false
 eqb-other a b l = grind (arith, nat_tests, l)
 
 eqb-above : (a b : ℕ) → b < a → eqb a b ≡ false
 eqb-above a b l = grind (arith, nat_tests, l)
 
-eqb-same : (a b : ℕ) → a ≡ b → eqb a b ≡ true
+pub eqb-same : (a b : ℕ) → a ≡ b → eqb a b ≡ true
 eqb-same a b e = grind (arith, nat_tests, e)
 
-flip : (a b : ℕ) → eqb a b ≡ false → eqb b a ≡ false
+pub flip : (a b : ℕ) → eqb a b ≡ false → eqb b a ≡ false
 flip a b e = grind (arith, nat_tests, e)
 
-none-some : {A : Type 0} (x : A) → None ≡ Some x → ⊥
+pub none-some : {A : Type 0} (x : A) → None ≡ Some x → ⊥
 none-some x e = cc
 
 -- ---- what rises
@@ -51,7 +51,7 @@ rise-put low st (x ∷ xs) h known = at (eqb x.id st.id) refl (rise-put x.id st 
 
 -- ---- a record is put
 
-found-put : (st : Stream) (id : ℕ) (rs : List Stream) → is_some (record_of rs id) ≡ true → is_some (record_of (put st rs) id) ≡ true
+pub found-put : (st : Stream) (id : ℕ) (rs : List Stream) → is_some (record_of rs id) ≡ true → is_some (record_of (put st rs) id) ≡ true
 found-put st id [] known = absurd (true≢false (sym known))
 found-put st id (x ∷ xs) known = at (eqb x.id st.id) refl (eqb x.id id) refl (found-put st id xs) known
   where
@@ -69,32 +69,19 @@ known-put : (st : Stream) (rs cs : List Stream) → AreKnown rs cs → AreKnown 
 known-put st rs [] h = tt
 known-put st rs (c ∷ cs) h = (found-put st c.id rs h.0, known-put st rs cs h.1)
 
-place-put : (st : Stream) (id : ℕ) (rs : List Stream) → is_some (record_of rs st.id) ≡ true → place_of id (put st rs) ≡ place_of id rs
-place-put st id [] known = absurd (true≢false (sym known))
-place-put st id (x ∷ xs) known = at (eqb x.id st.id) refl (place-put st id xs) known
-  where
-    at : (b : Bool) → eqb x.id st.id ≡ b → (is_some (record_of xs st.id) ≡ true → place_of id (put st xs) ≡ place_of id xs) → is_some (cond b (Some x) (record_of xs st.id)) ≡ true
-        → place_of id (cond b (st ∷ xs) (x ∷ put st xs)) ≡ cond (nat_lt x.id id) (suc (place_of id xs)) 0
-    at true e more k = ap (λ i. cond (nat_lt i id) (suc (place_of id xs)) 0) (sym (eqb-true x.id st.id e))
-    at false e more k = ap (λ n. cond (nat_lt x.id id) (suc n) 0) (more k)
-
-entries-put : (st : Stream) (rs cs : List Stream) → is_some (record_of rs st.id) ≡ true → live_entries cs (put st rs) ≡ live_entries cs rs
-entries-put st rs [] known = refl
-entries-put st rs (c ∷ cs) known = rw (place-put st c.id rs known, entries-put st rs cs known) refl
-
 -- ---- one record after another
 
 as_in-other : (c : Stream) (cs : List Stream) (st : Stream) → eqb c.id st.id ≡ false → as_in (c ∷ cs) st ≡ as_in cs st
 as_in-other c cs st e = rw e refl
 
-as_in-here : (c : Stream) (cs : List Stream) (st : Stream) → eqb c.id st.id ≡ true → as_in (c ∷ cs) st ≡ c
+pub as_in-here : (c : Stream) (cs : List Stream) (st : Stream) → eqb c.id st.id ≡ true → as_in (c ∷ cs) st ≡ c
 as_in-here c cs st e = rw e refl
 
-as_in-none : (cs : List Stream) (st : Stream) → record_of cs st.id ≡ None → as_in cs st ≡ st
+pub as_in-none : (cs : List Stream) (st : Stream) → record_of cs st.id ≡ None → as_in cs st ≡ st
 as_in-none cs st e = rw e refl
 
 -- one that is below all does not count
-as_in-below : (c : Stream) (cs : List Stream) (low : ℕ) (rs : List Stream) → c.id ≤ low → Rise low rs → map (as_in (c ∷ cs)) rs ≡ map (as_in cs) rs
+pub as_in-below : (c : Stream) (cs : List Stream) (low : ℕ) (rs : List Stream) → c.id ≤ low → Rise low rs → map (as_in (c ∷ cs)) rs ≡ map (as_in cs) rs
 as_in-below c cs low [] le h = refl
 as_in-below c cs low (x ∷ xs) le h =
     let over = h.0 in
@@ -119,23 +106,38 @@ as_in-put low st cs (x ∷ xs) h r known = at (eqb x.id st.id) refl (as_in-put x
     at false e more k = rw (as_in-other st cs x (flip x.id st.id e), more k) refl
 
 -- what has been written, and what remains to write
-pub record Writes (changed base : List Stream) (rest records : List Stream) (entries : List (ℕ × ℕ)) : Type 0 where
+pub record Writes (changed base : List Stream) (rest records : List Stream) : Type 0 where
   pub rising : Rise 0 records
   pub order : Rise 0 rest
   pub known : AreKnown records rest
   pub items : map (as_in rest) records ≡ map (as_in changed) base
-  pub live_is : entries ++ live_entries rest records ≡ live_entries changed base
-  pub behind : AllByRecursion (λ (id : ℕ). Rise id rest) (keys_of entries)
 
 -- before the first is written
-pub writes-first : (changed base : List Stream) (entries : List (ℕ × ℕ)) → Rise 0 base → Rise 0 changed → AreKnown base changed → entries ≡ [] → Writes changed base changed base entries
-writes-first changed base entries rising order known none = record {
-  rising = rising;
+pub writes-first : (changed base : List Stream) → Rise 0 base → Rise 0 changed → AreKnown base changed → Writes changed base changed base
+writes-first changed base rising order known = record { rising = rising; order = order; known = known; items = refl }
+
+pub writes-next : (changed base : List Stream) (st : Stream) (rest records : List Stream) → Writes changed base (st ∷ rest) records → Writes changed base rest (put st records)
+writes-next changed base st rest records w = record {
+  rising = rise-put 0 st records w.rising w.known.0;
+  order = rise-from 0 st.id rest (omega arith) w.order.1;
+  known = known-put st records rest w.known.1;
+  items = as_in-put 0 st rest records w.rising w.order.1 w.known.0 ∙ w.items;
+}
+
+-- ---- the live ones are put into a map
+
+-- what has been put into the map, and what remains
+pub record Enters (streams records : List Stream) (rest : List Stream) (entries : List (ℕ × ℕ)) : Type 0 where
+  pub order : Rise 0 rest
+  pub live_is : entries ++ live_entries rest records ≡ live_entries streams records
+  pub behind : AllByRecursion (λ (id : ℕ). Rise id rest) (keys_of entries)
+
+-- before the first
+pub enters-first : (streams records : List Stream) (entries : List (ℕ × ℕ)) → Rise 0 streams → entries ≡ [] → Enters streams records streams entries
+enters-first streams records entries order none = record {
   order = order;
-  known = known;
-  items = refl;
-  live_is = ap (λ es. es ++ live_entries changed base) none;
-  behind = subst (λ es. AllByRecursion (λ (id : ℕ). Rise id changed) (keys_of es)) (sym none) tt;
+  live_is = ap (λ es. es ++ live_entries streams records) none;
+  behind = subst (λ es. AllByRecursion (λ (id : ℕ). Rise id streams) (keys_of es)) (sym none) tt;
 }
 
 -- those that are after others are after them without the first
@@ -148,21 +150,18 @@ behind-more st place rest [] true r h = (r, tt)
 behind-more st place rest [] false r h = tt
 behind-more st place rest (e ∷ es) b r h = (h.0, behind-more st place rest es b r h.1)
 
-pub writes-next : (changed base : List Stream) (st : Stream) (rest records : List Stream) (entries : List (ℕ × ℕ)) → Writes changed base (st ∷ rest) records entries
-    → Writes changed base rest (put st records) (entries ++ cond (is_live st.kind) ((st.id, place_of st.id records) ∷ []) [])
-writes-next changed base st rest records entries w = record {
-  rising = rise-put 0 st records w.rising w.known.0;
+pub enters-next : (streams records : List Stream) (st : Stream) (rest : List Stream) (entries : List (ℕ × ℕ)) → Enters streams records (st ∷ rest) entries
+    → Enters streams records rest (entries ++ cond (is_live st.kind) ((st.id, place_of st.id records) ∷ []) [])
+enters-next streams records st rest entries w = record {
   order = rise-from 0 st.id rest (omega arith) w.order.1;
-  known = known-put st records rest w.known.1;
-  items = as_in-put 0 st rest records w.rising w.order.1 w.known.0 ∙ w.items;
-  live_is = ap (λ es. (entries ++ cond (is_live st.kind) ((st.id, place_of st.id records) ∷ []) []) ++ es) (entries-put st records rest w.known.0) ∙ Rattle.std.proofs.Common.append_assoc entries _ _ ∙ w.live_is;
+  live_is = Rattle.std.proofs.Common.append_assoc entries _ _ ∙ w.live_is;
   behind = behind-more st (place_of st.id records) rest entries (is_live st.kind) w.order.1 (behind-less st rest (keys_of entries) w.behind);
 }
 
 -- the next one is not yet in the map
-pub writes-absent : (st : Stream) (rest : List Stream) (entries : List (ℕ × ℕ)) → AllByRecursion (λ (id : ℕ). Rise id (st ∷ rest)) (keys_of entries) → lookup (nat_eq st.id) entries ≡ None
-writes-absent st rest [] h = refl
-writes-absent st rest (e ∷ es) h = let over = h.0.0 in let apart : nat_eq st.id e.0 ≡ false = grind (arith, nat_tests, over) in rw apart (writes-absent st rest es h.1)
+pub enters-absent : (st : Stream) (rest : List Stream) (entries : List (ℕ × ℕ)) → AllByRecursion (λ (id : ℕ). Rise id (st ∷ rest)) (keys_of entries) → lookup (nat_eq st.id) entries ≡ None
+enters-absent st rest [] h = refl
+enters-absent st rest (e ∷ es) h = let over = h.0.0 in let apart : nat_eq st.id e.0 ≡ false = grind (arith, nat_tests, over) in rw apart (enters-absent st rest es h.1)
 
 -- ---- what is live
 
@@ -178,7 +177,7 @@ entries-behind x rs (c ∷ cs) h =
     by false = refl
 
 -- of those above one, all that have a record have it after that one
-known-behind : (x : Stream) (rs cs : List Stream) → Rise x.id cs → AreKnown (x ∷ rs) cs → AreKnown rs cs
+pub known-behind : (x : Stream) (rs cs : List Stream) → Rise x.id cs → AreKnown (x ∷ rs) cs → AreKnown rs cs
 known-behind x rs [] h k = tt
 known-behind x rs (c ∷ cs) h k =
     let over = h.0 in
@@ -186,14 +185,14 @@ known-behind x rs (c ∷ cs) h k =
     (rw apart at k.0, known-behind x rs cs (rise-from x.id c.id cs (omega (arith, over)) h.1) k.1)
 
 -- a record of which the others know nothing is not live
-others-behind : (c : Stream) (cs : List Stream) (low : ℕ) (rs : List Stream) → c.id ≤ low → Rise low rs → AreOthersClosed (c ∷ cs) rs → AreOthersClosed cs rs
+pub others-behind : (c : Stream) (cs : List Stream) (low : ℕ) (rs : List Stream) → c.id ≤ low → Rise low rs → AreOthersClosed (c ∷ cs) rs → AreOthersClosed cs rs
 others-behind c cs low [] le h o = tt
 others-behind c cs low (x ∷ xs) le h o =
     let over = h.0 in
     let apart : eqb c.id x.id ≡ false = eqb-other c.id x.id (omega (arith, le, over)) in
     (λ none. o.0 (rw apart none), others-behind c cs x.id xs (omega (arith, le, over)) h.1 o.1)
 
-found-above : (low id : ℕ) (rs : List Stream) → Rise low rs → is_some (record_of rs id) ≡ true → low < id
+pub found-above : (low id : ℕ) (rs : List Stream) → Rise low rs → is_some (record_of rs id) ≡ true → low < id
 found-above low id [] h k = absurd (true≢false (sym k))
 found-above low id (y ∷ ys) h k = by (eqb y.id id) refl k (found-above y.id id ys h.1)
   where
@@ -229,7 +228,7 @@ live-rebuilt low (c ∷ cs) (x ∷ xs) h r k o = at (eqb x.id c.id) refl (live-r
         let rest = left above (there, known-behind x xs cs (rise-from x.id c.id cs (omega (arith, over)) r.1) k.1) o.1 in
         rw (as_in-none (c ∷ cs) x none, o.0 none) (ap (map next_entry) rest ∙ sym (entries-behind x xs (c ∷ cs) above))
 
-as_in-id : (cs : List Stream) (st : Stream) → (as_in cs st).id ≡ st.id
+pub as_in-id : (cs : List Stream) (st : Stream) → (as_in cs st).id ≡ st.id
 as_in-id cs st = by (record_of cs st.id) (found-id cs st.id)
   where
     by : (o : Option Stream) → ((x : Stream) → o ≡ Some x → x.id ≡ st.id) → (unwrap_or o st).id ≡ st.id

@@ -30,7 +30,7 @@ update-absent f (suc place) (x ∷ xs) le = ap (λ ys. x ∷ ys) (update-absent 
 -- ---- streams that settings move
 
 -- they leave those alone that are not live
-follows-ended : (kind : StreamState) → is_live kind ≡ false → follows_initial_window kind ≡ false
+pub follows-ended : (kind : StreamState) → is_live kind ≡ false → follows_initial_window kind ≡ false
 follows-ended Idle h = refl
 follows-ended Skipped h = refl
 follows-ended BothOpen h = absurd (true≢false h)
@@ -218,10 +218,10 @@ module _ (d : ℤ) (rs : List Stream) (es : List (ℕ × ℕ)) (ended : ℕ) (re
 
 -- ---- the greatest window
 
-overflows-ended : (d : ℤ) (st : Stream) → is_live st.kind ≡ false → overflows_one d st ≡ false
+pub overflows-ended : (d : ℤ) (st : Stream) → is_live st.kind ≡ false → overflows_one d st ≡ false
 overflows-ended d st h = rw (follows-ended st.kind h) refl
 
-any-overflows : (d : ℤ) (rs : List Stream) → list_any (overflows_one d) rs ≡ overflows d rs
+pub any-overflows : (d : ℤ) (rs : List Stream) → list_any (overflows_one d) rs ≡ overflows d rs
 unfolding overflows
 any-overflows d [] = refl
 any-overflows d (x ∷ xs) = by (overflows_one d x) (any-overflows d xs) where

@@ -1,5 +1,6 @@
 pub mod Greatest
 pub mod Hash
+pub mod Joined
 pub mod Kept
 pub mod Patches
 pub mod Put

@@ -3,12 +3,14 @@
 //! `h2_spec/specs/Stream.antt`.
 #![tactic(auto)]
 
+mod base;
 mod greatest;
 mod hash;
 mod ids;
 mod kept;
 mod kinds;
 mod live;
+mod own;
 mod patch;
 mod places;
 mod rebuilt;

@@ -7,17 +7,18 @@ ghost use Rattle.std.specs.Option.{option_copied};
 ghost use Rattle.indexmap.specs.IndexMap.{get, spare};
 ghost use Rattle.h2_spec.specs.Stream as spec;
 ghost use Rattle.h2_streams.specs.Kept as kept;
+ghost use Rattle.h2_streams.specs.Rebuilt.{live_entries};
 
 use crate::hash::IdHash;
 use crate::places::{is_live_at, place_of, record_at};
-use h2_spec::streams::Stream;
+use h2_spec::streams::{Stream, is_live};
 use indexmap::IndexMap;
 use std::alloc::Allocator;
 
 /// How many streams that ended may be in the map beyond the number of live ones.
 const SPARE_ENTRIES: usize = 32;
 
-/// Puts a stream after the others, if it is to be there. There is space for it.
+/// Puts a stream after the others, if it is to be there. There is space for it then.
 pub(crate) fn enter<A: Allocator>(
     live: &mut IndexMap<u32, usize, IdHash, A>,
     id: u32,
@@ -25,12 +26,35 @@ pub(crate) fn enter<A: Allocator>(
     is_in: bool,
 )
     requires new { get nat_eq live.old id ≡ None }
-    requires enough { 0 < spare live.old }
+    requires enough { IsTrue is_in → 0 < spare live.old }
     ensures entries { live.new.entries ≡ live.old.entries ++ (if is_in then (id, place) ∷ [] else []) }
-    ensures spare { spare live.old ≤ spare live.new + 1 }
+    ensures spare { spare live.old ≤ spare live.new + (if is_in then 1 else 0) }
 {
     if is_in {
         let _ = live.insert(id, place);
+    }
+}
+
+/// Puts the live ones of these streams into a map that is empty, with their places among the records. There is space for
+/// them.
+pub(crate) fn enter_each<A: Allocator>(
+    records: &[Stream],
+    streams: &[Stream],
+    live: &mut IndexMap<u32, usize, IdHash, A>,
+)
+    requires rising { kept.Rise 0 records.now }
+    requires order { kept.Rise 0 streams.now }
+    requires empty { live.old.entries ≡ [] }
+    requires enough { spec.live_count streams.now ≤ spare live.old }
+    ensures { live.new.entries ≡ live_entries streams.now records.now }
+{
+    for stream in streams {
+        enter(
+            live,
+            stream.id,
+            place_of(records, stream.id),
+            is_live(stream.kind),
+        );
     }
 }
 

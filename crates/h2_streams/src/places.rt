@@ -1,9 +1,12 @@
-//! Records by their identifiers, which rise: a binary search. Definitions: `specs/Kept.antt`.
+//! Records by their identifiers, which rise: a binary search. Definitions: `specs/Kept.antt`,
+//! `specs/Rebuilt.antt`.
 
-ghost use Rattle.std.specs.Prelude.{◌≡◌, ◌<◌, ◌≤◌, false, length, IsTrue, slice_get};
+ghost use Rattle.std.specs.Prelude.{◌≡◌, ◌+◌, ◌<◌, ◌≤◌, ◌++◌, false, length, map, IsTrue, slice_get};
 ghost use Rattle.std.specs.Option.{option_copied, option_map_or, is_some};
+ghost use Rattle.std.specs.Vec.{vec_capacity};
 ghost use Rattle.h2_spec.specs.Stream as spec;
 ghost use Rattle.h2_streams.specs.Kept as kept;
+ghost use Rattle.h2_streams.specs.Rebuilt as rebuilt;
 
 use h2_spec::streams::{Stream, is_live};
 use std::alloc::Allocator;
@@ -23,6 +26,15 @@ pub(crate) fn record_at(records: &[Stream], place: usize) -> Option<&Stream>
     ensures { option_copied result ≡ slice_get records.now place }
 {
     records.get(place)
+}
+
+/// The record with this identifier.
+pub(crate) fn find(records: &[Stream], id: u32) -> Option<&Stream>
+    requires { kept.Rise 0 records.now }
+    ensures { option_copied result ≡ spec.record_of records.now id }
+{
+    let stream = record_at(records, place_of(records, id))?;
+    if stream.id == id { Some(stream) } else { None }
 }
 
 /// Whether there is a record at this place and its stream is live.
@@ -48,8 +60,32 @@ pub(crate) fn write<A: Allocator>(
     requires place { place ≡ kept.place_of stream.id records.old.items }
     ensures items { records.new.items ≡ spec.put stream records.old.items }
     ensures was_live { result ≡ option_map_or kept.lives (spec.record_of records.old.items stream.id) false }
+    ensures capacity { vec_capacity records.old ≤ vec_capacity records.new }
 {
     let was_live = is_live_at(records.as_slice(), place);
     records[place] = stream;
     was_live
+}
+
+/// Writes records in the places of those with their identifiers.
+pub(crate) fn write_each<A: Allocator>(records: &mut Vec<Stream, A>, changed: &[Stream])
+    requires rising { kept.Rise 0 records.old.items }
+    requires changed { kept.Rise 0 changed.now }
+    requires known { rebuilt.AreKnown records.old.items changed.now }
+    ensures items { records.new.items ≡ map (rebuilt.as_in changed.now) records.old.items }
+    ensures capacity { vec_capacity records.old ≤ vec_capacity records.new }
+{
+    for stream in changed {
+        let place = place_of(records.as_slice(), stream.id);
+        write(records, place, *stream);
+    }
+}
+
+/// Puts records after the others. There is space for them.
+pub(crate) fn append_each<A: Allocator>(records: &mut Vec<Stream, A>, more: &[Stream])
+    requires { length records.old.items + length more.now ≤ vec_capacity records.old }
+    ensures items { records.new.items ≡ records.old.items ++ more.now }
+    ensures capacity { vec_capacity records.old ≤ vec_capacity records.new }
+{
+    let _ = records.extend_from_slice(more);
 }

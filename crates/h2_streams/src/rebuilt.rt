@@ -1,60 +1,20 @@
-//! The records at an earlier time, made again from those of a later one: the few that can change are kept. Definitions:
+//! Lists of the few records that can change, from which records at an earlier time are made again. Definitions:
 //! `specs/Rebuilt.antt`.
 
-ghost use Rattle.std.specs.Prelude.{◌≡◌, ◌+◌, ◌≤◌, ◌++◌, [], IfOk, OnOk, length, map, take, if◌then◌else◌};
+ghost use Rattle.std.specs.Prelude.{◌≡◌, ◌+◌, ◌≤◌, ◌++◌, IfOk, OnOk, length, if◌then◌else◌};
 ghost use Rattle.std.specs.List.{insert};
 ghost use Rattle.std.specs.Option.{option_copied};
 ghost use Rattle.std.specs.Vec.{vec_capacity};
-ghost use Rattle.indexmap.specs.IndexMap.{spare, values};
+ghost use Rattle.indexmap.specs.IndexMap.{values};
 ghost use Rattle.h2_spec.specs.Stream.{is_live};
 ghost use Rattle.h2_streams.specs.Kept as kept;
 ghost use Rattle.h2_streams.specs.Rebuilt as spec;
 
 use crate::hash::IdHash;
-use crate::live::enter;
-use crate::places::{place_of, record_at, write};
+use crate::places::{place_of, record_at};
 use h2_spec::streams::{Stream, is_live};
 use indexmap::IndexMap;
 use std::alloc::{AllocError, Allocator};
-
-/// How many more records there is space for at first.
-const SPARE_RECORDS: usize = 64;
-
-/// A copy of that many first records.
-pub(crate) fn front_of<A: Allocator + Copy>(
-    records: &Vec<Stream, A>,
-    count: usize,
-) -> Result<Vec<Stream, A>, AllocError>
-    requires { count ≤ length records.now.items }
-    ensures { IfOk result (λ copy. copy.items ≡ take count records.now.items) }
-{
-    let front = &records.as_slice()[..count];
-    let mut copy = Vec::with_capacity(*records.allocator(), count.saturating_add(SPARE_RECORDS))?;
-    copy.extend_from_slice(front)?;
-    Ok(copy)
-}
-
-/// Writes records in the places of those with their identifiers, and puts the live ones into a map that is empty. There
-/// is space for them.
-pub(crate) fn write_each<A: Allocator>(
-    records: &mut Vec<Stream, A>,
-    changed: &[Stream],
-    live: &mut IndexMap<u32, usize, IdHash, A>,
-)
-    requires rising { kept.Rise 0 records.old.items }
-    requires changed { kept.Rise 0 changed.now }
-    requires known { spec.AreKnown records.old.items changed.now }
-    requires empty { live.old.entries ≡ [] }
-    requires enough { length changed.now ≤ spare live.old }
-    ensures items { records.new.items ≡ map (spec.as_in changed.now) records.old.items }
-    ensures live { live.new.entries ≡ spec.live_entries changed.now records.old.items }
-{
-    for stream in changed {
-        let place = place_of(records.as_slice(), stream.id);
-        write(records, place, *stream);
-        enter(live, stream.id, place, is_live(stream.kind));
-    }
-}
 
 /// Puts the record after the others, if there is one and it is live. There is space for it.
 fn append_live<A: Allocator>(list: &mut Vec<Stream, A>, stream: Option<&Stream>)

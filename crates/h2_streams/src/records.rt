@@ -1,12 +1,12 @@
-//! The records: what opens, changes and ends a stream. The program does not call `open_stream`, `open_reset`, `set`,
+//! The records: what opens, changes and ends a stream. They are a list of their own, or the first of them are shared with
+//! other lists, those at an earlier or a later time. The program does not call `open_stream`, `open_reset`, `set`,
 //! `end_remote`, `end_local`, `reset` and `next_waiting`, which are for users of the library: its rules return the
 //! whole record after a frame, which `put` puts in place, and `next_ready` finds the next stream that can send.
-//! Definitions: `h2_spec/specs/Stream.antt`; what the fields keep: `specs/Kept.antt`.
+//! Definitions: `h2_spec/specs/Stream.antt`; what is shared: `specs/Joined.antt`.
 
-ghost use Rattle.std.specs.Prelude.{◌≡◌, false, not, take, ◌<◌, ◌≤◌, ◌%◌, ◌==◌, ◌&&◌, ◌||◌, nat_lt, length, IsOk, OnOk, OnErr, IfOk, IfErr, IfSome, IsTrue, is_err, slice_get};
+ghost use Rattle.std.specs.Prelude.{◌≡◌, false, not, take, ◌<◌, ◌≤◌, ◌%◌, ◌==◌, ◌||◌, nat_lt, length, IsOk, OnOk, OnErr, IfOk, IfErr, IfSome, IsTrue, is_err, slice_get};
 ghost use Rattle.std.specs.List.{AllByRecursion, filter, list_any};
 ghost use Rattle.std.specs.Option.{option_copied};
-ghost use Rattle.std.specs.Vec.{vec_capacity};
 ghost use Rattle.h2_spec.specs.Stream as spec;
 ghost use Rattle.h2_spec.specs.StreamEnds as ends;
 ghost use Rattle.h2_spec.specs.Change as changes;
@@ -16,19 +16,14 @@ ghost use Rattle.h2_streams.specs.Put.{CanPut, can_become};
 ghost use Rattle.h2_streams.specs.Rebuilt as earlier;
 ghost use Rattle.h2_streams.specs.Shift as shift;
 
-use crate::greatest::{greatest_of, overflows_with};
-use crate::hash::IdHash;
-use crate::ids::{append, ids_above, list};
-use crate::kinds::{is_ready, not_live, peer_closed, reset_kind, server_ended};
-use crate::live::{enter, note_ended, place_in, record_in};
-use crate::places::write;
-use crate::rebuilt::{front_of, insert_closed, live_records, write_each};
-use crate::shift::{InitialWindow, move_each};
-use crate::walks::{first_waiting, list_ready};
+use crate::base::{Base, replace, share_first};
+use crate::greatest::overflows_with;
+use crate::kinds::{not_live, peer_closed, reset_kind, server_ended};
+use crate::own::OwnRecords;
+use crate::rebuilt::insert_closed;
 use h2_spec::errors::FlowFault;
 use h2_spec::flow::Window;
-use h2_spec::streams::{Numbers, Pick, Stream, StreamState, is_live};
-use indexmap::IndexMap;
+use h2_spec::streams::{Numbers, Pick, Stream, StreamState};
 use std::alloc::{AllocError, Allocator};
 use std::marker::Model;
 
@@ -38,33 +33,28 @@ use std::marker::Model;
 /// the identifiers: by at most 31 comparisons, since there are at most 2^30 odd identifiers of 31 bits (RFC 9113,
 /// 5.1.1), and by at most 20 among a million. The peer chooses identifiers, and could crowd a map of all records, but
 /// this one has at most two entries for each live stream, and 32.
-#[derive(Drop)]
 pub struct Streams<A: Allocator> {
-    /// In the order of opening, so that identifiers rise.
-    records: Vec<Stream, A>,
-    /// The places of the live streams' records, by identifier, in the order of opening. A record's place never changes.
-    /// Streams that ended may be left here, as long as they are at most 32 more than the live ones.
-    live: IndexMap<u32, usize, IdHash, A>,
-    /// How many of the streams in `live` have ended.
-    ended: usize,
-    /// The identifiers of the streams that can send, rising; it has space for all that are in `live`.
-    ready: Vec<u32, A>,
-    last: u32,
-    /// The place where a record was found or put last. It is looked at first, and may be any number.
-    recent: usize,
+    own: OwnRecords<A>,
+    /// The first of the records, where they are shared.
+    base: Option<Base<A>>,
 }
 
 impl<A: Allocator> Model for Streams<A> {
-    ghost use Rattle.std.specs.Prelude.{◌≤◌, length};
-    ghost use Rattle.std.specs.Vec.{vec_capacity};
     ghost use Rattle.h2_spec.specs.Stream.{Records};
-    ghost use Rattle.h2_streams.specs.Kept.{IsKept};
+    ghost use Rattle.h2_streams.specs.Joined.{GoWith, with_base};
 
     ghost Value = { Records };
 
-    ghost view = { λ s. record { streams = s.records.items; last = s.last } };
+    ghost view = { λ s. with_base s.base s.own };
 
-    ghost invariant = { λ s. IsKept s.records.items s.live.entries s.ended s.ready.items s.last × (length s.live.entries ≤ vec_capacity s.ready) };
+    ghost invariant = { λ s. GoWith s.base s.own };
+}
+
+/// By hand, so that a function that drops it makes one call, where a derived `Drop` would drop each part there.
+impl<A: Allocator> Drop for Streams<A> {
+    fn drop(self) {
+        let Self { own: _, base: _ } = self;
+    }
 }
 
 impl<A: Allocator + Copy> Streams<A> {
@@ -73,29 +63,22 @@ impl<A: Allocator + Copy> Streams<A> {
         ensures { result ≡ spec.no_records }
     {
         Streams {
-            records: Vec::new(alloc),
-            live: IndexMap::with_hasher(alloc, IdHash),
-            ended: 0,
-            ready: Vec::new(alloc),
-            last: 0,
-            recent: 0,
+            own: OwnRecords::new(alloc),
+            base: None,
         }
     }
 
-    /// A copy of the records.
+    /// A copy of the records; those that are shared are shared by it too.
     pub fn try_clone(&self) -> Result<Self, AllocError>
         ensures { IfOk result (λ copy. copy ≡ self.now) }
     {
-        let records = copy_of(&self.records)?;
-        let live = self.live.clone()?;
-        let ready = copy_with_capacity(&self.ready, live.len())?;
+        let base = match &self.base {
+            Some(base) => Some(base.share(base.count(), base.front(), self.own.count())?),
+            None => None,
+        };
         Ok(Streams {
-            records,
-            live,
-            ended: self.ended,
-            ready,
-            last: self.last,
-            recent: self.recent,
+            own: self.own.try_clone()?,
+            base,
         })
     }
 }
@@ -107,8 +90,7 @@ impl<A: Allocator + Copy> Streams<A> {
     pub(crate) fn live_or(&self, other: Option<u32>) -> Result<Vec<Stream, A>, AllocError>
         ensures { IfOk result (λ list. list.items ≡ filter (earlier.is_live_or other) self.now.streams) }
     {
-        let alloc = *self.records.allocator();
-        let mut list = live_records(self.records.as_slice(), &self.live, alloc)?;
+        let mut list = self.own.live_list()?;
         let Some(id) = other else {
             return Ok(list);
         };
@@ -120,30 +102,29 @@ impl<A: Allocator + Copy> Streams<A> {
     }
 
     /// That many first records where those that have changed since are as in `changed`: the records at an earlier time,
-    /// when `last` was the last stream that was opened. The records are copied at once.
+    /// when `last` was the last stream that was opened. No record is copied: both share those that cannot change any more.
     ///
-    /// `AllocError` where memory for them is refused.
-    pub fn rebuilt(&self, count: usize, last: u32, changed: &[Stream]) -> Result<Self, AllocError>
-        requires within { count ≤ length self.now.streams }
-        requires rising { spec.AreRising 0 last (take count self.now.streams) }
-        requires changed { kept.Rise 0 changed.now }
-        requires known { earlier.AreKnown (take count self.now.streams) changed.now }
-        requires closed { earlier.AreOthersClosed changed.now (take count self.now.streams) }
-        ensures { IfOk result (λ streams. streams ≡ record { streams = earlier.rebuilt count changed.now self.now.streams; last = last }) }
+    /// `AllocError` where memory is refused. The records are as they were.
+    pub fn rebuilt(
+        &mut self,
+        count: usize,
+        last: u32,
+        changed: Vec<Stream, A>,
+    ) -> Result<Self, AllocError>
+        requires within { count ≤ length self.old.streams }
+        requires rising { spec.AreRising 0 last (take count self.old.streams) }
+        requires changed { kept.Rise 0 changed.items }
+        requires known { earlier.AreKnown (take count self.old.streams) changed.items }
+        requires closed { earlier.AreOthersClosed changed.items (take count self.old.streams) }
+        ensures rebuilt { IfOk result (λ streams. streams ≡ record { streams = earlier.rebuilt count changed.items self.old.streams; last = last }) }
+        ensures same { self.new ≡ self.old }
     {
-        let alloc = *self.records.allocator();
-        let mut records = front_of(&self.records, count)?;
-        let mut live = IndexMap::with_capacity_and_hasher(alloc, changed.len(), IdHash)?;
-        write_each(&mut records, changed, &mut live);
-        let mut ready = Vec::with_capacity(alloc, live.len())?;
-        list_ready(records.as_slice(), &live, &mut ready);
+        let front = changed.as_slice().len();
+        let own = OwnRecords::of(changed, last)?;
+        let base = share_first(&mut self.own, &mut self.base, count, front)?;
         Ok(Streams {
-            records,
-            live,
-            ended: 0,
-            ready,
-            last,
-            recent: 0,
+            own,
+            base: Some(base),
         })
     }
 }
@@ -155,7 +136,7 @@ impl<A: Allocator> Streams<A> {
         ensures value { result ≡ self.now.last }
         ensures rising { spec.AreRising 0 self.now.last self.now.streams }
     {
-        self.last // 0 for none: client streams have odd identifiers
+        self.own.last() // 0 for none: client streams have odd identifiers
     }
 
     /// The record of the stream, if it has one: by one look-up where it is live, and else by binary search.
@@ -163,35 +144,44 @@ impl<A: Allocator> Streams<A> {
     pub fn get(&self, id: u32) -> Option<&Stream>
         ensures { option_copied result ≡ spec.record_of self.now.streams id }
     {
-        record_in(&self.live, self.records.as_slice(), self.recent, id)
+        match &self.base {
+            None => self.own.get(id),
+            Some(base) => base.find(&self.own, id),
+        }
     }
 
     /// Looks the stream's record up, so that the calls that come next find it at once. Nothing changes.
     pub fn look_up(&mut self, id: u32)
         ensures { self.new ≡ self.old }
     {
-        self.recent = place_in(&self.live, self.records.as_slice(), self.recent, id);
+        self.own.look_up(id);
     }
 
     /// The i-th record in the order of opening, from 0.
     pub fn at(&self, i: usize) -> Option<&Stream>
         ensures { option_copied result ≡ slice_get self.now.streams i }
     {
-        self.records.as_slice().get(i)
+        match &self.base {
+            None => self.own.at(i),
+            Some(base) => base.at(&self.own, i),
+        }
     }
 
     /// The number of records.
     pub fn count(&self) -> usize
         ensures { result ≡ length self.now.streams }
     {
-        self.records.as_slice().len()
+        match &self.base {
+            None => self.own.count(),
+            Some(base) => base.records().len() + (self.own.as_slice().len() - base.front()),
+        }
     }
 
     /// The number of live streams.
     pub fn live_count(&self) -> usize
         ensures { result ≡ spec.live_count self.now.streams }
     {
-        self.live.len() - self.ended
+        self.own.live_count()
     }
 
     /// The stream with this identifier: its record, or, where it has none, `Idle` or `Skipped` without numbers.
@@ -312,7 +302,7 @@ impl<A: Allocator> Streams<A> {
         ensures first { result ≡ spec.next_waiting after self.now.streams }
         ensures least { IfSome result (λ id. AllByRecursion (λ st. IsTrue (spec.waits_above after st) → id ≤ st.id) self.now.streams) }
     {
-        first_waiting(self.records.as_slice(), &self.live, after)
+        self.own.next_waiting(after)
     }
 
     /// The first stream above this one that can send, if there is one, by binary search: it has octets to send, and a
@@ -320,7 +310,7 @@ impl<A: Allocator> Streams<A> {
     pub fn next_ready(&self, after: u32) -> Option<u32>
         ensures { result ≡ kept.next_ready after self.now.streams }
     {
-        first(ids_above(self.ready.as_slice(), after))
+        self.own.next_ready(after)
     }
 
     /// Whether no stream can send: none has both octets to send and a send window above 0 (RFC 9113, 6.9).
@@ -328,7 +318,7 @@ impl<A: Allocator> Streams<A> {
     pub fn none_ready(&self) -> bool
         ensures { result ≡ not (list_any kept.is_ready self.now.streams) }
     {
-        self.ready.as_slice().is_empty()
+        self.own.none_ready()
     }
 
     /// The greatest of the send windows that settings move, if there is one: it alone decides whether a move takes a
@@ -336,7 +326,7 @@ impl<A: Allocator> Streams<A> {
     pub fn greatest_send(&self) -> Option<Window>
         ensures { IsGreatest result self.now.streams }
     {
-        greatest_of(self.records.as_slice(), &self.live)
+        self.own.greatest_send()
     }
 
     /// Moves the send windows of the streams that settings move, as SETTINGS_INITIAL_WINDOW_SIZE changes by `delta`
@@ -362,8 +352,7 @@ impl<A: Allocator> Streams<A> {
         requires fits { changes.overflows delta self.old.streams ≡ false }
         ensures { self.new ≡ record self.old { streams = changes.shifted delta self.old.streams } }
     {
-        move_each(&mut self.records, &self.live, InitialWindow::Peer, delta);
-        list_ready(self.records.as_slice(), &self.live, &mut self.ready);
+        self.own.move_send(delta);
     }
 
     /// Moves the receive windows of the live streams by `delta`, as the server's own SETTINGS_INITIAL_WINDOW_SIZE comes
@@ -373,29 +362,20 @@ impl<A: Allocator> Streams<A> {
         requires { AllByRecursion (shift.CanReceive delta) self.old.streams }
         ensures { self.new ≡ record self.old { streams = changes.received delta self.old.streams } }
     {
-        move_each(&mut self.records, &self.live, InitialWindow::Own, delta);
+        self.own.shift_recv(delta);
     }
 
     /// Records a stream above all others.
-    #[inline(never)]
     fn add(&mut self, stream: Stream) -> Result<(), AllocError>
         requires odd { stream.id % 2 ≡ 1 }
         requires above { self.old.last < stream.id }
         ensures ok { OnOk result (self.new ≡ spec.added stream self.old) }
         ensures err { OnErr result (self.new ≡ self.old) }
     {
-        let live = is_live(stream.kind);
-        let ready = is_ready(&stream);
-        self.live.reserve(1)?;
-        let more = self.live.len() - self.ready.as_slice().len() + 1;
-        self.ready.reserve(more)?;
-        let place = self.records.as_slice().len();
-        self.records.push(stream)?;
-        enter(&mut self.live, stream.id, place, live);
-        append(&mut self.ready, stream.id, ready);
-        self.last = stream.id;
-        self.recent = place;
-        Ok(())
+        match &mut self.base {
+            None => self.own.add(stream),
+            Some(base) => base.add(&mut self.own, stream),
+        }
     }
 
     /// Puts a record in the place of the one of the same stream.
@@ -404,31 +384,12 @@ impl<A: Allocator> Streams<A> {
         requires { IsTrue (can_become (spec.kind_of self.old.last self.old.streams stream.id) stream.kind) }
         ensures { self.new ≡ record self.old { streams = spec.put stream self.old.streams } }
     {
-        let live = is_live(stream.kind);
-        let ready = is_ready(&stream);
-        let place = place_in(&self.live, self.records.as_slice(), self.recent, stream.id);
-        self.recent = place;
-        let was_live = write(&mut self.records, place, stream);
-        list(&mut self.ready, stream.id, ready);
-        if has_ended(was_live, live) {
-            self.ended = note_ended(&mut self.live, self.records.as_slice(), self.ended);
+        if self.base.is_some() {
+            replace(&mut self.own, &mut self.base, stream);
+        } else {
+            self.own.replace(stream);
         }
     }
-}
-
-/// Whether a stream has ended, by whether it was live and is.
-#[inline(always)]
-fn has_ended(was_live: bool, live: bool) -> bool
-    ensures { result ≡ (was_live && not live) }
-{
-    was_live && !live
-}
-
-fn first(ids: &[u32]) -> Option<u32>
-    ensures { result ≡ slice_get ids.now 0 }
-{
-    let id = ids.first()?;
-    Some(*id)
 }
 
 /// Whether the stream is idle, where the last one that was opened is this: even identifiers are the server's, which
@@ -438,26 +399,4 @@ fn is_idle(last: u32, id: u32) -> bool
     ensures { result ≡ (id % 2 == 0 || nat_lt last id) }
 {
     id % 2 == 0 || last < id
-}
-
-/// A copy of the records.
-fn copy_of<A: Allocator + Copy>(records: &Vec<Stream, A>) -> Result<Vec<Stream, A>, AllocError>
-    ensures { IfOk result (λ copy. copy.items ≡ records.now.items) }
-{
-    let mut copy = Vec::new(*records.allocator());
-    copy.extend_from_slice(records.as_slice())?;
-    Ok(copy)
-}
-
-/// A copy of the identifiers, with space for that many.
-fn copy_with_capacity<A: Allocator + Copy>(
-    ids: &Vec<u32, A>,
-    count: usize,
-) -> Result<Vec<u32, A>, AllocError>
-    ensures items { IfOk result (λ copy. copy.items ≡ ids.now.items) }
-    ensures enough { IfOk result (λ copy. count ≤ vec_capacity copy) }
-{
-    let mut copy = Vec::with_capacity(*ids.allocator(), count)?;
-    copy.extend_from_slice(ids.as_slice())?;
-    Ok(copy)
 }

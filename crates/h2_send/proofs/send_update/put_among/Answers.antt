@@ -20,7 +20,7 @@ pub returns-clause-kept : goal.returns-clause-kept
 returns-clause-kept g c = c.send_ready.ensures.kept
 
 -- the copy with the record put
-put-is : (g : Over) (c : goal.After-drop-streams-6 g) → c.put.new.self ≡ with_record c.args.stream c.args.streams.now
+put-is : (g : Over) (c : goal.After-drop-streams g) → c.put.new.self ≡ with_record c.args.stream c.args.streams.now
 put-is g c = c.in_ok-put.ensures.ok ∙ ap (with_record c.args.stream) c.in_ok-after.ensures
 
 pub returns-clause-records : goal.returns-clause-records

@@ -17,27 +17,39 @@ rebuilt-requires-clause-rising g c =
 pub rebuilt-requires-clause-changed : goal.rebuilt-requires-clause-changed
 rebuilt-requires-clause-changed g c =
     let parts = subst (λ (m : CheckpointView). CanRebuild m c.later.inside.streams.streams) (sym c.self.view_is) (subst (λ (s : State). CanRebuild c.args.self.now s.streams) (sym c.later.view_is) (can-rebuild c.args.self.now c.args.later.now c.consistent.ensures c.requires)) in
-    rw (c.as_slice-changing.ensures.value, c.in_ok-kept.ensures.same) parts.changed
+    rw c.in_ok-changing.ensures.same parts.changed
 
 pub rebuilt-requires-clause-known : goal.rebuilt-requires-clause-known
 rebuilt-requires-clause-known g c =
     let parts = subst (λ (m : CheckpointView). CanRebuild m c.later.inside.streams.streams) (sym c.self.view_is) (subst (λ (s : State). CanRebuild c.args.self.now s.streams) (sym c.later.view_is) (can-rebuild c.args.self.now c.args.later.now c.consistent.ensures c.requires)) in
-    rw (c.as_slice-changing.ensures.value, c.in_ok-kept.ensures.same) parts.known
+    rw c.in_ok-changing.ensures.same parts.known
 
 pub rebuilt-requires-clause-closed : goal.rebuilt-requires-clause-closed
 rebuilt-requires-clause-closed g c =
     let parts = subst (λ (m : CheckpointView). CanRebuild m c.later.inside.streams.streams) (sym c.self.view_is) (subst (λ (s : State). CanRebuild c.args.self.now s.streams) (sym c.later.view_is) (can-rebuild c.args.self.now c.args.later.now c.consistent.ensures c.requires)) in
-    rw (c.as_slice-changing.ensures.value, c.in_ok-kept.ensures.same) parts.closed
+    rw c.in_ok-changing.ensures.same parts.closed
 
 pub invariant_of-result : goal.invariant_of-result
 invariant_of-result g c =
     let sound = restored-sound c.args.self.now c.args.later.now c.consistent.ensures c.requires in
     let seen = subst (λ (m : CheckpointView). IsRestored m (restored m c.later.inside.streams.streams)) (sym c.self.view_is) (subst (λ (s : State). IsRestored c.args.self.now (restored c.args.self.now s.streams)) (sym c.later.view_is) sound) in
-    rw (c.in_ok-streams.ensures, c.as_slice-changing.ensures.value, c.in_ok-kept.ensures.same, c.in_ok-table.ensures.same, c.in_ok-block.ensures) (seen.0, c.self.invariant.0, seen.1, c.self.invariant.1)
+    rw (c.in_ok-streams.ensures.rebuilt, c.in_ok-changing.ensures.same, c.in_ok-table.ensures.same, c.in_ok-block.ensures) (seen.0, c.self.invariant.0, seen.1, c.self.invariant.1)
 
-pub returns : goal.returns
-returns g c = λ s marked follows.
+pub returns-clause-restored : goal.returns-clause-restored
+returns-clause-restored g c = λ s marked follows.
     let same = state-restored s c.args.self.now c.args.later.now c.consistent.ensures marked follows in
     let seen = subst (λ (m : CheckpointView). state_of_checkpoint m (Rattle.h2_streams.specs.Rebuilt.rebuilt m.count m.changing c.later.inside.streams.streams) ≡ s) (sym c.self.view_is)
     (subst (λ (t : State). state_of_checkpoint c.args.self.now (Rattle.h2_streams.specs.Rebuilt.rebuilt c.args.self.now.count c.args.self.now.changing t.streams) ≡ s) (sym c.later.view_is) same) in
-    rw (c.in_ok-streams.ensures, c.as_slice-changing.ensures.value, c.in_ok-kept.ensures.same, c.in_ok-table.ensures.same, c.in_ok-block.ensures) seen
+    rw (c.in_ok-streams.ensures.rebuilt, c.in_ok-changing.ensures.same, c.in_ok-table.ensures.same, c.in_ok-block.ensures) seen
+
+pub invariant_of-later : goal.invariant_of-later
+invariant_of-later g c = rw c.rebuilt.ensures.same c.later.invariant
+
+pub returns-in_err-streams-clause-same : goal.returns-in_err-streams-clause-same
+returns-in_err-streams-clause-same g c = rw c.rebuilt.ensures.same c.later.view_is
+
+pub invariant_of-later-2 : goal.invariant_of-later-2
+invariant_of-later-2 g c = rw c.rebuilt.ensures.same c.later.invariant
+
+pub returns-clause-same : goal.returns-clause-same
+returns-clause-same g c = rw c.rebuilt.ensures.same c.later.view_is

@@ -1,26 +1,27 @@
-use Rattle.std.proofs.Common.{List, ap, arith, length, ◌∙◌}
-use Rattle.std.proofs.lemmas.Map.Entries.{entries_from_clone}
-use Rattle.std.proofs.lemmas.Result.{IfOk-from_err}
-use Rattle.h2_spec.specs.Stream.{Records}
-use Rattle.h2_spec.specs.declared.streams.Stream.{Stream}
+use Rattle.std.proofs.Common.{◌≡◌, ◌∙◌, Option, ap, refl, subst, sym}
+use Rattle.h2_streams.specs.Joined.{Base, GoWith, with_base}
+use Rattle.h2_streams.proofs.SharedLaws.{shared-again}
 use Rattle.h2_streams.proofs.records.Streams.try_clone.Goals as goal
+use Rattle.h2_streams.proofs.records.Streams.try_clone.Goals.{in-Some+in_ok-share-in-Some, in-None}
 
 pub invariant_of-result : goal.invariant_of-result
 invariant_of-result g c =
-    let same = entries_from_clone _ _ (λ x y h. h) (λ v w h. h) c.self.inside.live.entries c.in_ok-live.live.entries c.in_ok-live.ensures.cases in
-    let longer = ap length same in
-    rw (c.in_ok-records.ensures, same, c.in_ok-ready.ensures.items) (c.self.invariant.0, omega (arith, longer, c.len.ensures.len, c.in_ok-ready.ensures.enough))
-
-pub returns-in_err-records : goal.returns-in_err-records
-returns-in_err-records g c = IfOk-from_err c.from_residual.result _ c.from_residual.ensures.0
-
-pub returns-in_err-live : goal.returns-in_err-live
-returns-in_err-live g c = IfOk-from_err c.from_residual-in_err-live.result _ c.from_residual-in_err-live.ensures.0
-
-pub returns-in_err-ready : goal.returns-in_err-ready
-returns-in_err-ready g c = IfOk-from_err c.from_residual-in_err-ready.result _ c.from_residual-in_err-ready.ensures.0
+    let s = c.self.inside in
+    let again : (with_base c.match-self.base s.own ≡ with_base s.base s.own) × GoWith c.match-self.base s.own = elim c.match-self.branch [
+      | in-Some+in_ok-share-in-Some w ↦
+          shared-again s.base c.match-self.base w.in-Some.base w.in_ok-share-in-Some.field-0 s.own w.count.result w.front.result w.count-in-Some.result w.in-Some.is w.base-is c.self.invariant w.count.ensures w.front.ensures w.count-in-Some.ensures
+          w.in_ok-share-in-Some.ensures.records w.in_ok-share-in-Some.ensures.front w.in_ok-share-in-Some.ensures.space
+      | in-None w ↦ subst (λ (b : Option Base). (with_base b s.own ≡ with_base s.base s.own) × GoWith b s.own) (w.in-None.is ∙ sym w.base-is) (refl, c.self.invariant)
+    ] in
+    subst (GoWith c.match-self.base) (sym c.in_ok-try_clone.ensures) again.1
 
 pub returns : goal.returns
 returns g c =
-    let shown = λ (xs : List Stream). let r : Records = record { streams = xs; last = c.self.inside.last } in r in
-    ap shown c.in_ok-records.ensures ∙ c.self.view_is
+    let s = c.self.inside in
+    let again : (with_base c.match-self.base s.own ≡ with_base s.base s.own) × GoWith c.match-self.base s.own = elim c.match-self.branch [
+      | in-Some+in_ok-share-in-Some w ↦
+          shared-again s.base c.match-self.base w.in-Some.base w.in_ok-share-in-Some.field-0 s.own w.count.result w.front.result w.count-in-Some.result w.in-Some.is w.base-is c.self.invariant w.count.ensures w.front.ensures w.count-in-Some.ensures
+          w.in_ok-share-in-Some.ensures.records w.in_ok-share-in-Some.ensures.front w.in_ok-share-in-Some.ensures.space
+      | in-None w ↦ subst (λ (b : Option Base). (with_base b s.own ≡ with_base s.base s.own) × GoWith b s.own) (w.in-None.is ∙ sym w.base-is) (refl, c.self.invariant)
+    ] in
+    ap (with_base c.match-self.base) c.in_ok-try_clone.ensures ∙ again.0 ∙ c.self.view_is

@@ -1,5 +1,5 @@
 use Rattle.std.proofs.Common.{rules}
-use Rattle.h2_streams.proofs.records.Streams.last.Goals as goal
+use Rattle.h2_streams.proofs.own.OwnRecords.last.Goals as goal
 
 pub returns-clause-value : goal.returns-clause-value
 returns-clause-value g c = search rules
