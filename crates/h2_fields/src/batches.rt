@@ -6,7 +6,7 @@ ghost use Rattle.h2_mark.specs.Mark.{mark_of};
 ghost use Rattle.h2_table.specs.Lent.{field_lent, IsMarked};
 ghost use Rattle.h2_fields.specs.Batches.{AreBatches, before};
 
-use h2_list::FieldList;
+use h2_list::{FieldList, FoldedFields};
 use h2_mark::FieldMark;
 use h2_table::LentField;
 use std::alloc::{AllocError, Allocator};
@@ -20,9 +20,9 @@ const MAX_FIELDS: usize = 4_294_967_295;
 #[derive(Drop)]
 pub(crate) struct FieldBatch<A: Allocator> {
     /// The fields.
-    pub(crate) list: FieldList<A>,
+    fields: FoldedFields<A>,
     /// The mark of each field, in the same order.
-    pub(crate) marks: Vec<FieldMark, A>,
+    marks: Vec<FieldMark, A>,
 }
 
 impl<A: Allocator> Model for FieldBatch<A> {
@@ -32,9 +32,9 @@ impl<A: Allocator> Model for FieldBatch<A> {
 
     ghost Value = { List Field };
 
-    ghost view = { λ b. b.list.fields };
+    ghost view = { λ b. b.fields };
 
-    ghost invariant = { λ b. b.marks.items ≡ map mark_of b.list.fields };
+    ghost invariant = { λ b. b.marks.items ≡ map mark_of b.fields };
 }
 
 impl<A: Allocator> FieldBatch<A> {
@@ -43,7 +43,25 @@ impl<A: Allocator> FieldBatch<A> {
         ensures field { option_map field_lent result ≡ slice_get self.now place }
         ensures marked { IfSome result IsMarked }
     {
-        lent_at(&self.list, self.marks.as_slice(), place)
+        let (name, value) = self.fields.get(place)?;
+        let mark = self.marks[place];
+        Some(LentField { name, value, mark })
+    }
+}
+
+impl<A: Allocator + Copy> FieldBatch<A> {
+    /// The fields of a list, of which these are the marks, in memory of their own.
+    ///
+    /// # Errors
+    ///
+    /// `AllocError` where memory was refused.
+    pub(crate) fn of(list: &FieldList<A>, marks: &Vec<FieldMark, A>) -> Result<Self, AllocError>
+        requires marked { marks.now.items ≡ map mark_of list.now.fields }
+        ensures same { IfOk result (λ batch. batch ≡ list.now.fields) }
+    {
+        let fields = list.fold()?;
+        let marks = marks.clone()?;
+        Ok(FieldBatch { fields, marks })
     }
 }
 
@@ -73,8 +91,8 @@ pub(crate) fn lent_at<'a, A: Allocator>(
 #[derive(Drop)]
 struct Shared<A: Allocator> {
     batch: Rc<FieldBatch<A>, A>,
-    start: usize,
-    count: usize,
+    start: u32,
+    count: u32,
 }
 
 impl<A: Allocator> Model for Shared<A> {
@@ -106,7 +124,7 @@ impl<A: Allocator> Shared<A> {
         ensures field { option_map field_lent result ≡ slice_get self.now.fields place }
         ensures marked { IfSome result IsMarked }
     {
-        if place < self.count {
+        if place < self.count as usize {
             self.batch.as_ref().lent(place)
         } else {
             None
@@ -117,7 +135,10 @@ impl<A: Allocator> Shared<A> {
     fn cut(&mut self, bound: usize)
         ensures { self.new ≡ record self.old { fields = take (bound - self.old.start) self.old.fields } }
     {
-        self.count = self.count.min(bound.saturating_sub(self.start));
+        let most = bound.saturating_sub(self.start as usize);
+        if most < self.count as usize {
+            self.count = most as u32;
+        }
     }
 }
 
@@ -177,7 +198,7 @@ impl<A: Allocator> Batches<A> {
         }
         let before = batches_before(self.batches.as_slice(), place + 1);
         let shared = &self.batches[before - 1];
-        shared.lent(place - shared.start)
+        shared.lent(place - shared.start as usize)
     }
 
     /// Drops all fields but the first `count`. Takes no memory.
@@ -202,7 +223,7 @@ fn batches_before<A: Allocator>(batches: &[Shared<A>], bound: usize) -> usize
     ensures value { result ≡ before bound batches.now }
     ensures within { result ≤ length batches.now }
 {
-    batches.partition_point(|shared| shared.start < bound)
+    batches.partition_point(|shared| (shared.start as usize) < bound)
 }
 
 impl<A: Allocator + Copy> Batches<A> {
@@ -210,30 +231,27 @@ impl<A: Allocator + Copy> Batches<A> {
     ///
     /// # Errors
     ///
-    /// The batch, where memory was refused, or there would be more than 4,294,967,295 fields; nothing has changed.
-    pub(crate) fn push(&mut self, batch: FieldBatch<A>) -> Result<(), FieldBatch<A>>
+    /// `AllocError` where memory was refused, or there would be more than 4,294,967,295 fields; nothing has changed.
+    pub(crate) fn push(&mut self, batch: FieldBatch<A>) -> Result<(), AllocError>
         ensures ok { OnOk result (self.new ≡ self.old ++ batch) }
-        ensures err { IfErr result (λ refused. refused ≡ batch) }
         ensures unchanged { OnErr result (self.new ≡ self.old) }
     {
-        let count = batch.list.len();
+        let count = batch.marks.len();
         if count > MAX_FIELDS - self.count {
-            return Err(batch);
+            return Err(AllocError);
         }
-        if self.batches.reserve(1).is_err() {
-            return Err(batch);
-        }
+        self.batches.reserve(1)?;
         match Rc::new(*self.batches.allocator(), batch) {
             Ok(batch) => {
                 self.batches.push_reserved(Shared {
                     batch,
-                    start: self.count,
-                    count,
+                    start: self.count as u32,
+                    count: count as u32,
                 });
                 self.count += count;
                 Ok(())
             }
-            Err(failed) => Err(failed.value),
+            Err(_) => Err(AllocError),
         }
     }
 

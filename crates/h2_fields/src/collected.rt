@@ -23,10 +23,12 @@ use h2_mark::FieldMark;
 use h2_table::LentField;
 use std::alloc::{AllocError, Allocator};
 use std::marker::Model;
-use std::mem::replace;
 
 /// The most octets of a field that is not shared: to look for them costs more than to copy them.
 const MAX_COPIED: usize = 32;
+
+/// After how many fields of a list these are shared too, since the list may be long then.
+const MANY_FIELDS: usize = 64;
 
 /// How many fields a batch has at least.
 const MIN_SHARED: usize = 256;
@@ -235,7 +237,8 @@ impl<A: Allocator> Collected<A> {
     }
 
     /// Adds the field of an index of the tables after the others, `limit` being the most octets of the dynamic table.
-    /// Where the index was added before, the octets of its name and value are shared, unless they are at most 32.
+    /// Where the index was added before, the octets of its name and value are shared, unless they are at most 32 and the
+    /// fields are few.
     ///
     /// # Errors
     ///
@@ -251,7 +254,7 @@ impl<A: Allocator> Collected<A> {
         ensures ok { OnOk result (self.new ≡ record self.old { fields = self.old.fields ++ field_lent added.entry ∷ [] }) }
         ensures err { OnErr result (self.new ≡ self.old) }
     {
-        let place = if is_short(added.name, added.value) {
+        let place = if is_copied(&self.list, added.name, added.value) {
             usize::MAX
         } else {
             self.place_like(index, limit)?
@@ -326,7 +329,8 @@ impl<A: Allocator> Collected<A> {
 
     /// Adds the field of a name that is that of an entry of the tables, and a value that is spelled, after the others;
     /// `index` is the index of the entry, `limit` the most octets of the dynamic table. Where a field with the name of
-    /// the index was added before, the octets of the name are shared, unless the field has at most 32.
+    /// the index was added before, the octets of the name are shared, unless the field has at most 32 and the fields are
+    /// few.
     ///
     /// # Errors
     ///
@@ -384,15 +388,12 @@ impl<A: Allocator + Copy> Collected<A> {
         if self.list.len() < MIN_SHARED {
             return;
         }
-        let alloc = self.list.allocator();
-        let batch = FieldBatch {
-            list: replace(&mut self.list, FieldList::new(alloc)),
-            marks: replace(&mut self.marks, Vec::new(alloc)),
+        let Ok(batch) = FieldBatch::of(&self.list, &self.marks) else {
+            return;
         };
-        if let Err(batch) = self.shared.push(batch) {
-            let FieldBatch { list, marks } = batch;
-            self.list = list;
-            self.marks = marks;
+        if self.shared.push(batch).is_ok() {
+            self.list.clear();
+            self.marks.clear();
         }
     }
 
@@ -424,9 +425,9 @@ fn mark_of_parts(octets: &[u8], split: usize) -> FieldMark
     FieldMark::of(name, value)
 }
 
-/// Whether a field is copied in any case.
-fn is_short(name: &[u8], value: &[u8]) -> bool {
-    name.len().saturating_add(value.len()) <= MAX_COPIED
+/// Whether a field is copied to the end of a list in any case.
+fn is_copied<A: Allocator>(list: &FieldList<A>, name: &[u8], value: &[u8]) -> bool {
+    list.len() < MANY_FIELDS && name.len().saturating_add(value.len()) <= MAX_COPIED
 }
 
 /// The place of a field that may have the name of an index; none where the name is to be copied.
@@ -437,7 +438,7 @@ fn like_named<A: Allocator>(
     limit: u32,
     name: &[u8],
 ) -> Result<usize, AllocError> {
-    if is_short(name, list.next()) {
+    if is_copied(list, name, list.next()) {
         return Ok(usize::MAX);
     }
     let key = hints.key(index, limit);

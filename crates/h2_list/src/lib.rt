@@ -9,6 +9,9 @@ ghost use Rattle.h2_spec.specs.Huffman.{Text, Eos, Padding, huffman_text};
 ghost use Rattle.h2_table.specs.Lent.{lent_field};
 ghost use Rattle.h2_list.specs.Spans.{AreSpans, IsOrdered, IsPart, field_in};
 
+mod fold;
+
+pub use fold::FoldedFields;
 use h2_prim::{HuffFault, huff_append};
 use std::alloc::{AllocError, Allocator};
 use std::marker::Model;

@@ -1,6 +1,7 @@
 use Rattle.std.proofs.Common.{◌≡◌, ◌∷◌, ◌++◌, [], ℕ, List, length, take, sym, subst, ap, ◌∙◌, arith, length-append}
-use Rattle.std.proofs.lemmas.List.{take_all}
+use Rattle.std.proofs.lemmas.List.{length-map, take_all}
 use Rattle.h2_spec.specs.Field.{Field}
+use Rattle.h2_mark.specs.Mark.{mark_of}
 use Rattle.h2_fields.specs.Batches.{AreBatches, FieldsFrom, fields_in}
 use Rattle.h2_fields.proofs.BatchLaws.{push-batch}
 use Rattle.h2_fields.proofs.batches.Batches.push.Goals as goal
@@ -13,7 +14,7 @@ unfolding last
 invariant_of-self-in-Ok g c =
     let bs = c.self.inside.batches.items in
     let value = c.in-Ok.ensures.ok in
-    let count = c.len-count.ensures ∙ ap length c.batch.view_is in
+    let count = c.len-count.ensures ∙ c.batch.inside.marks.ok.0 ∙ ap length c.batch.invariant ∙ length-map c.batch.inside.fields mark_of ∙ ap length c.batch.view_is in
     let whole : take c.len-count.result c.in-Ok.batch.value ≡ c.args.batch = take_all c.len-count.result c.in-Ok.batch.value (omega (arith, count, ap length value)) ∙ value in
     let b = last c.self.inside.count (take c.len-count.result c.in-Ok.batch.value) in
     let items : c.push_reserved.new.self.items ≡ bs ++ b ∷ [] = c.push_reserved.ensures.items ∙ ap (λ xs. xs ++ b ∷ []) c.reserve.ensures.items in
@@ -29,7 +30,7 @@ unfolding last
 returns-in-Ok-clause-ok g c =
     let bs = c.self.inside.batches.items in
     let value = c.in-Ok.ensures.ok in
-    let count = c.len-count.ensures ∙ ap length c.batch.view_is in
+    let count = c.len-count.ensures ∙ c.batch.inside.marks.ok.0 ∙ ap length c.batch.invariant ∙ length-map c.batch.inside.fields mark_of ∙ ap length c.batch.view_is in
     let whole : take c.len-count.result c.in-Ok.batch.value ≡ c.args.batch = take_all c.len-count.result c.in-Ok.batch.value (omega (arith, count, ap length value)) ∙ value in
     let b = last c.self.inside.count (take c.len-count.result c.in-Ok.batch.value) in
     let items : c.push_reserved.new.self.items ≡ bs ++ b ∷ [] = c.push_reserved.ensures.items ∙ ap (λ xs. xs ++ b ∷ []) c.reserve.ensures.items in
