@@ -51,7 +51,7 @@ impl<A: Allocator + Copy> KeptBlock<A> {
         ensures { IfOk result (λ kept. kept ≡ block.now) }
     {
         let decoding = &block.decoding;
-        let collected = decoding.collected.try_clone()?;
+        let collected = decoding.collected.keep()?;
         let rest = decoding.rest.keep(earlier)?;
         Ok(KeptBlock {
             shown: block.shown,

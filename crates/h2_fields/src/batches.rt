@@ -16,55 +16,6 @@ use std::rc::Rc;
 /// The most fields that are in batches: their number stays far below the greatest `usize`.
 const MAX_FIELDS: usize = 4_294_967_295;
 
-/// Fields, and what each can be malformed for by itself.
-#[derive(Drop)]
-pub(crate) struct FieldBatch<A: Allocator> {
-    /// The fields.
-    fields: FoldedFields<A>,
-    /// The mark of each field, in the same order.
-    marks: Vec<FieldMark, A>,
-}
-
-impl<A: Allocator> Model for FieldBatch<A> {
-    ghost use Rattle.std.specs.Prelude.{◌≡◌, List, map};
-    ghost use Rattle.h2_mark.specs.Mark.{mark_of};
-    ghost use Rattle.h2_spec.specs.Field.{Field};
-
-    ghost Value = { List Field };
-
-    ghost view = { λ b. b.fields };
-
-    ghost invariant = { λ b. b.marks.items ≡ map mark_of b.fields };
-}
-
-impl<A: Allocator> FieldBatch<A> {
-    /// The field at a place with its mark; none at the number of fields and above.
-    fn lent(&self, place: usize) -> Option<LentField<'_>>
-        ensures field { option_map field_lent result ≡ slice_get self.now place }
-        ensures marked { IfSome result IsMarked }
-    {
-        let (name, value) = self.fields.get(place)?;
-        let mark = self.marks[place];
-        Some(LentField { name, value, mark })
-    }
-}
-
-impl<A: Allocator + Copy> FieldBatch<A> {
-    /// The fields of a list, of which these are the marks, in memory of their own.
-    ///
-    /// # Errors
-    ///
-    /// `AllocError` where memory was refused.
-    pub(crate) fn of(list: &FieldList<A>, marks: &Vec<FieldMark, A>) -> Result<Self, AllocError>
-        requires marked { marks.now.items ≡ map mark_of list.now.fields }
-        ensures same { IfOk result (λ batch. batch ≡ list.now.fields) }
-    {
-        let fields = list.fold()?;
-        let marks = marks.clone()?;
-        Ok(FieldBatch { fields, marks })
-    }
-}
-
 /// The field of a list at a place with its mark, where these are the marks of all of them; none at the length of the
 /// list and above.
 pub(crate) fn lent_at<'a, A: Allocator>(
@@ -87,10 +38,11 @@ pub(crate) fn lent_at<'a, A: Allocator>(
     })
 }
 
-/// The first fields of a batch, and how many there are before them.
+/// The first fields of a batch, and how many there are before them. What a field can be malformed for is found anew where it is
+/// lent: a block of so many fields is seldom looked at, since most are refused for their size.
 #[derive(Drop)]
 struct Shared<A: Allocator> {
-    batch: Rc<FieldBatch<A>, A>,
+    batch: Rc<FoldedFields<A>, A>,
     start: u32,
     count: u32,
 }
@@ -124,11 +76,12 @@ impl<A: Allocator> Shared<A> {
         ensures field { option_map field_lent result ≡ slice_get self.now.fields place }
         ensures marked { IfSome result IsMarked }
     {
-        if place < self.count as usize {
-            self.batch.as_ref().lent(place)
-        } else {
-            None
+        if place >= self.count as usize {
+            return None;
         }
+        let (name, value) = self.batch.as_ref().get(place)?;
+        let mark = FieldMark::of(name, value);
+        Some(LentField { name, value, mark })
     }
 
     /// Drops the fields from this number on, those before the batch counted.
@@ -227,21 +180,22 @@ fn batches_before<A: Allocator>(batches: &[Shared<A>], bound: usize) -> usize
 }
 
 impl<A: Allocator + Copy> Batches<A> {
-    /// Puts a batch after the others.
+    /// Puts the fields of a list after the others, as a batch.
     ///
     /// # Errors
     ///
     /// `AllocError` where memory was refused, or there would be more than 4,294,967,295 fields; nothing has changed.
-    pub(crate) fn push(&mut self, batch: FieldBatch<A>) -> Result<(), AllocError>
-        ensures ok { OnOk result (self.new ≡ self.old ++ batch) }
+    pub(crate) fn push(&mut self, list: &FieldList<A>) -> Result<(), AllocError>
+        ensures ok { OnOk result (self.new ≡ self.old ++ list.now.fields) }
         ensures unchanged { OnErr result (self.new ≡ self.old) }
     {
-        let count = batch.marks.len();
+        let count = list.len();
         if count > MAX_FIELDS - self.count {
             return Err(AllocError);
         }
+        let fields = list.fold()?;
         self.batches.reserve(1)?;
-        match Rc::new(*self.batches.allocator(), batch) {
+        match Rc::new(*self.batches.allocator(), fields) {
             Ok(batch) => {
                 self.batches.push_reserved(Shared {
                     batch,

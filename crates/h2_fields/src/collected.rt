@@ -14,7 +14,7 @@ ghost use Rattle.h2_instruction.specs.declared.fault.BlockFault.TheVariants as f
 ghost use Rattle.h2_mark.specs.Mark.{mark_of};
 ghost use Rattle.h2_table.specs.Lent.{lent_field, field_lent, IsMarked};
 
-use crate::batches::{Batches, FieldBatch, lent_at};
+use crate::batches::{Batches, lent_at};
 use crate::hints::Hints;
 use h2_instruction::fault::BlockFault;
 use h2_instruction::shape::RawString;
@@ -27,11 +27,14 @@ use std::marker::Model;
 /// The most octets of a field that is not shared: to look for them costs more than to copy them.
 const MAX_COPIED: usize = 32;
 
-/// After how many fields of a list these are shared too, since the list may be long then.
+/// After how many fields of a block these are shared too, since the block may be long then.
 const MANY_FIELDS: usize = 64;
 
-/// How many fields a batch has at least.
-const MIN_SHARED: usize = 256;
+/// How many fields a batch has at least, but the last one of a block that is kept.
+const MIN_SHARED: usize = 1_024;
+
+/// How many fields the last batch of a block that is kept has at least.
+const MIN_KEPT: usize = 32;
 
 /// The most marks whose memory is kept for the next field block.
 const MAX_KEPT_MARKS: usize = 512;
@@ -254,7 +257,7 @@ impl<A: Allocator> Collected<A> {
         ensures ok { OnOk result (self.new ≡ record self.old { fields = self.old.fields ++ field_lent added.entry ∷ [] }) }
         ensures err { OnErr result (self.new ≡ self.old) }
     {
-        let place = if is_copied(&self.list, added.name, added.value) {
+        let place = if is_copied(self.len(), added.name, added.value) {
             usize::MAX
         } else {
             self.place_like(index, limit)?
@@ -347,12 +350,13 @@ impl<A: Allocator> Collected<A> {
         ensures { IsReadAs (Ok named.entry.name.now) (text_result (text_of (string_of value.entry))) self.old self.new result }
     {
         let name = named.name;
+        let count = self.len();
         self.marks.reserve(1)?;
         self.list.clear_next();
         put_text(&mut self.list, value)?;
         let mark = named.mark.with_value(self.list.next());
         let size = size_of(name, self.list.next());
-        let like = like_named(&mut self.hints, &self.list, index, limit, name)?;
+        let like = like_named(&mut self.hints, &self.list, count, index, limit, name)?;
         self.list.close_named(like, name)?;
         self.marks.push_reserved(mark);
         self.size = self.size.saturating_add(size);
@@ -388,13 +392,35 @@ impl<A: Allocator + Copy> Collected<A> {
         if self.list.len() < MIN_SHARED {
             return;
         }
-        let Ok(batch) = FieldBatch::of(&self.list, &self.marks) else {
-            return;
-        };
-        if self.shared.push(batch).is_ok() {
+        if self.shared.push(&self.list).is_ok() {
             self.list.clear();
             self.marks.clear();
         }
+    }
+
+    /// A copy of the fields to be kept, in little memory: batches are shared, and the others are one more batch, unless they are
+    /// few.
+    ///
+    /// # Errors
+    ///
+    /// `AllocError` where memory was refused; `self` is as it was.
+    pub fn keep(&self) -> Result<Collected<A>, AllocError>
+        ensures same { IfOk result (λ copy. copy ≡ self.now) }
+    {
+        if self.list.len() < MIN_KEPT {
+            return self.try_clone();
+        }
+        let alloc = self.list.allocator();
+        let mut shared = self.shared.try_clone()?;
+        shared.push(&self.list)?;
+        Ok(Collected {
+            shared,
+            list: FieldList::new(alloc),
+            marks: Vec::new(alloc),
+            hints: Hints::new(alloc),
+            size: self.size,
+            due: self.due,
+        })
     }
 
     /// A copy of the fields: batches are shared, the others copied.
@@ -425,20 +451,22 @@ fn mark_of_parts(octets: &[u8], split: usize) -> FieldMark
     FieldMark::of(name, value)
 }
 
-/// Whether a field is copied to the end of a list in any case.
-fn is_copied<A: Allocator>(list: &FieldList<A>, name: &[u8], value: &[u8]) -> bool {
-    list.len() < MANY_FIELDS && name.len().saturating_add(value.len()) <= MAX_COPIED
+/// Whether a field is copied in any case, where there are that many others in its block.
+fn is_copied(count: usize, name: &[u8], value: &[u8]) -> bool {
+    count < MANY_FIELDS && name.len().saturating_add(value.len()) <= MAX_COPIED
 }
 
-/// The place of a field that may have the name of an index; none where the name is to be copied.
+/// The place of a field that may have the name of an index, in a block of that many others; none where the name is to be
+/// copied.
 fn like_named<A: Allocator>(
     hints: &mut Hints<A>,
     list: &FieldList<A>,
+    count: usize,
     index: u64,
     limit: u32,
     name: &[u8],
 ) -> Result<usize, AllocError> {
-    if is_copied(list, name, list.next()) {
+    if is_copied(count, name, list.next()) {
         return Ok(usize::MAX);
     }
     let key = hints.key(index, limit);

@@ -1,7 +1,6 @@
 use Rattle.std.proofs.Common.{◌≡◌, ◌∷◌, ◌++◌, [], ℕ, List, length, take, sym, subst, ap, ◌∙◌, arith, length-append}
-use Rattle.std.proofs.lemmas.List.{length-map, take_all}
+use Rattle.std.proofs.lemmas.List.{take_all}
 use Rattle.h2_spec.specs.Field.{Field}
-use Rattle.h2_mark.specs.Mark.{mark_of}
 use Rattle.h2_fields.specs.Batches.{AreBatches, FieldsFrom, fields_in}
 use Rattle.h2_fields.proofs.BatchLaws.{push-batch}
 use Rattle.h2_fields.proofs.batches.Batches.push.Goals as goal
@@ -13,9 +12,9 @@ pub invariant_of-self-in-Ok : goal.invariant_of-self-in-Ok
 unfolding last
 invariant_of-self-in-Ok g c =
     let bs = c.self.inside.batches.items in
-    let value = c.in-Ok.ensures.ok in
-    let count = c.len-count.ensures ∙ c.batch.inside.marks.ok.0 ∙ ap length c.batch.invariant ∙ length-map c.batch.inside.fields mark_of ∙ ap length c.batch.view_is in
-    let whole : take c.len-count.result c.in-Ok.batch.value ≡ c.args.batch = take_all c.len-count.result c.in-Ok.batch.value (omega (arith, count, ap length value)) ∙ value in
+    let value = c.in-Ok.ensures.ok ∙ c.in_ok-fields.ensures.same in
+    let count = c.len-count.ensures in
+    let whole : take c.len-count.result c.in-Ok.batch.value ≡ c.args.list.now.fields = take_all c.len-count.result c.in-Ok.batch.value (omega (arith, count, ap length value)) ∙ value in
     let b = last c.self.inside.count (take c.len-count.result c.in-Ok.batch.value) in
     let items : c.push_reserved.new.self.items ≡ bs ++ b ∷ [] = c.push_reserved.ensures.items ∙ ap (λ xs. xs ++ b ∷ []) c.reserve.ensures.items in
     let more = push-batch 0 bs b c.self.invariant.0 (omega (arith, c.self.invariant.1)) in
@@ -29,9 +28,9 @@ pub returns-in-Ok-clause-ok : goal.returns-in-Ok-clause-ok
 unfolding last
 returns-in-Ok-clause-ok g c =
     let bs = c.self.inside.batches.items in
-    let value = c.in-Ok.ensures.ok in
-    let count = c.len-count.ensures ∙ c.batch.inside.marks.ok.0 ∙ ap length c.batch.invariant ∙ length-map c.batch.inside.fields mark_of ∙ ap length c.batch.view_is in
-    let whole : take c.len-count.result c.in-Ok.batch.value ≡ c.args.batch = take_all c.len-count.result c.in-Ok.batch.value (omega (arith, count, ap length value)) ∙ value in
+    let value = c.in-Ok.ensures.ok ∙ c.in_ok-fields.ensures.same in
+    let count = c.len-count.ensures in
+    let whole : take c.len-count.result c.in-Ok.batch.value ≡ c.args.list.now.fields = take_all c.len-count.result c.in-Ok.batch.value (omega (arith, count, ap length value)) ∙ value in
     let b = last c.self.inside.count (take c.len-count.result c.in-Ok.batch.value) in
     let items : c.push_reserved.new.self.items ≡ bs ++ b ∷ [] = c.push_reserved.ensures.items ∙ ap (λ xs. xs ++ b ∷ []) c.reserve.ensures.items in
     let more = push-batch 0 bs b c.self.invariant.0 (omega (arith, c.self.invariant.1)) in
