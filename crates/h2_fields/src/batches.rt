@@ -39,7 +39,7 @@ pub(crate) fn lent_at<'a, A: Allocator>(
 }
 
 /// The first fields of a batch, and how many there are before them. What a field can be malformed for is found anew where it is
-/// lent: a block of so many fields is seldom looked at, since most are refused for their size.
+/// lent: a block of more than 1,024 fields is seldom looked at, since most are refused for their size.
 #[derive(Drop)]
 struct Shared<A: Allocator> {
     batch: Rc<FoldedFields<A>, A>,
