@@ -194,12 +194,22 @@ fn first_left<A: Allocator>(
     ensures records { result.items ≡ take count records.items }
     ensures space { count + more ≤ vec_capacity result }
 {
-    if records.capacity() - count < more {
+    if !has_space(&records, count, more) {
         return copies_in(room, &records.as_slice()[..count]);
     }
     let mut records = records;
     records.truncate(count);
     records
+}
+
+/// Whether a list has space for these two numbers of records.
+fn has_space<A: Allocator>(records: &Vec<Stream, A>, count: usize, more: usize) -> bool
+    ensures { result ≡ true → count + more ≤ vec_capacity records.now }
+{
+    match count.checked_add(more) {
+        Some(all) => all <= records.capacity(),
+        None => false,
+    }
 }
 
 /// Copies of these records in a list that is empty and has the space. Takes no memory.

@@ -1,4 +1,4 @@
-use Rattle.std.proofs.Common.{◌≡◌, ◌∙◌, ◌++◌, List, ap, arith, drop, length, length-drop, map, take}
+use Rattle.std.proofs.Common.{◌∙◌, ◌++◌, ◌-◌, List, ap, arith, drop, length, length-drop, map, take}
 use Rattle.std.proofs.lemmas.List.{length-map}
 use Rattle.h2_spec.specs.declared.streams.Stream.{Stream}
 use Rattle.h2_streams.specs.Rebuilt.{as_in}
@@ -13,7 +13,7 @@ pub append_each-requires : goal.append_each-requires
 append_each-requires g c =
     let own = c.args.own.now in
     let n = c.args.front in
-    let front = ap length c.write_each.ensures.items ∙ length-map c.args.records.old.items (as_in (take n own)) in
+    let front = ap length c.write_each.ensures.items ∙ length-map c.args.records.now.items (as_in (take n own)) in
     let rest = ap length (take-rest n own) ∙ length-drop n own in
     omega (arith, c.requires.enough, c.requires.within, front, rest, c.write_each.ensures.capacity)
 
@@ -21,4 +21,4 @@ pub returns : goal.returns
 returns g c =
     let own = c.args.own.now in
     let n = c.args.front in
-    c.append_each.ensures.items ∙ ap (λ (xs : List Stream). xs ++ take (length own - n) (drop n own)) c.write_each.ensures.items ∙ ap (λ (xs : List Stream). map (as_in (take n own)) c.args.records.old.items ++ xs) (take-rest n own)
+    c.append_each.ensures.items ∙ ap (λ (xs : List Stream). xs ++ take (length own - n) (drop n own)) c.write_each.ensures.items ∙ ap (λ (xs : List Stream). map (as_in (take n own)) c.args.records.now.items ++ xs) (take-rest n own)
