@@ -1,5 +1,5 @@
 -- The entries of the map of the live streams, where the list has all of them.
-use Rattle.std.proofs.Common.{◌≡◌, ℕ, zero, suc, ◌-◌, Bool, true, false, cond, eqb, List, [], ◌∷◌, ◌++◌, map, take, drop, length, Some, None, refl, ap, ◌∙◌, sym, subst, arith}
+use Rattle.std.proofs.Common.{◌≡◌, ℕ, zero, suc, ◌-◌, Bool, true, false, cond, eqb, List, [], ◌∷◌, ◌++◌, map, take, drop, length, Some, None, refl, ap, ◌∙◌, sym, subst, arith, length-drop, take_all}
 use Rattle.std.specs.Option.{is_some}
 use Rattle.h2_spec.specs.declared.streams.Stream.{Stream}
 use Rattle.h2_spec.specs.Stream.{is_live, record_of}
@@ -10,7 +10,7 @@ use Rattle.h2_streams.proofs.JoinedPut.{found-own, same-front}
 use Rattle.h2_streams.proofs.PlaceLaws.{rise}
 use Rattle.h2_streams.proofs.RebuiltLaws.{as_in-id, as_in-none, eqb-other, eqb-same, live-rebuilt, none-some, rise-from}
 
-in-behind : (x : Stream) (rs ys : List Stream) → Rise x.id ys → AreIn rs ys → AreIn (x ∷ rs) ys
+pub in-behind : (x : Stream) (rs ys : List Stream) → Rise x.id ys → AreIn rs ys → AreIn (x ∷ rs) ys
 in-behind x rs [] r h = tt
 in-behind x rs (y ∷ ys) r h =
     let over = r.0 in
@@ -26,7 +26,7 @@ in-other : (rs ss ys : List Stream) → ((id : ℕ) (st : Stream) → record_of 
 in-other rs ss [] more h = tt
 in-other rs ss (y ∷ ys) more h = (more y.id y h.0, in-other rs ss ys more h.1)
 
-in-known : (rs ys : List Stream) → AreIn rs ys → AreKnown rs ys
+pub in-known : (rs ys : List Stream) → AreIn rs ys → AreKnown rs ys
 in-known rs [] h = tt
 in-known rs (y ∷ ys) h = (ap is_some h.0, in-known rs ys h.1)
 
@@ -76,14 +76,5 @@ joined-entries base n own last is r =
     sym (live-rebuilt 0 own all rising r (in-known all own there) closed) ∙ ap (entries_of lives) (same-front own all rising there)
 
 -- the rest of a list, by how long it is
-pub length-rest : {X : Type 0} (n : ℕ) (xs : List X) → length (drop n xs) ≡ length xs - n
-length-rest zero xs = omega arith
-length-rest (suc n) [] = omega arith
-length-rest (suc n) (x ∷ xs) = let rest = length-rest n xs in omega (arith, rest)
-
-take-whole : {X : Type 0} (xs : List X) → take (length xs) xs ≡ xs
-take-whole [] = refl
-take-whole (x ∷ xs) = ap (λ ys. x ∷ ys) (take-whole xs)
-
 pub take-rest : {X : Type 0} (n : ℕ) (xs : List X) → take (length xs - n) (drop n xs) ≡ drop n xs
-take-rest n xs = ap (λ m. take m (drop n xs)) (sym (length-rest n xs)) ∙ take-whole (drop n xs)
+take-rest n xs = let rest = length-drop n xs in take_all (length xs - n) (drop n xs) (omega (arith, rest))
