@@ -145,7 +145,7 @@ impl<A: Allocator + Copy> TableEntry<A> {
 }
 
 /// A name and a value in one list, in memory of just their length.
-fn joined<A: Allocator + Copy>(
+pub(crate) fn joined<A: Allocator + Copy>(
     alloc: A,
     name: &[u8],
     value: &[u8],

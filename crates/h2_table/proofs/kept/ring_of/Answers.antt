@@ -22,7 +22,7 @@ loop-shared-preserved g c =
     let ring = c.loop-shared.ring.items in
     let count = length_push ring c.in_ok-entry.entry in
     rw c.put_oldest.ensures (record {
-      same = copied_next c.args.entries.now ring c.loop-shared.shared-index c.shared-item.result c.in_ok-entry.entry c.loop-shared.invariant.same c.loop-shared-test.true c.shared-item.is (c.in_ok-entry.ensures.same ∙ c.as_ref.ensures ∙ c.shared.view_is);
+      same = copied_next c.args.entries.now ring c.loop-shared.shared-index c.shared-item.result c.in_ok-entry.entry c.loop-shared.invariant.same c.loop-shared-test.true c.shared-item.is (c.in_ok-entry.ensures);
       count = omega (arith, count, c.loop-shared.invariant.count);
       places = c.loop-shared.invariant.places;
     })

@@ -20,7 +20,7 @@ loop-i-preserved g c =
     ]
 
 pub returns-in_err-list : goal.returns-in_err-list
-returns-in_err-list g c = IfOk-from_err c.from_residual.result _ c.from_residual.ensures.0
+returns-in_err-list g c = IfOk-from_err c.from_residual-in_err-list.result _ c.from_residual-in_err-list.ensures.0
 
 pub loop-i-init : goal.loop-i-init
 loop-i-init g c = record { same = c.in_ok-list.ensures.items }
