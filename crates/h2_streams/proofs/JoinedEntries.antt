@@ -1,5 +1,5 @@
 -- The entries of the map of the live streams, where the list has all of them.
-use Rattle.std.proofs.Common.{◌≡◌, ℕ, zero, suc, ◌-◌, Bool, true, false, cond, eqb, List, [], ◌∷◌, ◌++◌, map, take, drop, length, Some, None, refl, ap, ◌∙◌, sym, subst, arith}
+use Rattle.std.proofs.Common.{◌≡◌, ℕ, zero, suc, ◌-◌, Bool, true, false, cond, eqb, List, [], ◌∷◌, ◌++◌, map, take, drop, length, Some, None, refl, ap, ◌∙◌, sym, subst, arith, length-drop, take_all}
 use Rattle.std.specs.Option.{is_some}
 use Rattle.h2_spec.specs.declared.streams.Stream.{Stream}
 use Rattle.h2_spec.specs.Stream.{is_live, record_of}
@@ -76,14 +76,5 @@ joined-entries base n own last is r =
     sym (live-rebuilt 0 own all rising r (in-known all own there) closed) ∙ ap (entries_of lives) (same-front own all rising there)
 
 -- the rest of a list, by how long it is
-pub length-rest : {X : Type 0} (n : ℕ) (xs : List X) → length (drop n xs) ≡ length xs - n
-length-rest zero xs = omega arith
-length-rest (suc n) [] = omega arith
-length-rest (suc n) (x ∷ xs) = let rest = length-rest n xs in omega (arith, rest)
-
-take-whole : {X : Type 0} (xs : List X) → take (length xs) xs ≡ xs
-take-whole [] = refl
-take-whole (x ∷ xs) = ap (λ ys. x ∷ ys) (take-whole xs)
-
 pub take-rest : {X : Type 0} (n : ℕ) (xs : List X) → take (length xs - n) (drop n xs) ≡ drop n xs
-take-rest n xs = ap (λ m. take m (drop n xs)) (sym (length-rest n xs)) ∙ take-whole (drop n xs)
+take-rest n xs = let rest = length-drop n xs in take_all (length xs - n) (drop n xs) (omega (arith, rest))

@@ -171,6 +171,13 @@ place-found id low (x ∷ xs) (suc p) h k =
     let l = h.0 in
     (omega (arith, l, over), rw under (ap suc rest.1))
 
+-- and is the one that is found
+pub found-there : (id : ℕ) (rs : List Stream) (p : ℕ) → Rise 0 rs → passes_at (λ st. eqb st.id id) rs p ≡ true → slice_get rs p ≡ record_of rs id
+found-there id rs p h k = by (slice_get rs p) k ∙ ap (λ i. checked id (slice_get rs i)) (place-found id 0 rs p h k).1 ∙ record-at id 0 rs h where
+  by : (o : Option Stream) → option_map_or (λ (st : Stream). eqb st.id id) o false ≡ true → o ≡ checked id o
+  by None e = refl
+  by (Some st) e = rw e refl
+
 -- what a test says of the record with an identifier is what it says at its place
 pub test-there : (test : Stream → Bool) (id low : ℕ) (rs : List Stream) → Rise low rs → is_some (record_of rs id) ≡ true → passes_at test rs (place_of id rs) ≡ option_map_or test (record_of rs id) false
 test-there test id low rs h known = by (slice_get rs (place_of id rs)) (record-at id low rs h) where

@@ -171,24 +171,17 @@ all-own None own e = refl
 -- ---- the same are shared by another list
 
 -- as many of them, for as many of one's own
-pub shared-again : (old new : Option Base) (b c : Base) (own : Records) (count front len : ℕ) → old ≡ Some b → new ≡ Some c → GoWith old own → count ≡ length (shared b) → front ≡ b.front → len ≡ length own.streams
-    → shared c ≡ take count (shared b) → c.front ≡ front → count + len ≤ c.space → (with_base new own ≡ with_base old own) × GoWith new own
-shared-again None new b c own count front len was now g many at long records same enough = cc
-shared-again (Some x) None b c own count front len was now g many at long records same enough = cc
-shared-again (Some x) (Some y) b c own count front len was now g many at long records same enough =
-    let one : x ≡ b = cc in
-    let other : y ≡ c = cc in
-    let count-is = many ∙ ap (λ (z : Base). length (shared z)) (sym one) in
-    let records-are : shared y ≡ shared x = ap shared other ∙ records ∙ ap (λ (z : Base). take count (shared z)) (sym one) ∙ take_all count (shared x) (omega (arith, count-is)) in
-    let front-is : y.front ≡ x.front = ap (λ (z : Base). z.front) other ∙ same ∙ at ∙ ap (λ (z : Base). z.front) (sym one) in
-    let space-is = ap (λ (z : Base). z.space) other in
-    let all-long = ap (λ (rs : List Stream). length rs) records-are in (
-      ap (λ (rs : List Stream). let r : Records = record own { streams = joined rs y.front own.streams } in r) records-are ∙ ap (λ n. let r : Records = record own { streams = joined (shared x) n own.streams } in r) front-is,
+pub shared-again : (b c : Base) (own : Records) → GoWith (Some b) own → shared c ≡ take (length (shared b)) (shared b) → c.front ≡ b.front → length (shared b) + length own.streams ≤ c.space
+    → (with_base (Some c) own ≡ with_base (Some b) own) × GoWith (Some c) own
+shared-again b c own g records front enough =
+    let same : shared c ≡ shared b = records ∙ take_all (length (shared b)) (shared b) (omega arith) in
+    let long = ap (λ (rs : List Stream). length rs) same in (
+      ap (λ (rs : List Stream). let r : Records = record own { streams = joined rs c.front own.streams } in r) same ∙ ap (λ n. let r : Records = record own { streams = joined (shared b) n own.streams } in r) front,
       (
         g.0,
         (
-          subst (λ n. IsJoined (shared y) n own.streams own.last) (sym front-is) (subst (λ (rs : List Stream). IsJoined rs x.front own.streams own.last) (sym records-are) g.1.0),
-          omega (arith, all-long, count-is, long, enough, space-is),
+          subst (λ n. IsJoined (shared c) n own.streams own.last) (sym front) (subst (λ (rs : List Stream). IsJoined rs b.front own.streams own.last) (sym same) g.1.0),
+          omega (arith, long, enough),
         ),
       ),
     )

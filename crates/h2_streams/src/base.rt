@@ -10,7 +10,7 @@ ghost use Rattle.h2_streams.specs.Kept.{Rise, lives};
 ghost use Rattle.h2_streams.specs.Put.{can_become};
 
 use crate::own::OwnRecords;
-use crate::places::find;
+use crate::places::{append_each, find};
 use crate::sends::Record;
 use h2_spec::streams::Stream;
 use std::alloc::{AllocError, Allocator};
@@ -146,7 +146,8 @@ impl<A: Allocator> Base<A> {
             front,
             room,
         } = self;
-        own.take_in(&whole.as_ref().as_slice()[..count], front, room);
+        let records = first_of(whole, count, own.count() - front, room);
+        own.take_in(records, front);
     }
 
     /// Whether one's own records are all in the place of shared ones, and are the same as those. A list that says no has
@@ -157,6 +158,70 @@ impl<A: Allocator> Base<A> {
     {
         self.front() == own.len() && are_in(self.records(), own)
     }
+}
+
+/// The first `count` records of a list, with space for `more` further ones: the list itself where nobody else shares it
+/// and it has that space, else copies in `room`, which is empty and has it. Takes no memory.
+fn first_of<A: Allocator>(
+    whole: Rc<OwnRecords<A>, A>,
+    count: usize,
+    more: usize,
+    room: Vec<Stream, A>,
+) -> Vec<Stream, A>
+    requires within { count ≤ length whole.value.streams }
+    requires empty { room.items ≡ [] }
+    requires enough { count + more ≤ vec_capacity room }
+    ensures records { result.items ≡ take count whole.value.streams }
+    ensures space { count + more ≤ vec_capacity result }
+{
+    match Rc::try_unwrap(whole) {
+        Ok(whole) => first_left(whole.into_records(), count, more, room),
+        Err(whole) => copies_in(room, &whole.as_ref().as_slice()[..count]),
+    }
+}
+
+/// The first `count` of these records, with space for `more` further ones: in their own list where it has that space, else
+/// copies in `room`, which is empty and has it. Takes no memory.
+fn first_left<A: Allocator>(
+    records: Vec<Stream, A>,
+    count: usize,
+    more: usize,
+    room: Vec<Stream, A>,
+) -> Vec<Stream, A>
+    requires within { count ≤ length records.items }
+    requires empty { room.items ≡ [] }
+    requires enough { count + more ≤ vec_capacity room }
+    ensures records { result.items ≡ take count records.items }
+    ensures space { count + more ≤ vec_capacity result }
+{
+    if !has_space(&records, count, more) {
+        return copies_in(room, &records.as_slice()[..count]);
+    }
+    let mut records = records;
+    records.truncate(count);
+    records
+}
+
+/// Whether a list has space for these two numbers of records.
+fn has_space<A: Allocator>(records: &Vec<Stream, A>, count: usize, more: usize) -> bool
+    ensures { result ≡ true → count + more ≤ vec_capacity records.now }
+{
+    match count.checked_add(more) {
+        Some(all) => all <= records.capacity(),
+        None => false,
+    }
+}
+
+/// Copies of these records in a list that is empty and has the space. Takes no memory.
+fn copies_in<A: Allocator>(room: Vec<Stream, A>, records: &[Stream]) -> Vec<Stream, A>
+    requires empty { room.items ≡ [] }
+    requires enough { length records.now ≤ vec_capacity room }
+    ensures records { result.items ≡ records.now }
+    ensures space { vec_capacity room ≤ vec_capacity result }
+{
+    let mut copies = room;
+    append_each(&mut copies, records);
+    copies
 }
 
 /// Whether these records are in a list as they are here.
@@ -204,6 +269,24 @@ impl<A: Allocator + Copy> Base<A> {
             room,
         })
     }
+}
+
+/// The shared records, for a copy of one's own too, if there are some.
+///
+/// `AllocError` where memory is refused.
+pub(crate) fn share_again<A: Allocator + Copy>(
+    base: &Option<Base<A>>,
+    own: &OwnRecords<A>,
+) -> Result<Option<Base<A>>, AllocError>
+    requires { spec.GoWith base.now own.now }
+    ensures same { IfOk result (λ again. spec.with_base again own.now ≡ spec.with_base base.now own.now) }
+    ensures go { IfOk result (λ again. spec.GoWith again own.now) }
+{
+    let Some(base) = base else {
+        return Ok(None);
+    };
+    let again = base.share(base.count(), base.front(), own.count())?;
+    Ok(Some(again))
 }
 
 /// An empty list, with space for these two numbers of records and some more.

@@ -10,7 +10,7 @@ ghost use Rattle.h2_streams.specs.Kept as kept;
 ghost use Rattle.h2_streams.specs.Rebuilt.{live_entries};
 
 use crate::hash::IdHash;
-use crate::places::{is_live_at, place_of, record_at};
+use crate::places::{find, is_live_at, place_of, record_at};
 use h2_spec::streams::{Stream, is_live};
 use indexmap::IndexMap;
 use std::alloc::Allocator;
@@ -112,9 +112,10 @@ pub(crate) fn record_in<'a, A: Allocator>(
     requires { kept.Rise 0 records.now }
     ensures { option_copied result ≡ spec.record_of records.now id }
 {
-    let place = place_in(live, records, recent, id);
-    let stream = record_at(records, place)?;
-    if stream.id == id { Some(stream) } else { None }
+    match known_place(live, records, recent, id) {
+        Some(place) => record_at(records, place),
+        None => find(records, id),
+    }
 }
 
 /// The place of the record with this identifier, if it is `recent` or the map has it.

@@ -18,7 +18,7 @@ use crate::hash::IdHash;
 use crate::ids::{append, ids_above, list};
 use crate::kinds::is_ready;
 use crate::live::{enter, enter_each, note_ended, place_in, record_in};
-use crate::places::{append_each, write, write_each};
+use crate::places::{join, write};
 use crate::rebuilt::live_records;
 use crate::shift::{InitialWindow, move_each};
 use crate::walks::{first_waiting, list_ready};
@@ -137,23 +137,27 @@ impl<A: Allocator + Copy> OwnRecords<A> {
 
 impl<A: Allocator> OwnRecords<A> {
     /// Puts these records in front, but for those of which this list has one among its first `front`: these are as they
-    /// are in it. `room` is empty, and has space for all. Takes no memory.
-    pub(crate) fn take_in(&mut self, base: &[Stream], front: usize, room: Vec<Stream, A>)
-        requires joined { IsJoined base.now front self.old.streams self.old.last }
-        requires empty { room.items ≡ [] }
-        requires enough { length base.now + length self.old.streams ≤ vec_capacity room + front }
-        ensures { self.new ≡ record self.old { streams = joined base.now front self.old.streams } }
+    /// are in it. They have space for all. Takes no memory.
+    pub(crate) fn take_in(&mut self, base: Vec<Stream, A>, front: usize)
+        requires joined { IsJoined base.items front self.old.streams self.old.last }
+        requires enough { length base.items + length self.old.streams ≤ vec_capacity base + front }
+        ensures { self.new ≡ record self.old { streams = joined base.items front self.old.streams } }
     {
-        let mut records = room;
+        let mut records = base;
         let own = self.records.as_slice();
-        append_each(&mut records, base);
-        write_each(&mut records, &own[..front]);
-        append_each(&mut records, &own[front..]);
+        join(&mut records, front, own);
         self.live.clear();
         enter_each(records.as_slice(), own, &mut self.live);
         self.records = records;
         self.ended = 0;
         self.recent = 0;
+    }
+
+    /// The list of the records.
+    pub(crate) fn into_records(self) -> Vec<Stream, A>
+        ensures { result.items ≡ self.streams }
+    {
+        self.records
     }
 
     /// The records, in the order of opening.

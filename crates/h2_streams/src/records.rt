@@ -16,7 +16,7 @@ ghost use Rattle.h2_streams.specs.Put.{CanPut, can_become};
 ghost use Rattle.h2_streams.specs.Rebuilt as earlier;
 ghost use Rattle.h2_streams.specs.Shift as shift;
 
-use crate::base::{Base, replace, share_first};
+use crate::base::{Base, replace, share_again, share_first};
 use crate::greatest::overflows_with;
 use crate::kinds::{not_live, peer_closed, reset_kind, server_ended};
 use crate::own::OwnRecords;
@@ -72,14 +72,9 @@ impl<A: Allocator + Copy> Streams<A> {
     pub fn try_clone(&self) -> Result<Self, AllocError>
         ensures { IfOk result (λ copy. copy ≡ self.now) }
     {
-        let base = match &self.base {
-            Some(base) => Some(base.share(base.count(), base.front(), self.own.count())?),
-            None => None,
-        };
-        Ok(Streams {
-            own: self.own.try_clone()?,
-            base,
-        })
+        let base = share_again(&self.base, &self.own)?;
+        let own = self.own.try_clone()?;
+        Ok(Streams { own, base })
     }
 }
 

@@ -1,8 +1,9 @@
-use Rattle.std.proofs.Common.{◌≡◌, IfOk, List, Option, ap, length, subst, sym, take, ◌∙◌}
+use Rattle.std.proofs.Common.{◌≡◌, IfOk, List, Option, Some, ap, length, subst, sym, take, ◌∙◌}
 use Rattle.h2_spec.specs.declared.streams.Stream.{Stream}
 use Rattle.h2_spec.specs.Stream.{AreRising, Records}
 use Rattle.h2_streams.specs.Joined.{AreIn, Base, GoWith, shared, with_base}
 use Rattle.h2_streams.proofs.BaseLaws.{all-shared, go-all, go-split}
+use Rattle.h2_streams.proofs.base.share_first.Given.{Over}
 use Rattle.h2_streams.proofs.base.share_first.Goals as goal
 
 pub returns-then-has_all-clause-records : goal.returns-then-has_all-clause-records
@@ -14,12 +15,13 @@ returns-then-has_all-clause-records g c =
     let all = ap (λ (o : Option Base). (with_base o own).streams) c.in-Some.is ∙ all-shared b own go has.0 has.1 in
     subst (λ (rs : List Stream). IfOk c.share.result (λ x. shared x ≡ take c.args.count rs)) (sym all) c.share.ensures.records
 
-pub returns-clause-same : goal.returns-clause-same
-returns-clause-same g c =
+parted : (g : Over) (c : goal.Joined-base-2 g) → (with_base (Some c.in_ok-all.all) c.split.new.own ≡ c.unite.new.own) × GoWith (Some c.in_ok-all.all) c.split.new.own
+parted g c =
     let all = subst (λ (r : Records). AreRising 0 r.last r.streams) (sym c.unite.ensures.own) (go-all c.args.base.now c.args.own.now c.requires.go).0 in
-    (go-split c.in_ok-all.all c.unite.new.own c.split.new.own all c.in_ok-all.ensures.base c.in_ok-all.ensures.own).0 ∙ c.unite.ensures.own
+    go-split c.in_ok-all.all c.unite.new.own c.split.new.own all c.in_ok-all.ensures.base c.in_ok-all.ensures.own
+
+pub returns-clause-same : goal.returns-clause-same
+returns-clause-same g c = (parted g c).0 ∙ c.unite.ensures.own
 
 pub returns-clause-go : goal.returns-clause-go
-returns-clause-go g c =
-    let all = subst (λ (r : Records). AreRising 0 r.last r.streams) (sym c.unite.ensures.own) (go-all c.args.base.now c.args.own.now c.requires.go).0 in
-    (go-split c.in_ok-all.all c.unite.new.own c.split.new.own all c.in_ok-all.ensures.base c.in_ok-all.ensures.own).1
+returns-clause-go g c = (parted g c).1
