@@ -11,10 +11,11 @@ use Rattle.h2_streams.specs.Joined.{AreIn, Base, GoWith, IsJoined, joined, share
 use Rattle.h2_streams.specs.Kept.{Rise, lives}
 use Rattle.h2_streams.specs.Put.{can_become}
 use Rattle.h2_streams.specs.Rebuilt.{AreKnown, AreOthersClosed, as_in}
+use Rattle.h2_streams.proofs.JoinedEntries.{in-behind, in-known}
 use Rattle.h2_streams.proofs.JoinedLaws.{joined-push}
 use Rattle.h2_streams.proofs.JoinedPut.{as_in-own, at-joined, found-own, joined-put, length-put, put-joined, rising-front, same-front}
 use Rattle.h2_streams.proofs.PlaceLaws.{recorded-found, rise, rising-push, rising-put}
-use Rattle.h2_streams.proofs.RebuiltLaws.{IsContinued, continues-closed, eqb-other, eqb-same, found-above, none-some, rise-filter, rise-from}
+use Rattle.h2_streams.proofs.RebuiltLaws.{IsContinued, continues-closed, eqb-other, eqb-same, found-above, none-some, rise-filter}
 
 -- ---- what is at a place is found
 
@@ -109,21 +110,13 @@ joined-same base own n h same is =
     let rest : drop n own ≡ [] = drop_of_length-le own (omega (arith, same)) in
     ap (λ (cs : List Stream). map (as_in cs) base ++ drop n own) front ∙ ap (λ (rs : List Stream). rs ++ drop n own) (same-front own base h is) ∙ ap (λ (rs : List Stream). base ++ rs) rest ∙ append-nil base
 
-in-more : (x : Stream) (xs cs : List Stream) → Rise x.id cs → AreIn xs cs → AreIn (x ∷ xs) cs
-in-more x xs [] r k = tt
-in-more x xs (c ∷ cs) r k = let over = r.0 in (rw (eqb-other x.id c.id over) k.0, in-more x xs cs (rise-from x.id c.id cs (omega (arith, over)) r.1) k.1)
-
 in-filter : (t : Stream → Bool) (low : ℕ) (rs : List Stream) → Rise low rs → AreIn rs (filter t rs)
 in-filter t low [] h = tt
-in-filter t low (x ∷ xs) h = by (t x) (in-more x xs (filter t xs) (rise-filter t x.id xs h.1) (in-filter t x.id xs h.1))
+in-filter t low (x ∷ xs) h = by (t x) (in-behind x xs (filter t xs) (rise-filter t x.id xs h.1) (in-filter t x.id xs h.1))
   where
     by : (b : Bool) → AreIn (x ∷ xs) (filter t xs) → AreIn (x ∷ xs) (cond b (x ∷ filter t xs) (filter t xs))
     by true k = (rw (eqb-same x.id x.id refl) refl, k)
     by false k = k
-
-in-known : (rs cs : List Stream) → AreIn rs cs → AreKnown rs cs
-in-known rs [] k = tt
-in-known rs (c ∷ cs) k = (ap is_some k.0, in-known rs cs k.1)
 
 continues-same : (t : Stream → Bool) (rs : List Stream) → IsContinued t rs rs
 continues-same t [] = tt

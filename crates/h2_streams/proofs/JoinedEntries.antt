@@ -10,7 +10,7 @@ use Rattle.h2_streams.proofs.JoinedPut.{found-own, same-front}
 use Rattle.h2_streams.proofs.PlaceLaws.{rise}
 use Rattle.h2_streams.proofs.RebuiltLaws.{as_in-id, as_in-none, eqb-other, eqb-same, live-rebuilt, none-some, rise-from}
 
-in-behind : (x : Stream) (rs ys : List Stream) → Rise x.id ys → AreIn rs ys → AreIn (x ∷ rs) ys
+pub in-behind : (x : Stream) (rs ys : List Stream) → Rise x.id ys → AreIn rs ys → AreIn (x ∷ rs) ys
 in-behind x rs [] r h = tt
 in-behind x rs (y ∷ ys) r h =
     let over = r.0 in
@@ -26,7 +26,7 @@ in-other : (rs ss ys : List Stream) → ((id : ℕ) (st : Stream) → record_of 
 in-other rs ss [] more h = tt
 in-other rs ss (y ∷ ys) more h = (more y.id y h.0, in-other rs ss ys more h.1)
 
-in-known : (rs ys : List Stream) → AreIn rs ys → AreKnown rs ys
+pub in-known : (rs ys : List Stream) → AreIn rs ys → AreKnown rs ys
 in-known rs [] h = tt
 in-known rs (y ∷ ys) h = (ap is_some h.0, in-known rs ys h.1)
 
