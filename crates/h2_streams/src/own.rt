@@ -1,7 +1,7 @@
 //! Records in a list of their own: what opens, changes and ends a stream, where no record is shared with other lists.
 //! Definitions: `h2_spec/specs/Stream.antt`; what the fields keep: `specs/Kept.antt`.
 
-ghost use Rattle.std.specs.Prelude.{◌≡◌, [], false, not, ◌+◌, ◌<◌, ◌≤◌, ◌%◌, ◌&&◌, length, OnOk, OnErr, IfOk, IfSome, IsTrue, slice_get};
+ghost use Rattle.std.specs.Prelude.{◌≡◌, false, not, ◌+◌, ◌<◌, ◌≤◌, ◌%◌, ◌&&◌, length, OnOk, OnErr, IfOk, IfSome, IsTrue, slice_get};
 ghost use Rattle.std.specs.List.{AllByRecursion, filter, list_any};
 ghost use Rattle.std.specs.Option.{option_copied};
 ghost use Rattle.std.specs.Vec.{vec_capacity};
