@@ -46,13 +46,13 @@ impl<A: Allocator> Drop for KeptBlock<A> {
 }
 
 impl<A: Allocator + Copy> KeptBlock<A> {
-    /// The block as it is now; its rest is shared with an earlier one.
-    fn of(block: &OpenBlock<A>, earlier: Option<&KeptRest<A>>) -> Result<Self, AllocError>
+    /// The block as it is now; what it has in common with an earlier one is in memory once.
+    fn of(block: &OpenBlock<A>, earlier: Option<&KeptBlock<A>>) -> Result<Self, AllocError>
         ensures { IfOk result (λ kept. kept ≡ block.now) }
     {
         let decoding = &block.decoding;
-        let collected = decoding.collected.keep()?;
-        let rest = decoding.rest.keep(earlier)?;
+        let collected = decoding.collected.keep(collected_of(earlier))?;
+        let rest = decoding.rest.keep(rest_of(earlier))?;
         Ok(KeptBlock {
             shown: block.shown,
             purpose: decoding.purpose,
@@ -81,6 +81,14 @@ impl<A: Allocator + Copy> KeptBlock<A> {
     }
 }
 
+/// The fields of an earlier block, if there is one.
+fn collected_of<A: Allocator>(block: Option<&KeptBlock<A>>) -> Option<&Collected<A>> {
+    match block {
+        Some(block) => Some(&block.collected),
+        None => None,
+    }
+}
+
 /// What is kept of the rest of an earlier block, if there is one.
 fn rest_of<A: Allocator>(block: Option<&KeptBlock<A>>) -> Option<&KeptRest<A>> {
     match block {
@@ -100,7 +108,7 @@ pub fn keep_open<A: Allocator + Copy>(
 {
     match block {
         None => Ok(None),
-        Some(block) => Ok(Some(KeptBlock::of(block, rest_of(earlier))?)),
+        Some(block) => Ok(Some(KeptBlock::of(block, earlier)?)),
     }
 }
 

@@ -1,9 +1,9 @@
 //! Fields of a field block in batches, which do not change any more and are shared by the copies of the block.
 //! Contracts see the fields alone, one batch after another. Definitions: `specs/Batches.antt`.
 
-ghost use Rattle.std.specs.Prelude.{◌≡◌, ◌-◌, ◌≤◌, [], ◌++◌, length, map, take, slice_get, option_map, IfErr, IfOk, IfSome, OnErr, OnOk};
+ghost use Rattle.std.specs.Prelude.{◌≡◌, ◌+◌, ◌-◌, ◌^◌, ◌<◌, ◌≤◌, [], ◌++◌, true, length, map, drop, take, slice_get, option_map, IfErr, IfOk, IfSome, OnErr, OnOk};
 ghost use Rattle.h2_mark.specs.Mark.{mark_of};
-ghost use Rattle.h2_table.specs.Lent.{field_lent, IsMarked};
+ghost use Rattle.h2_table.specs.Lent.{field_lent, lent_field, IsMarked};
 ghost use Rattle.h2_fields.specs.Batches.{AreBatches, before};
 
 use h2_list::{FieldList, FoldedFields};
@@ -15,6 +15,10 @@ use std::rc::Rc;
 
 /// The most fields that are in batches: their number stays far below the greatest `usize`.
 const MAX_FIELDS: usize = 4_294_967_295;
+
+/// How many fields a batch has at least that blocks share which are kept one after another: a smaller one is made again,
+/// together with the fields after it.
+const MIN_SHARED_AGAIN: usize = 32;
 
 /// The field of a list at a place with its mark, where these are the marks of all of them; none at the length of the
 /// list and above.
@@ -48,12 +52,14 @@ struct Shared<A: Allocator> {
 }
 
 impl<A: Allocator> Model for Shared<A> {
-    ghost use Rattle.std.specs.Prelude.{take};
+    ghost use Rattle.std.specs.Prelude.{◌≤◌, length, take};
     ghost use Rattle.h2_fields.specs.Batches.{FieldsFrom};
 
     ghost Value = { FieldsFrom };
 
     ghost view = { λ s. record { start = s.start; fields = take s.count s.batch.value } };
+
+    ghost invariant = { λ s. s.count ≤ length s.batch.value };
 }
 
 impl<A: Allocator> Clone for Shared<A> {
@@ -179,7 +185,116 @@ fn batches_before<A: Allocator>(batches: &[Shared<A>], bound: usize) -> usize
     batches.partition_point(|shared| (shared.start as usize) < bound)
 }
 
+impl<A: Allocator> Shared<A> {
+    /// Whether these fields are in a list from a place on.
+    fn is_in(&self, list: &FieldList<A>, from: usize) -> bool
+        ensures within { result ≡ true → from + length self.now.fields ≤ length list.now.fields }
+        ensures few { result ≡ true → from + length self.now.fields < 2 ^ 64 }
+        ensures same { result ≡ true → self.now.fields ≡ take (length self.now.fields) (drop from list.now.fields) }
+    {
+        let count = self.count as usize;
+        if from > list.len() || list.len() - from < count {
+            return false;
+        }
+        for place in 0..count {
+            if !is_same(self.lent(place), list.get(from + place)) {
+                return false;
+            }
+        }
+        true
+    }
+}
+
+/// Whether there are two fields, and they are the same.
+fn is_same(one: Option<LentField<'_>>, other: Option<(&[u8], &[u8])>) -> bool
+    ensures { result ≡ true → option_map field_lent one.entry ≡ option_map lent_field other.entry }
+{
+    match (one, other) {
+        (Some(one), Some((name, value))) => one.name == name && one.value == value,
+        _ => false,
+    }
+}
+
 impl<A: Allocator + Copy> Batches<A> {
+    /// Puts a batch of another block after the others, without those of its fields that were dropped there.
+    ///
+    /// # Errors
+    ///
+    /// `AllocError` where memory was refused, or there would be more than 4,294,967,295 fields; nothing has changed.
+    fn push_shared(&mut self, shared: &Shared<A>) -> Result<(), AllocError>
+        ensures ok { OnOk result (self.new ≡ self.old ++ shared.now.fields) }
+        ensures unchanged { OnErr result (self.new ≡ self.old) }
+    {
+        let count = shared.count as usize;
+        if count > MAX_FIELDS - self.count {
+            return Err(AllocError);
+        }
+        let batch = shared.batch.clone()?;
+        self.batches.push(Shared {
+            batch,
+            start: self.count as u32,
+            count: shared.count,
+        })?;
+        self.count += count;
+        Ok(())
+    }
+
+    /// Puts the first fields of a list after the others, as far as another block has them in batches at that place, which both
+    /// share then; and says how many these are.
+    ///
+    /// # Errors
+    ///
+    /// `AllocError` where memory was refused.
+    fn go_on(&mut self, other: &Batches<A>, list: &FieldList<A>) -> Result<usize, AllocError>
+        ensures { IfOk result (λ taken. (taken ≤ length list.now.fields) × (self.new ≡ self.old ++ take taken list.now.fields)) }
+    {
+        let mut taken = 0;
+        let first = batches_before(other.batches.as_slice(), self.count);
+        for shared in &other.batches.as_slice()[first..] {
+            if (shared.count as usize) < MIN_SHARED_AGAIN || !shared.is_in(list, taken) {
+                return Ok(taken);
+            }
+            self.push_shared(shared)?;
+            taken += shared.count as usize;
+        }
+        Ok(taken)
+    }
+
+    /// Puts the fields of a list from a place on after the others, as a batch, if there are any. `AllocError` where memory was
+    /// refused.
+    fn push_rest(&mut self, list: &FieldList<A>, taken: usize) -> Result<(), AllocError>
+        ensures { OnOk result (self.new ≡ self.old ++ drop taken list.now.fields) }
+    {
+        if taken >= list.len() {
+            return Ok(());
+        }
+        let rest = list.copy_from(taken)?;
+        self.push(&rest)
+    }
+
+    /// A copy of the batches with the fields of a list after them, which are in batches too: in those of `earlier` where it has the
+    /// same fields there.
+    ///
+    /// # Errors
+    ///
+    /// `AllocError` where memory was refused; `self` is as it was.
+    pub(crate) fn with_list(
+        &self,
+        earlier: Option<&Batches<A>>,
+        list: &FieldList<A>,
+    ) -> Result<Self, AllocError>
+        ensures { IfOk result (λ all. all ≡ self.now ++ list.now.fields) }
+    {
+        let mut all = self.try_clone()?;
+        let Some(earlier) = earlier else {
+            all.push_rest(list, 0)?;
+            return Ok(all);
+        };
+        let taken = all.go_on(earlier, list)?;
+        all.push_rest(list, taken)?;
+        Ok(all)
+    }
+
     /// Puts the fields of a list after the others, as a batch.
     ///
     /// # Errors

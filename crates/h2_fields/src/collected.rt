@@ -30,11 +30,8 @@ const MAX_COPIED: usize = 32;
 /// After how many fields of a block these are shared too, since the block may be long then.
 const MANY_FIELDS: usize = 64;
 
-/// How many fields a batch has at least, but the last one of a block that is kept.
+/// How many fields a batch has at least, but the last ones of a block that is kept.
 const MIN_SHARED: usize = 1_024;
-
-/// How many fields the last batch of a block that is kept has at least.
-const MIN_KEPT: usize = 32;
 
 /// The most marks whose memory is kept for the next field block.
 const MAX_KEPT_MARKS: usize = 512;
@@ -398,21 +395,17 @@ impl<A: Allocator + Copy> Collected<A> {
         }
     }
 
-    /// A copy of the fields to be kept, in little memory: batches are shared, and the others are one more batch, unless they are
-    /// few.
+    /// A copy of the fields to be kept, in little memory: batches are shared, also those of a block that was kept earlier where
+    /// it has the same fields, and the others are one batch more.
     ///
     /// # Errors
     ///
     /// `AllocError` where memory was refused; `self` is as it was.
-    pub fn keep(&self) -> Result<Collected<A>, AllocError>
+    pub fn keep(&self, earlier: Option<&Collected<A>>) -> Result<Collected<A>, AllocError>
         ensures same { IfOk result (λ copy. copy ≡ self.now) }
     {
-        if self.list.len() < MIN_KEPT {
-            return self.try_clone();
-        }
+        let shared = self.shared.with_list(shared_of(earlier), &self.list)?;
         let alloc = self.list.allocator();
-        let mut shared = self.shared.try_clone()?;
-        shared.push(&self.list)?;
         Ok(Collected {
             shared,
             list: FieldList::new(alloc),
@@ -439,6 +432,14 @@ impl<A: Allocator + Copy> Collected<A> {
             size: self.size,
             due: self.due,
         })
+    }
+}
+
+/// The batches of an earlier block, if there is one.
+fn shared_of<A: Allocator>(earlier: Option<&Collected<A>>) -> Option<&Batches<A>> {
+    match earlier {
+        Some(earlier) => Some(&earlier.shared),
+        None => None,
     }
 }
 

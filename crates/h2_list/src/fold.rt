@@ -1,7 +1,7 @@
 //! Header fields that do not change any more, in little memory: of a field whose octets are all those of an earlier one
 //! there is only the place of that one. Definitions: `specs/Folded.antt`.
 
-ghost use Rattle.std.specs.Prelude.{◌≡◌, ℕ, ◌<◌, ◌≤◌, List, true, take, length, map, slice_get, option_map, IfOk};
+ghost use Rattle.std.specs.Prelude.{◌≡◌, ℕ, ◌<◌, ◌≤◌, List, [], true, drop, take, length, map, slice_get, option_map, IfOk};
 ghost use Rattle.h2_table.specs.Lent.{lent_field};
 ghost use Rattle.h2_list.specs.Spans.{AreSpans, IsOrdered, between, field_in};
 ghost use Rattle.h2_list.specs.Folded.{AreBelow, AreWithin, chosen, field_at};
@@ -68,6 +68,30 @@ impl<A: Allocator + Copy> FieldList<A> {
     }
 }
 
+impl<A: Allocator + Copy> FieldList<A> {
+    /// The fields from a place on, as a list in memory of its own, in which fields share octets as here.
+    ///
+    /// # Errors
+    ///
+    /// `AllocError` where memory was refused; `self` is as it was.
+    pub fn copy_from(&self, from: usize) -> Result<FieldList<A>, AllocError>
+        ensures same { IfOk result (λ copy. copy ≡ record { fields = drop from self.now.fields; next = [] }) }
+    {
+        let mut copy = FieldList::new(self.allocator());
+        let mut seen = Vec::new(self.allocator());
+        seen.resize(self.start.saturating_add(1), NO_PLACE)?;
+        for place in from..self.len() {
+            if let Some((name, value)) = self.get(place) {
+                let start = self.spans[place].name.start as usize;
+                let like = place_seen(seen.as_slice(), start);
+                copy.append_like(like as usize, name, value)?;
+                see(&mut seen, start, place - from);
+            }
+        }
+        Ok(copy)
+    }
+}
+
 /// The spans without those of which each is an earlier one, and the place of each in them. `last` is the greatest place of an
 /// octet at which one can start: where it is not, more spans are there twice.
 fn fold_spans<A: Allocator + Copy>(
@@ -114,10 +138,15 @@ fn place_for<A: Allocator>(
         return Err(AllocError);
     }
     spans.push(span)?;
-    if start < seen.len() {
+    see(seen, start, place);
+    Ok(place as u32)
+}
+
+/// Notes a place for a start.
+fn see<A: Allocator>(seen: &mut Vec<u32, A>, start: usize, place: usize) {
+    if start < seen.len() && place < NO_PLACE as usize {
         seen[start] = place as u32;
     }
-    Ok(place as u32)
 }
 
 /// What was seen with a start; no place where nothing was.
