@@ -77,15 +77,22 @@ impl<A: Allocator> Clone for Shared<A> {
 }
 
 impl<A: Allocator> Shared<A> {
+    /// The name and the value of the field at a place; none at the number of fields and above.
+    fn get(&self, place: usize) -> Option<(&[u8], &[u8])>
+        ensures { option_map lent_field result ≡ slice_get self.now.fields place }
+    {
+        if place >= self.count as usize {
+            return None;
+        }
+        self.batch.as_ref().get(place)
+    }
+
     /// The field at a place with its mark; none at the number of fields and above.
     fn lent(&self, place: usize) -> Option<LentField<'_>>
         ensures field { option_map field_lent result ≡ slice_get self.now.fields place }
         ensures marked { IfSome result IsMarked }
     {
-        if place >= self.count as usize {
-            return None;
-        }
-        let (name, value) = self.batch.as_ref().get(place)?;
+        let (name, value) = self.get(place)?;
         let mark = FieldMark::of(name, value);
         Some(LentField { name, value, mark })
     }
@@ -197,7 +204,7 @@ impl<A: Allocator> Shared<A> {
             return false;
         }
         for place in 0..count {
-            if !is_same(self.lent(place), list.get(from + place)) {
+            if !is_same(self.get(place), list.get(from + place)) {
                 return false;
             }
         }
@@ -206,11 +213,11 @@ impl<A: Allocator> Shared<A> {
 }
 
 /// Whether there are two fields, and they are the same.
-fn is_same(one: Option<LentField<'_>>, other: Option<(&[u8], &[u8])>) -> bool
-    ensures { result ≡ true → option_map field_lent one.entry ≡ option_map lent_field other.entry }
+fn is_same(one: Option<(&[u8], &[u8])>, other: Option<(&[u8], &[u8])>) -> bool
+    ensures { result ≡ true → option_map lent_field one.entry ≡ option_map lent_field other.entry }
 {
     match (one, other) {
-        (Some(one), Some((name, value))) => one.name == name && one.value == value,
+        (Some(one), Some(other)) => one.0 == other.0 && one.1 == other.1,
         _ => false,
     }
 }
