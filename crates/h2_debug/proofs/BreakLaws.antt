@@ -285,3 +285,14 @@ stop-only breaks es p q more x = by (cases_lt q (stop breaks es p)) (cases_lt (s
     by (inl below) other = absurd (not-before breaks es p q (stop breaks es p) x (stop-is breaks es p more) below)
     by (inr above) (inl below) = absurd (not-before breaks es p (stop breaks es p) q (stop-is breaks es p more) x below)
     by (inr above) (inr most) = omega (arith, above, most)
+
+-- it goes no less far than it starts
+pub stop-least : (breaks : List Break) (es : List Event) (p : ℕ) → p ≤ stop breaks es p
+unfolding stop
+stop-least breaks es p = omega (arith, least-from breaks (p + 1) (drop p es))
+
+-- from a position on its way it stops at the same one
+pub stop-between : (breaks : List Break) (es : List Event) (p q : ℕ) → p < length es → p ≤ q → q < stop breaks es p → stop breaks es q ≡ stop breaks es p
+stop-between breaks es p q more le below =
+    let x = stop-is breaks es p more in
+    sym (stop-only breaks es q (stop breaks es p) (omega (arith, below, x.within)) (record { later = below; within = x.within; here = x.here; first = λ r above. x.first r (omega (arith, le, above)) }))

@@ -273,6 +273,21 @@ replay-start-within target d le =
     cond_both (nat_le d.position target && nat_le (nearest_kept target d) d.position) d.position (nearest_kept target d) (λ (n : ℕ). n ≤ target)
     (λ _. le) (λ _. let low : min target d.reached / 64 * 64 ≤ min target d.reached = div-mul-le_self (min target d.reached) 64 in omega (arith, low))
 
+-- a leg of 16,384 positions that were reached leads past the place where it starts, and no further
+pub leg-ahead : (p target s : ℕ) (d : Debugging) → s ≡ replay_start target d → target ≡ p + 16384 → d.position ≤ p → p + 16384 ≤ d.reached → (p < s) × (s ≤ p + 16384)
+leg-ahead p target s d from is le within = (omega (arith, from, past), omega (arith, from, is, replay-start-within target d (omega (arith, is, le))))
+  where
+    high : min target d.reached < min target d.reached / 64 * 64 + 64
+    high = lt-div-mul-add {a = min target d.reached} {b = 64} (omega arith)
+
+    past : p < replay_start target d
+    past =
+        cond_both (nat_le d.position target && nat_le (nearest_kept target d) d.position) d.position (nearest_kept target d) (λ (n : ℕ). p < n)
+        (λ near.
+        let low : nearest_kept target d ≤ d.position = leb-true (nearest_kept target d) d.position (second (nat_le d.position target) (nat_le (nearest_kept target d) d.position) near) in
+        omega (arith, low, high, is, le, within))
+        (λ _. omega (arith, high, is, within))
+
 -- ---- where no breakpoint is set
 
 stop-from-none : (q : ℕ) (es : List Event) → stop_from [] q es ≡ q + length es - 1

@@ -20,7 +20,7 @@ ghost use Rattle.h2_debug.specs.declared.fault.DebugFault.TheVariants.{NoMemory,
 
 use crate::breakpoints::Break;
 use crate::fault::DebugFault;
-use crate::forward::{SPACING, forward_to, forward_to_stop, keep_and_advance, keep_if_due};
+use crate::forward::{LEG, SPACING, forward_to, forward_to_stop, keep_and_advance, keep_if_due};
 use crate::kept::Kept;
 use crate::place::Place;
 use crate::source::Source;
@@ -381,6 +381,90 @@ impl<'b, A: Allocator + Copy> Debugger<'b, A> {
         Ok(position)
     }
 
+    /// Takes items at a place up to the first one that a breakpoint matches, or to a position, or the end; the place counts
+    /// them. `AllocError` if it is out of memory; the debugger is as it was either way.
+    fn walk(&mut self, place: &mut Place<'b, A>, bound: usize) -> Result<(), AllocError>
+        requires place { IsAt self.old.run place.old }
+        requires known { place.old.position ≤ self.old.reached }
+        requires ahead { place.old.position ≤ bound }
+        ensures at { IsAt self.old.run place.new }
+        ensures ran { place.new.ran ≡ place.old.ran + (place.new.position - place.old.position) }
+        ensures position { OnOk result (place.new.position ≡ min bound (stop self.old.breaks (events self.old.run) place.old.position)) }
+        ensures same { self.new ≡ self.old }
+    {
+        let source = Source {
+            book: self.book,
+            config: self.config,
+            octets: self.octets.as_slice(),
+        };
+        forward_to_stop(
+            &source,
+            place,
+            self.breaks.as_slice(),
+            bound,
+            &mut self.kept,
+        )
+    }
+
+    /// Takes a copy of the present place over positions that were reached before, up to the first one that a breakpoint
+    /// matches, or until no more than a leg of them is ahead. After each leg the place is made again from what is kept,
+    /// so that it shares the records of the farthest one; this is one item back, where no breakpoint matches.
+    /// Returns how far the run goes on from there at most: no further where a breakpoint matches. `AllocError` if it is out
+    /// of memory.
+    fn walk_reached(&mut self, place: &mut Place<'b, A>) -> Result<usize, AllocError>
+        requires place { IsAt self.old.run place.old }
+        requires here { place.old.position ≡ self.old.position }
+        requires ran { place.old.ran ≡ self.old.ran }
+        requires more { self.old.position < end self.old.run }
+        ensures at { OnOk result (IsAt self.old.run place.new) }
+        ensures known { OnOk result (place.new.position ≤ self.old.reached) }
+        ensures later { OnOk result (self.old.position ≤ place.new.position) }
+        ensures ran { OnOk result (place.new.ran ≡ self.old.ran + (place.new.position - self.old.position)) }
+        ensures bound { IfOk result (λ bound. place.new.position ≤ bound) }
+        ensures stop { IfOk result (λ bound. min bound (stop self.old.breaks (events self.old.run) place.new.position) ≡ stop self.old.breaks (events self.old.run) self.old.position) }
+        ensures same { self.new ≡ self.old }
+    {
+        let reached = self.reached;
+        while reached - place.position() > LEG {
+            let bound = place.position() + LEG + 1;
+            self.walk(place, bound)?;
+            let position = place.position();
+            if position < bound {
+                return Ok(position);
+            }
+            *place = self.start_ahead(bound - 1)?;
+        }
+        Ok(usize::MAX)
+    }
+
+    /// Moves from a place to the first position that a breakpoint matches, or to a later one, or to the end, and returns the
+    /// new position. `AllocError` leaves the debugger as it was.
+    fn run_from(&mut self, mut place: Place<'b, A>, bound: usize) -> Result<usize, AllocError>
+        requires place { IsAt self.old.run place }
+        requires known { place.position ≤ self.old.reached }
+        requires ahead { place.position ≤ bound }
+        ensures ok { IfOk result (λ p. (p ≡ min bound (stop self.old.breaks (events self.old.run) place.entry.position)) × (self.new ≡ moved_by (place.entry.ran + (p - place.entry.position)) p self.old)) }
+        ensures unchanged { OnErr result (self.new ≡ self.old) }
+    {
+        keep_if_due(&self.present, &mut self.kept)?;
+        let source = Source {
+            book: self.book,
+            config: self.config,
+            octets: self.octets.as_slice(),
+        };
+        forward_to_stop(
+            &source,
+            &mut place,
+            self.breaks.as_slice(),
+            bound,
+            &mut self.kept,
+        )?;
+        let position = place.position();
+        arrive(&mut self.present, &mut self.farthest, self.reached, place);
+        self.reached = position.max(self.reached);
+        Ok(position)
+    }
+
     /// Moves forward to the next position that a breakpoint matches, or to the end, and returns the new position.
     /// `AllocError` leaves the debugger as it was.
     fn run_on(&mut self) -> Result<usize, AllocError>
@@ -391,18 +475,9 @@ impl<'b, A: Allocator + Copy> Debugger<'b, A> {
         if self.breaks.is_empty() {
             return self.step_some(usize::MAX);
         }
-        let mut stop = self.copy_present()?;
-        keep_if_due(&self.present, &mut self.kept)?;
-        let source = Source {
-            book: self.book,
-            config: self.config,
-            octets: self.octets.as_slice(),
-        };
-        forward_to_stop(&source, &mut stop, self.breaks.as_slice(), &mut self.kept)?;
-        let position = stop.position();
-        arrive(&mut self.present, &mut self.farthest, self.reached, stop);
-        self.reached = position.max(self.reached);
-        Ok(position)
+        let mut place = self.copy_present()?;
+        let bound = self.walk_reached(&mut place)?;
+        self.run_from(place, bound)
     }
 
     /// Adds a breakpoint. `NoMemory` leaves the debugger as it was.

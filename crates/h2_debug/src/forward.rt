@@ -16,6 +16,11 @@ use std::alloc::{AllocError, Allocator};
 /// How many items there are from one place of which something is kept to the next.
 pub const SPACING: usize = 64;
 
+/// How many items a run to a breakpoint takes over positions that were reached before, until its place is made again
+/// from what is kept. The records that it adds itself, at most one for each item, are in memory twice meanwhile; to make
+/// it again takes some time, as space for all records is needed.
+pub const LEG: usize = 256 * SPACING;
+
 /// Keeps a checkpoint of a place after those that are kept, with which it shares what it can.
 #[inline(never)]
 fn keep<'b, A: Allocator + Copy>(
@@ -87,20 +92,22 @@ pub fn forward_to<'b, A: Allocator + Copy>(
     Ok(())
 }
 
-/// Takes items up to the first one that a breakpoint matches, or the end; the place counts them.
+/// Takes items up to the first one that a breakpoint matches, or to a position, or the end; the place counts them.
 pub fn forward_to_stop<'b, A: Allocator + Copy>(
     source: &Input<'_, 'b, A>,
     place: &mut Place<'b, A>,
     breaks: &[Break],
+    bound: usize,
     kept: &mut Vec<Kept<'b, A>, A>,
 ) -> Result<(), AllocError>
-    requires { IsReached source.now place.old kept.old.items }
+    requires reached { IsReached source.now place.old kept.old.items }
+    requires ahead { place.old.position ≤ bound }
     ensures reached { IsReached source.now place.new kept.new.items }
     ensures more { length kept.old.items ≤ length kept.new.items }
     ensures ran { place.new.ran ≡ place.old.ran + (place.new.position - place.old.position) }
-    ensures position { OnOk result (place.new.position ≡ stop (map break_of breaks.now) (events source.now) place.old.position) }
+    ensures position { OnOk result (place.new.position ≡ min bound (stop (map break_of breaks.now) (events source.now) place.old.position)) }
 {
-    loop {
+    while place.position() < bound {
         let used = place.used();
         if !keep_and_advance(source, place, kept)? {
             return Ok(());
@@ -114,4 +121,5 @@ pub fn forward_to_stop<'b, A: Allocator + Copy>(
             return Ok(());
         }
     }
+    Ok(())
 }
