@@ -1,16 +1,19 @@
 #!/usr/bin/env python3
-"""octets.py KIND MIB: the octets of a client's connection whose hex has at most so many MiB, to standard output.
+"""octets.py KIND MIB [--hex]: the octets of a client's connection whose hex has at most that many MiB, to standard output, or their hex with a line end.
 
-The preface, SETTINGS, the acknowledgement of the server's, and then as many items of one kind as there is space for.
+The preface, SETTINGS, the acknowledgement of the server's, and then as many items of one kind as there is space for. Kinds with a number have blocks of 65,000
+octets in frames of that many: `fields-N` of indices of one octet, each of 121 entries in turn; `literals-N` of values of one octet; `inserts-N` of new entries.
+Kinds `live-..` have 1,000 open streams first, so they want `--streams 1000`.
 """
 import struct
 import sys
 
 PREFACE = b"PRI * HTTP/2.0\r\n\r\nSM\r\n\r\n"
-DATA, HEADERS, SETTINGS, PING, CONTINUATION = 0, 1, 4, 6, 9
+DATA, HEADERS, SETTINGS, PING, WINDOW_UPDATE, CONTINUATION = 0, 1, 4, 6, 8, 9
 END_STREAM, ACK, END_HEADERS = 1, 1, 4
 GET = b"\x82\x86\x84"  # :method GET, :scheme http, :path /
-BLOCK = 65000  # how many CONTINUATION frames a field block has
+BLOCK = 65000  # how many octets a long field block has
+LIVE = 1000  # how many streams are open in kinds `live-..`
 
 
 def frame(kind, flags, stream, payload=b""):
@@ -33,10 +36,64 @@ FIRST = (
 )
 NEXT = b"\x82\x86" + PATH + b"\xc3\xc2\xc1\xc0\x90\xbf\xbe"
 FULL = GET + b"".join(b"\x40" + text(b"n%03d" % i) + text(b"") for i in range(113))  # fills the header table: 113 entries of 36
+SHORT = GET + b"".join(b"\x40" + text(b"n%03d" % i + b"x" * 20) + text(b"v") for i in range(60))  # 60 entries that take 25 octets each
+
+
+def field(kind, place):
+    """A field of a long block of a kind."""
+    if kind == "fields":
+        return bytes([0x80 | (1 + place % 121)])
+    if kind == "literals":
+        return bytes([1 + place % 14, 1, 33 + place % 90])
+    if kind == "inserts":
+        return bytes([0x40 | (1 + place % 61), 0])
+    sys.exit(f"octets.py: there is no kind {kind}-N")
+
+
+def blocks(kind, size):
+    """Frames of long blocks of a kind, with that many octets each, without end."""
+    yield frame(HEADERS, END_STREAM | END_HEADERS, 1, SHORT)
+    stream, place = 3, 0
+    while True:
+        block = bytearray()
+        while len(block) < BLOCK:
+            block += field(kind, place)
+            place += 1
+        for at in range(0, len(block), size):
+            last = at + size >= len(block)
+            yield frame(CONTINUATION if at else HEADERS, END_HEADERS if last else 0, stream, bytes(block[at : at + size]))
+        stream += 2
+
+
+def beside_live(kind):
+    """Items of a kind beside open streams, without end."""
+    for place in range(LIVE):
+        yield frame(HEADERS, END_HEADERS, 2 * place + 1, GET)
+    place = 0
+    while True:
+        stream = 2 * (place % LIVE) + 1
+        if kind == "ping":
+            yield frame(PING, 0, 0, b"12345678")
+        elif kind == "empty":
+            yield frame(DATA, 0, stream)
+        elif kind == "data":
+            yield frame(DATA, 0, stream, b"a")
+        elif kind == "settings":
+            yield frame(SETTINGS, 0, 0, struct.pack(">HI", 4, 65535 - place % 2))
+        elif kind == "update":
+            yield frame(WINDOW_UPDATE, 0, stream, struct.pack(">I", 1))
+        else:
+            sys.exit(f"octets.py: there is no kind live-{kind}")
+        place += 1
 
 
 def items(kind):
     """The items of a kind, without end."""
+    name, _, rest = kind.partition("-")
+    if name == "live":
+        yield from beside_live(rest)
+    if rest:
+        yield from blocks(name, int(rest))
     place = 0
     if kind == "data":
         yield frame(HEADERS, END_HEADERS, 1, GET)
@@ -64,13 +121,13 @@ def items(kind):
 
 
 def main():
-    kind, most = sys.argv[1], int(sys.argv[2]) * 2**19
+    kind, most, is_hex = sys.argv[1], int(float(sys.argv[2]) * 2**19), sys.argv[3:] == ["--hex"]
     out = bytearray(PREFACE + frame(SETTINGS, 0, 0) + frame(SETTINGS, ACK, 0))
     for item in items(kind):
         if len(out) + len(item) > most:
             break
         out += item
-    sys.stdout.buffer.write(out)
+    sys.stdout.buffer.write(out.hex().encode() + b"\n" if is_hex else out)
 
 
 if __name__ == "__main__":
