@@ -16,9 +16,12 @@ use std::rc::Rc;
 /// The most fields that are in batches: their number stays far below the greatest `usize`.
 const MAX_FIELDS: usize = 4_294_967_295;
 
-/// How many fields a batch has at least that blocks share which are kept one after another: a smaller one is made again,
-/// together with the fields after it.
+/// How many fields a batch has at least that blocks share which are kept one after another, or how many octets: a smaller one is
+/// made again, together with the fields after it.
 const MIN_SHARED_AGAIN: usize = 32;
+
+/// How many octets that are at least.
+const MIN_OCTETS_SHARED_AGAIN: usize = 512;
 
 /// The field of a list at a place with its mark, where these are the marks of all of them; none at the length of the
 /// list and above.
@@ -193,6 +196,22 @@ fn batches_before<A: Allocator>(batches: &[Shared<A>], bound: usize) -> usize
 }
 
 impl<A: Allocator> Shared<A> {
+    /// Whether to have the fields in memory once more costs more than a reference to them.
+    fn is_large(&self) -> bool {
+        if self.count as usize >= MIN_SHARED_AGAIN {
+            return true;
+        }
+        let mut octets = 0_usize;
+        for place in 0..self.count as usize {
+            if let Some((name, value)) = self.get(place) {
+                octets = octets
+                    .saturating_add(name.len())
+                    .saturating_add(value.len());
+            }
+        }
+        octets >= MIN_OCTETS_SHARED_AGAIN
+    }
+
     /// Whether these fields are in a list from a place on.
     fn is_in(&self, list: &FieldList<A>, from: usize) -> bool
         ensures within { result ≡ true → from + length self.now.fields ≤ length list.now.fields }
@@ -258,7 +277,7 @@ impl<A: Allocator + Copy> Batches<A> {
         let mut taken = 0;
         let first = batches_before(other.batches.as_slice(), self.count);
         for shared in &other.batches.as_slice()[first..] {
-            if (shared.count as usize) < MIN_SHARED_AGAIN || !shared.is_in(list, taken) {
+            if !shared.is_large() || !shared.is_in(list, taken) {
                 return Ok(taken);
             }
             self.push_shared(shared)?;
