@@ -32,7 +32,7 @@ returns-then-position-bound-clause-known g c =
     let start = rw (c.in_ok-walk.ensures.same, c.loop-place.invariant.self) at c.in_ok-place.ensures.start in
     let past : d.position ≤ c.position-position.result - 1 =
     omega (arith, walked, c.loop-place.invariant.later, c.loop-place.invariant.before, c.loop-place.invariant.same, c.position-in-loop-place.ensures, c.position-position.ensures) in
-    let from = from-known _ s d start (omega (arith, c.loop-place.invariant.later, c.loop-place.invariant.known)) past in
+    let from = from-known _ s d start (omega (arith, c.loop-place.invariant.later, c.loop-place.invariant.known)) (omega (arith, past)) in
     from.0
 
 pub returns-then-position-bound-clause-later : goal.returns-then-position-bound-clause-later
@@ -43,7 +43,7 @@ returns-then-position-bound-clause-later g c =
     let start = rw (c.in_ok-walk.ensures.same, c.loop-place.invariant.self) at c.in_ok-place.ensures.start in
     let past : d.position ≤ c.position-position.result - 1 =
     omega (arith, walked, c.loop-place.invariant.later, c.loop-place.invariant.before, c.loop-place.invariant.same, c.position-in-loop-place.ensures, c.position-position.ensures) in
-    let from = from-known _ s d start (omega (arith, c.loop-place.invariant.later, c.loop-place.invariant.known)) past in
+    let from = from-known _ s d start (omega (arith, c.loop-place.invariant.later, c.loop-place.invariant.known)) (omega (arith, past)) in
     from.1
 
 pub returns-then-position-bound-clause-stop : goal.returns-then-position-bound-clause-stop
@@ -54,7 +54,7 @@ returns-then-position-bound-clause-stop g c =
     let start = rw (c.in_ok-walk.ensures.same, c.loop-place.invariant.self) at c.in_ok-place.ensures.start in
     let past : d.position ≤ c.position-position.result - 1 =
     omega (arith, walked, c.loop-place.invariant.later, c.loop-place.invariant.before, c.loop-place.invariant.same, c.position-in-loop-place.ensures, c.position-position.ensures) in
-    let from = from-known _ s d start (omega (arith, c.loop-place.invariant.later, c.loop-place.invariant.known)) past in
+    let from = from-known _ s d start (omega (arith, c.loop-place.invariant.later, c.loop-place.invariant.known)) (omega (arith, past)) in
     let few : end d.run ≤ length c.self.inside.octets.items = rw (← c.self.view_is) (end-few _) in
     let bound : length c.self.inside.octets.items < 2 ^ 63 = omega (arith, c.self.inside.octets.ok.0, c.self.inside.octets.ok.1, c.self.inside.octets.small) in
     let within = (stop-is d.breaks (events d.run) d.position c.requires.more).within in
