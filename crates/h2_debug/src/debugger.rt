@@ -407,10 +407,9 @@ impl<'b, A: Allocator + Copy> Debugger<'b, A> {
     }
 
     /// Takes a copy of the present place over positions that were reached before, up to the first one that a breakpoint
-    /// matches, or until no more than a leg of them is ahead. After each leg the place is made again from what is kept,
-    /// so that it shares the records of the farthest one; this is one item back, where no breakpoint matches.
-    /// Returns how far the run goes on from there at most: no further where a breakpoint matches. `AllocError` if it is out
-    /// of memory.
+    /// matches, or until no more than a leg of them is ahead. After each leg, and where one matches, the place is made
+    /// again from what is kept, so that it shares the records of the farthest one; this is at least one item back, where
+    /// no breakpoint matches. Returns how far the run goes on from there at most. `AllocError` if it is out of memory.
     fn walk_reached(&mut self, place: &mut Place<'b, A>) -> Result<usize, AllocError>
         requires place { IsAt self.old.run place.old }
         requires here { place.old.position ≡ self.old.position }
@@ -430,7 +429,8 @@ impl<'b, A: Allocator + Copy> Debugger<'b, A> {
             self.walk(place, bound)?;
             let position = place.position();
             if position < bound {
-                return Ok(position);
+                *place = self.start_ahead(position - 1)?;
+                return Ok(usize::MAX);
             }
             *place = self.start_ahead(bound - 1)?;
         }

@@ -1,4 +1,4 @@
-use Rattle.std.proofs.Common.{◌≡◌, ◌≤◌, ◌+◌, ◌-◌}
+use Rattle.std.proofs.Common.{◌≡◌, ◌<◌, ◌≤◌, ◌+◌, ◌-◌}
 use Rattle.h2_spec.specs.Debug.{stop}
 use Rattle.h2_debug.specs.Places.{IsAt, events}
 use Rattle.h2_debug.proofs.debugger.Debugger.walk_reached.Given as goal
@@ -10,6 +10,7 @@ invariant-loop-place g l = record {
   known : l.place.position ≤ l.fn.self.reached;
   later : l.fn.self.position ≤ l.place.position;
   ran : l.place.ran ≡ l.fn.self.ran + (l.place.position - l.fn.self.position);
+  before : l.place.position < stop l.fn.self.breaks (events l.fn.self.run) l.fn.self.position;
   same : stop l.fn.self.breaks (events l.fn.self.run) l.place.position ≡ stop l.fn.self.breaks (events l.fn.self.run) l.fn.self.position;
 }
 
