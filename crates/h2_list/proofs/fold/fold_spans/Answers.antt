@@ -1,7 +1,7 @@
-use Rattle.std.proofs.Common.{◌≡◌, ℕ, ◌+◌, ◌<◌, ◌≤◌, List, [], ◌∷◌, ◌++◌, length, take, get_or, map, subst, ap, ◌∙◌, sym, arith, length-take}
+use Rattle.std.proofs.Common.{◌≡◌, ◌<◌, ◌≤◌, [], ◌∷◌, ◌++◌, length, take, get_or, map, subst, ap, ◌∙◌, sym, arith, length-take}
 use Rattle.std.proofs.lemmas.List.{map-append, take_more}
-use Rattle.h2_list.specs.Folded.{AreBelow, AreWithin, chosen, nothing}
-use Rattle.h2_list.specs.Spans.{AreSpans, field_in}
+use Rattle.h2_list.specs.Folded.{AreBelow, chosen, nothing}
+use Rattle.h2_list.specs.Spans.{field_in}
 use Rattle.h2_list.proofs.Folding.{below-more, below-push, chosen-push, span-in}
 use Rattle.h2_list.proofs.fold.fold_spans.Goals as goal
 
