@@ -3,7 +3,7 @@
 
 The preface, SETTINGS, the acknowledgement of the server's, and then as many items of one kind as there is space for. Kinds with a number have blocks of 65,000
 octets in frames of that many: `fields-N` of indices of one octet, each of 121 entries in turn; `literals-N` of values of one octet; `inserts-N` of new entries.
-Kinds `live-..` have 1,000 open streams first, so they want `--streams 1000`.
+`values-N` has them in frames of one octet, and values of N octets, no two of them the same. `entry` is requests of one new entry each. Kinds `live-..` have 1,000 open streams first, so they want `--streams 1000`.
 """
 import struct
 import sys
@@ -12,7 +12,7 @@ PREFACE = b"PRI * HTTP/2.0\r\n\r\nSM\r\n\r\n"
 DATA, HEADERS, SETTINGS, PING, WINDOW_UPDATE, CONTINUATION = 0, 1, 4, 6, 8, 9
 END_STREAM, ACK, END_HEADERS = 1, 1, 4
 GET = b"\x82\x86\x84"  # :method GET, :scheme http, :path /
-BLOCK = 65000  # how many octets a long field block has
+BLOCK = 65000  # how many octets a long field block has at most
 LIVE = 1000  # how many streams are open in kinds `live-..`
 
 
@@ -23,6 +23,18 @@ def frame(kind, flags, stream, payload=b""):
 def text(octets):
     assert len(octets) < 127
     return bytes([len(octets)]) + octets
+
+
+def long_text(octets):
+    """A string that is not Huffman's, of any length (RFC 7541, 5.1 and 5.2)."""
+    left = len(octets) - 127
+    if left < 0:
+        return text(octets)
+    length = bytearray([127])
+    while left >= 128:
+        length.append(128 + left % 128)
+        left //= 128
+    return bytes(length) + bytes([left]) + octets
 
 
 PATH = b"\x04" + text(b"/index.html?page=12&sort=name")
@@ -40,13 +52,15 @@ SHORT = GET + b"".join(b"\x40" + text(b"n%03d" % i + b"x" * 20) + text(b"v") for
 
 
 def field(kind, place):
-    """A field of a long block of a kind."""
+    """A field of a long block of a kind, which is a number for values of that many octets."""
     if kind == "fields":
         return bytes([0x80 | (1 + place % 121)])
     if kind == "literals":
         return bytes([1 + place % 14, 1, 33 + place % 90])
     if kind == "inserts":
         return bytes([0x40 | (1 + place % 61), 0])
+    if isinstance(kind, int):
+        return b"\x04" + long_text((b"%06d" % place + b"a" * kind)[:kind])
     sys.exit(f"octets.py: there is no kind {kind}-N")
 
 
@@ -56,7 +70,7 @@ def blocks(kind, size):
     stream, place = 3, 0
     while True:
         block = bytearray()
-        while len(block) < BLOCK:
+        while len(block) + len(field(kind, place)) <= BLOCK:
             block += field(kind, place)
             place += 1
         for at in range(0, len(block), size):
@@ -92,6 +106,8 @@ def items(kind):
     name, _, rest = kind.partition("-")
     if name == "live":
         yield from beside_live(rest)
+    if name == "values":
+        yield from blocks(int(rest), 1)
     if rest:
         yield from blocks(name, int(rest))
     place = 0
@@ -109,6 +125,8 @@ def items(kind):
             yield frame(HEADERS, END_STREAM | END_HEADERS, stream, NEXT if place else FIRST)
         elif kind == "refused":
             yield frame(HEADERS, END_STREAM | END_HEADERS, stream, GET[:1])
+        elif kind == "entry":
+            yield frame(HEADERS, END_STREAM | END_HEADERS, stream, bytes([0x40 | (1 + place % 61), 0]))
         elif kind == "data":
             yield frame(DATA, 0, 1, b"a" * 16384)
         elif kind == "continuation":
