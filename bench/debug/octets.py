@@ -3,7 +3,7 @@
 
 The preface, SETTINGS, the acknowledgement of the server's, and then as many items of one kind as there is space for. Kinds with a number have blocks of 65,000
 octets in frames of that many: `fields-N` of indices of one octet, each of 121 entries in turn; `literals-N` of values of one octet; `inserts-N` of new entries.
-`values-N` has them in frames of one octet, and values of N octets, no two of them the same. `entry` is requests of one new entry each. Kinds `live-..` have 1,000 open streams first, so they want `--streams 1000`.
+`values-N` has them in frames of one octet, and values of N octets, no two of them the same. `entry` is requests of one new entry each. `large-table` has 2,048 entries and then PINGs; it wants `--table 65536`. Kinds `live-..` have 1,000 open streams first, so they want `--streams 1000`.
 """
 import struct
 import sys
@@ -13,6 +13,7 @@ DATA, HEADERS, SETTINGS, PING, WINDOW_UPDATE, CONTINUATION = 0, 1, 4, 6, 8, 9
 END_STREAM, ACK, END_HEADERS = 1, 1, 4
 GET = b"\x82\x86\x84"  # :method GET, :scheme http, :path /
 BLOCK = 65000  # how many octets a long field block has at most
+LARGE = b"\x3f\xe1\xff\x03"  # a size update to 65,536 octets
 LIVE = 1000  # how many streams are open in kinds `live-..`
 
 
@@ -103,7 +104,7 @@ def beside_live(kind):
 
 def items(kind):
     """The items of a kind, without end."""
-    name, _, rest = kind.partition("-")
+    name, _, rest = kind.partition("-") if kind != "large-table" else (kind, "", "")
     if name == "live":
         yield from beside_live(rest)
     if name == "values":
@@ -115,9 +116,12 @@ def items(kind):
         yield frame(HEADERS, END_HEADERS, 1, GET)
     if kind == "table":
         yield frame(HEADERS, END_STREAM | END_HEADERS, 1, FULL)
+    if kind == "large-table":
+        for turn in range(8):
+            yield frame(HEADERS, END_STREAM | END_HEADERS, 2 * turn + 1, (b"" if turn else LARGE) + b"\x40\x00\x00" * 256)
     while True:
         stream = 2 * place + 1
-        if kind in ("ping", "table"):
+        if kind in ("ping", "table", "large-table"):
             yield frame(PING, 0, 0, b"12345678")
         elif kind == "get":
             yield frame(HEADERS, END_STREAM | END_HEADERS, stream, GET)
