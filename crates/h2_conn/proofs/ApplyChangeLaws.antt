@@ -4,6 +4,7 @@ use Rattle.std.specs.Prelude.{Option, Some, None}
 use Rattle.h2_spec.specs.declared.connection.ConnectionState.{ConnectionState}
 use Rattle.h2_spec.specs.declared.connection.Phase.{Phase}
 use Rattle.h2_spec.specs.declared.connection.Phase.TheVariants as phase
+use Rattle.h2_spec.specs.declared.flow.LocalSettings.{LocalSettings}
 use Rattle.h2_spec.specs.declared.connection.Purpose.{Purpose}
 use Rattle.h2_spec.specs.declared.connection.Purpose.TheVariants.{Request, Trailers, Closed, TableOnly}
 use Rattle.h2_spec.specs.declared.reactions.Change.{Change}
@@ -23,7 +24,8 @@ use Rattle.h2_send.specs.Sending.{all_frames, core_after, open_window, open_wind
 use Rattle.h2_rules.specs.Sound.{IsSoundChange, IsSoundState, in_force, updated_records}
 use Rattle.h2_send.proofs.AloneLaws.{after-none, none-spent, sent-none}
 use Rattle.h2_send.proofs.KindLaws.{sent-kinds}
-use Rattle.h2_rules.proofs.SoundLaws.{updated-streams}
+use Rattle.h2_send.proofs.SentLaws.{sent-sound}
+use Rattle.h2_rules.proofs.SoundLaws.{changed-sound, same-own, updated-streams}
 
 -- what is sound for the records of a state is sound for those that it holds
 pub inside-sound : (book : List Entry) (core : ConnectionState) (r : Records) (c : Change) → IsSoundState book core r →
@@ -97,6 +99,23 @@ made-then s c = at c.core.phase
 -- the counts with that many octets taken
 pub counts-sent : (core : ConnectionState) (streams : List Stream) (n : ℕ) (now : ConnectionState) → n ≡ sent_count core streams → now ≡ record core { send = core.send -ℤ pos n } → now ≡ core_after core streams
 counts-sent core streams n now count is = is ∙ ap (λ (k : ℕ). let x : ConnectionState = record core { send = core.send -ℤ pos k } in x) count
+
+-- what a state keeps that makes a change, of which octets are sent: its records are sound for its counts, the limit of the table is the
+-- server's own, and the open block's stream is as the block's end needs it
+pub keeps : (book : List Entry) (core now : ConnectionState) (r after : Records) (c : Change) (block : Option OpenBlock) (limit sent : ℕ) →
+    IsSoundState book core r → limit ≡ core.own.table → IsSoundChange book (record { streams = r.streams; last = core.last }) (in_force core) c →
+    IsOpenFor (updated_records c.record_update (record { streams = r.streams; last = core.last })) block → now ≡ record c.core { send = c.core.send -ℤ pos sent } → after ≡ records_after c.core (updated_records c.record_update r) →
+    IsSoundState book now after × (limit ≡ now.own.table) × IsOpenFor after block
+keeps book core now r after c block limit sent state own change opened counts records =
+    let sound = inside-sound book core r c state change in
+    let updated = updated_records c.record_update r in
+    let whole = sent-sound book c.core updated (open_window c.core) sent (changed-sound book core r c state sound) in
+    let held = subst (λ (l : ℕ). IsOpenFor (updated_records c.record_update (record { streams = r.streams; last = l })) block) (sym state.last) opened in
+    let same = same-own book r (in_force core) c.core c.record_update sound.1 in (
+      subst (λ (x : Records). IsSoundState book now x) (sym records) (subst (λ (k : ConnectionState). IsSoundState book k (records_after c.core updated)) (sym counts) whole),
+      own ∙ sym (ap (λ (o : LocalSettings). o.table) same) ∙ sym (ap (λ (k : ConnectionState). k.own.table) counts),
+      subst (λ (x : Records). IsOpenFor x block) (sym records) (open-after c.core updated block held),
+    )
 
 -- what is done is what the definitions say
 pub did : (s : State) (c : Change) (r now : Records) (core : ConnectionState) (out out' : List ℕ) → s.streams ≡ r.streams → core ≡ core_after c.core (updated_streams c.record_update s.streams) →

@@ -5,7 +5,7 @@ use Rattle.h2_spec.specs.declared.connection.Config.{Config}
 use Rattle.h2_spec.specs.declared.connection.ConnectionState.{ConnectionState}
 use Rattle.h2_spec.specs.declared.connection.Purpose.{Purpose}
 use Rattle.h2_spec.specs.declared.connection.Purpose.TheVariants.{Request, Trailers, Closed, TableOnly}
-use Rattle.h2_spec.specs.declared.causes.Cause.TheVariants.{ConnectionIncrementZero, ConnectionWindowExceeded, ConnectionWindowOverflow, DataAfterEndStream}
+use Rattle.h2_spec.specs.declared.causes.Cause.TheVariants.{ConnectionIncrementZero, ConnectionWindowExceeded, ConnectionWindowOverflow, DataAfterEndStream, StreamIncrementZero, StreamWindowOverflow}
 use Rattle.h2_spec.specs.declared.reactions.Change.{Change}
 use Rattle.h2_spec.specs.declared.reactions.ConnectionFrame.TheVariants.{PingAck}
 use Rattle.h2_spec.specs.declared.reactions.Reaction.{Reaction}
@@ -14,10 +14,11 @@ use Rattle.h2_spec.specs.declared.reactions.ReceivedData.{ReceivedData}
 use Rattle.h2_spec.specs.declared.ignored.Ignored.{Ignored}
 use Rattle.h2_spec.specs.declared.ignored.Ignored.TheVariants.{DataOnReset, PingAcknowledgement}
 use Rattle.h2_spec.specs.declared.reactions.StreamOutcome.{StreamOutcome}
+use Rattle.h2_spec.specs.declared.streams.Pick.{Pick}
 use Rattle.h2_spec.specs.declared.streams.StreamState.{StreamState}
 use Rattle.h2_spec.specs.declared.streams.StreamState.TheVariants.{Idle, Skipped, BothOpen, HalfRemote, HalfLocal, Ended, PeerReset, WeReset}
 use Rattle.h2_spec.specs.declared.streams.Stream.{Stream}
-use Rattle.h2_spec.specs.Change.{ignoring, only_counts, still_pending, stream_error, with_outcome, with_size_update_pending}
+use Rattle.h2_spec.specs.Change.{ignoring, only_counts, outcome_without_frame, still_pending, stream_error, with_outcome, with_send, with_size_update_pending}
 use Rattle.h2_spec.specs.Data.{counted, data_counted, data_outcome, data_refused, data_taken, if_within, owed_as, owed_on_connection}
 use Rattle.h2_spec.specs.Effect.{data_rule, ignore, on_data, on_reset, on_window, reset_outcome, reset_rule, window_rule}
 use Rattle.h2_spec.specs.Field.{Field}
@@ -26,7 +27,7 @@ use Rattle.h2_spec.specs.ReactionTable.{data_cell, reset_cell, run_cell, window_
 use Rattle.h2_spec.specs.State.{State}
 use Rattle.h2_spec.specs.Window.{given_back, is_above_max}
 use Rattle.h2_spec.specs.WindowUpdate.{connection_window, window_outcome}
-use Rattle.h2_conn.specs.Counts.{IsCounted, with_counts}
+use Rattle.h2_conn.specs.Counts.{IsCounted, LeavesCounts, with_counts}
 
 -- a test between two reactions that do
 by-test : (core : ConnectionState) (t : Bool) (r s : Reaction) → IsCounted core r → IsCounted core s → IsCounted core (if t then r else s)
@@ -37,11 +38,67 @@ by-test core false r s first second = second
 pub counted-by : (core now : ConnectionState) (r s : Reaction) → r ≡ s → now ≡ core → IsCounted now s → IsCounted core r
 counted-by core now r s same is h = subst (λ (k : ConnectionState). IsCounted k r) is (subst (IsCounted now) (sym same) h)
 
-pub ignore-counted : (core : ConnectionState) (reason : Ignored) → IsCounted core (ignore core reason)
-ignore-counted core reason = refl
+-- ---- rules that leave all counts
 
-pub ping-counted : (core : ConnectionState) (is_answer : Bool) (octets : List ℕ) → IsCounted core (if is_answer then ignore core PingAcknowledgement else Continues (record (only_counts core) { connection_frame = PingAck octets }))
-ping-counted core is_answer octets = by-test core is_answer (ignore core PingAcknowledgement) (Continues (record (only_counts core) { connection_frame = PingAck octets })) refl refl
+pub leaves-by : (core now : ConnectionState) (r s : Reaction) → r ≡ s → now ≡ core → LeavesCounts now s → LeavesCounts core r
+leaves-by core now r s same is h = subst (λ (k : ConnectionState). LeavesCounts k r) is (subst (LeavesCounts now) (sym same) h)
+
+pub ignore-leaves : (core : ConnectionState) (reason : Ignored) → LeavesCounts core (ignore core reason)
+ignore-leaves core reason = refl
+
+pub ping-leaves : (core : ConnectionState) (is_answer : Bool) (octets : List ℕ) → LeavesCounts core (if is_answer then ignore core PingAcknowledgement else Continues (record (only_counts core) { connection_frame = PingAck octets }))
+ping-leaves core true octets = refl
+ping-leaves core false octets = refl
+
+-- a change that only a stream makes, where no answer begins
+outcome-leaves : (core : ConnectionState) (t : StreamOutcome) → t.answer ≡ None → (with_outcome (only_counts core) t).core ≡ core
+unfolding with_outcome
+outcome-leaves core t none = ap (λ (a : Option Pick). with_size_update_pending core (still_pending core.peer.size_update_pending a)) none
+
+window-outcome-answers : (n : ℕ) (st : Stream) → (window_outcome n st).answer ≡ None
+unfolding window_outcome
+window-outcome-answers n st = at (n == 0) (is_above_max (st.numbers.send +ℤ pos n))
+  where
+    at : (zero above : Bool) → (if zero then stream_error st.id StreamIncrementZero else if above then stream_error st.id StreamWindowOverflow else outcome_without_frame (with_send st (st.numbers.send +ℤ pos n))).answer ≡ None
+    at true above = refl
+    at false true = refl
+    at false false = refl
+
+pub stream-window-leaves : (core : ConnectionState) (n : ℕ) (st : Stream) → LeavesCounts core (on_window core n st)
+unfolding on_window
+stream-window-leaves core n st = at st.kind
+  where
+    moved : (with_outcome (only_counts core) (window_outcome n st)).core ≡ core
+    moved = outcome-leaves core (window_outcome n st) (window-outcome-answers n st)
+
+    at : (kind : StreamState) → LeavesCounts core (run_cell ConnectionError (ignore core) (λ rule. window_rule rule core n st) (window_cell (n == 0) kind))
+    at Idle = tt
+    at Skipped = refl
+    at BothOpen = moved
+    at HalfRemote = moved
+    at HalfLocal = moved
+    at Ended = refl
+    at PeerReset = refl
+    at WeReset = refl
+
+pub reset-leaves : (core : ConnectionState) (st : Stream) → LeavesCounts core (on_reset core st)
+unfolding on_reset
+reset-leaves core st = at st.kind
+  where
+    moved : (with_outcome (only_counts core) (reset_outcome st)).core ≡ core
+    moved = outcome-leaves core (reset_outcome st) refl
+
+    at : (kind : StreamState) → LeavesCounts core (run_cell ConnectionError (ignore core) (λ rule. reset_rule rule core st) (reset_cell kind))
+    at Idle = tt
+    at Skipped = refl
+    at BothOpen = moved
+    at HalfRemote = moved
+    at HalfLocal = moved
+    at Ended = refl
+    at PeerReset = refl
+    at WeReset = refl
+
+-- ---- rules that leave most counts
 
 pub window-counted : (core : ConnectionState) (n : ℕ) → IsCounted core (connection_window core n)
 unfolding connection_window
@@ -54,40 +111,6 @@ window-counted core n =
 outcome-counted : (core : ConnectionState) (c : Change) (t : StreamOutcome) → c.core ≡ with_counts core c.core → (with_outcome c t).core ≡ with_counts core (with_outcome c t).core
 unfolding with_outcome
 outcome-counted core c t h = ap (λ (k : ConnectionState). with_size_update_pending k (still_pending c.core.peer.size_update_pending t.answer)) h
-
-pub stream-window-counted : (core : ConnectionState) (n : ℕ) (st : Stream) → IsCounted core (on_window core n st)
-unfolding on_window
-stream-window-counted core n st = at st.kind
-  where
-    moved : (with_outcome (only_counts core) (window_outcome n st)).core ≡ with_counts core (with_outcome (only_counts core) (window_outcome n st)).core
-    moved = outcome-counted core (only_counts core) (window_outcome n st) refl
-
-    at : (kind : StreamState) → IsCounted core (run_cell ConnectionError (ignore core) (λ rule. window_rule rule core n st) (window_cell (n == 0) kind))
-    at Idle = tt
-    at Skipped = refl
-    at BothOpen = moved
-    at HalfRemote = moved
-    at HalfLocal = moved
-    at Ended = refl
-    at PeerReset = refl
-    at WeReset = refl
-
-pub reset-counted : (core : ConnectionState) (st : Stream) → IsCounted core (on_reset core st)
-unfolding on_reset
-reset-counted core st = at st.kind
-  where
-    moved : (with_outcome (only_counts core) (reset_outcome st)).core ≡ with_counts core (with_outcome (only_counts core) (reset_outcome st)).core
-    moved = outcome-counted core (only_counts core) (reset_outcome st) refl
-
-    at : (kind : StreamState) → IsCounted core (run_cell ConnectionError (ignore core) (λ rule. reset_rule rule core st) (reset_cell kind))
-    at Idle = tt
-    at Skipped = refl
-    at BothOpen = moved
-    at HalfRemote = moved
-    at HalfLocal = moved
-    at Ended = refl
-    at PeerReset = refl
-    at WeReset = refl
 
 -- octets that are counted on the connection
 counted-counted : (threshold : ℕ) (core : ConnectionState) (n : ℕ) → (counted threshold core n).core ≡ with_counts core (counted threshold core n).core

@@ -13,3 +13,8 @@ with_counts core after = record core { last = after.last; recv = after.recv; owe
 abbrev pub IsCounted : ConnectionState → Reaction → Type 0
 IsCounted core (ConnectionError code) = Unit {0}
 IsCounted core (Continues c) = c.core ≡ with_counts core c.core
+
+-- where a reaction goes on, it leaves all counts as they are
+abbrev pub LeavesCounts : ConnectionState → Reaction → Type 0
+LeavesCounts core (ConnectionError code) = Unit {0}
+LeavesCounts core (Continues c) = c.core ≡ core

@@ -109,6 +109,32 @@ impl<'b, A: Allocator + Copy> State<'b, A> {
 }
 
 impl<'b, A: Allocator + Copy> State<'b, A> {
+    /// Makes a change that leaves the counts as they are, and sends its frames and then the pending output, which the send
+    /// window pays for; or does nothing. Answers how its item is judged.
+    #[inline(always)]
+    pub fn apply_leaving_counts<O: Outgoing<'b, A>>(
+        &mut self,
+        change: &Change,
+        out: &mut O,
+    ) -> Result<Verdict, AllocError>
+        requires kept { IsOpenFor (updated_records change.now.record_update (records self.old)) self.old.block }
+        requires sound { IsSoundChange self.old.book (records self.old) (in_force self.old.core) change.now }
+        requires same { change.now.core ≡ self.old.core }
+        ensures ok { OnOk result (Does (then_sent change.now.core.phase (changes.made self.old change.now)) (O.octets out.old) self.new (O.octets out.new)) }
+        ensures verdict { IfOk result (λ verdict. verdict ≡ record { cause = effect.stream_cause change.now.stream_frame; ignored = change.now.ignored }) }
+        ensures err { OnErr result ((self.new ≡ self.old) × (O.octets out.new ≡ O.octets out.old)) }
+    {
+        match send_and_update(self.book, &mut self.streams, change, out) {
+            Ok(count) => {
+                self.core.send = without(self.core.send, count);
+                Ok(verdict_of(change))
+            }
+            Err(error) => Err(error),
+        }
+    }
+}
+
+impl<'b, A: Allocator + Copy> State<'b, A> {
     /// Ends the connection with a GOAWAY, or does nothing; an open block is decoded no more. Answers that the item is an
     /// error for this cause.
     pub fn fail<O: Outgoing<'b, A>>(

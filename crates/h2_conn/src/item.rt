@@ -24,7 +24,7 @@ ghost use Rattle.h2_spec.specs.declared.reactions.ConnectionFrame.TheVariants as
 ghost use Rattle.h2_spec.specs.declared.reactions.Reaction.TheVariants as reactions;
 ghost use Rattle.h2_spec.specs.declared.reactions.Reaction.TheVariants.{ConnectionError};
 ghost use Rattle.h2_conn.specs.Blocks.{IsStopped};
-ghost use Rattle.h2_conn.specs.Counts.{IsCounted};
+ghost use Rattle.h2_conn.specs.Counts.{IsCounted, LeavesCounts};
 ghost use Rattle.h2_conn.specs.Does.{Does, IsShort, stepped};
 ghost use Rattle.h2_conn.specs.Records.{records};
 ghost use Rattle.h2_rules.specs.Plain.{only_raises, only_takes};
@@ -158,7 +158,7 @@ impl<'b, A: Allocator + Copy> State<'b, A> {
     #[inline(always)]
     fn on_reset(&self, id: u32) -> Reaction
         ensures rule { result ≡ rule.on_reset self.now.core (stream_at self.now.core.last self.now.streams id) }
-        ensures counts { IsCounted self.now.core result }
+        ensures counts { LeavesCounts self.now.core result }
         ensures sound { IsSound self.now.book (records self.now) (in_force self.now.core) result }
     {
         on_reset(self.core(), self.stream_at(id))
@@ -178,7 +178,6 @@ impl<'b, A: Allocator + Copy> State<'b, A> {
     #[inline(always)]
     fn on_stream_window(&self, id: u32, increment: u32) -> Reaction
         ensures rule { result ≡ rule.on_window self.now.core increment (stream_at self.now.core.last self.now.streams id) }
-        ensures counts { IsCounted self.now.core result }
         ensures sound { IsSound self.now.book (records self.now) (in_force self.now.core) result }
     {
         on_window(self.core(), increment, self.stream_at(id))
@@ -192,7 +191,7 @@ impl<'b, A: Allocator + Copy> State<'b, A> {
         requires waits { HasBody self.now.book stream }
         requires raises { only_raises increment stream ≡ true }
         ensures rule { result ≡ rule.on_window self.now.core increment stream }
-        ensures counts { IsCounted self.now.core result }
+        ensures counts { LeavesCounts self.now.core result }
         ensures sound { IsSound self.now.book (records self.now) (in_force self.now.core) result }
     {
         raise(self.core(), increment, stream)
@@ -212,7 +211,7 @@ impl<'b, A: Allocator + Copy> State<'b, A> {
     #[inline(always)]
     fn on_ping(&self, is_answer: bool, octets: [u8; 8]) -> Reaction
         ensures rule { result ≡ (if is_answer then rule.ignore self.now.core PingAcknowledgement else reactions.Continues (record (changes.only_counts self.now.core) { connection_frame = frames.PingAck octets })) }
-        ensures counts { IsCounted self.now.core result }
+        ensures counts { LeavesCounts self.now.core result }
         ensures sound { IsSound self.now.book (records self.now) (in_force self.now.core) result }
     {
         on_ping(self.core(), is_answer, octets)
@@ -231,7 +230,7 @@ impl<'b, A: Allocator + Copy> State<'b, A> {
     #[inline(always)]
     fn on_ignored(&self, reason: Ignored) -> Reaction
         ensures rule { result ≡ rule.ignore self.now.core reason }
-        ensures counts { IsCounted self.now.core result }
+        ensures counts { LeavesCounts self.now.core result }
         ensures sound { IsSound self.now.book (records self.now) (in_force self.now.core) result }
     {
         ignore(self.core(), reason)
@@ -281,6 +280,26 @@ impl<'b, A: Allocator + Copy> State<'b, A> {
         match &reaction {
             Reaction::ConnectionError(cause) => self.fail(*cause, out),
             Reaction::Continues(change) => self.apply_in_place(change, out),
+        }
+    }
+
+    /// A connection error, or a change that leaves the counts as they are, or nothing; no block is open that is still decoded.
+    #[inline(always)]
+    fn conclude_leaving_counts<O: Outgoing<'b, A>>(
+        &mut self,
+        reaction: Reaction,
+        out: &mut O,
+    ) -> Result<Verdict, AllocError>
+        requires stopped { IsStopped self.old.block }
+        requires sound { IsSound self.old.book (records self.old) (in_force self.old.core) reaction }
+        requires counts { LeavesCounts self.old.core reaction }
+        ensures ok { OnOk result (Does (stepped (rule.concluded self.old (makes self.old reaction))) (O.octets out.old) self.new (O.octets out.new)) }
+        ensures verdict { IfOk result (λ verdict. verdict ≡ rule.effect_verdict (makes self.old reaction)) }
+        ensures err { OnErr result ((self.new ≡ self.old) × (O.octets out.new ≡ O.octets out.old)) }
+    {
+        match &reaction {
+            Reaction::ConnectionError(cause) => self.fail(*cause, out),
+            Reaction::Continues(change) => self.apply_leaving_counts(change, out),
         }
     }
 
@@ -394,7 +413,7 @@ impl<'b, A: Allocator + Copy> State<'b, A> {
     {
         self.look_up(id);
         let reaction = self.on_reset(id);
-        self.conclude_in_place(reaction, out)
+        self.conclude_leaving_counts(reaction, out)
     }
 
     /// SETTINGS without ACK is taken.
@@ -427,7 +446,7 @@ impl<'b, A: Allocator + Copy> State<'b, A> {
         ensures err { OnErr result ((self.new ≡ self.old) × (O.octets out.new ≡ O.octets out.old)) }
     {
         let reaction = self.on_ping(is_answer, octets);
-        self.conclude_in_place(reaction, out)
+        self.conclude_leaving_counts(reaction, out)
     }
 
     /// GOAWAY is taken.
@@ -480,7 +499,7 @@ impl<'b, A: Allocator + Copy> State<'b, A> {
         let stream = self.stream_at(id);
         if only_raises(increment, &stream) {
             let reaction = self.on_raised(increment, stream);
-            self.conclude_in_place(reaction, out)
+            self.conclude_leaving_counts(reaction, out)
         } else {
             self.take_other_window(id, increment, out)
         }
@@ -516,7 +535,7 @@ impl<'b, A: Allocator + Copy> State<'b, A> {
         ensures err { OnErr result ((self.new ≡ self.old) × (O.octets out.new ≡ O.octets out.old)) }
     {
         let reaction = self.on_ignored(reason);
-        self.conclude_in_place(reaction, out)
+        self.conclude_leaving_counts(reaction, out)
     }
 
     /// PUSH_PROMISE is taken.

@@ -409,8 +409,8 @@ impl<'b, A: Allocator + Copy> Debugger<'b, A> {
     /// Takes a copy of the present place over positions that were reached before, up to the first one that a breakpoint
     /// matches, or until no more than a leg of them is ahead. After each leg, and where one matches, the place is made
     /// again from what is kept, so that it shares the records of the farthest one; this is at least one item back, where
-    /// no breakpoint matches. Returns how far the run goes on from there at most. `AllocError` if it is out of memory.
-    fn walk_reached(&mut self, place: &mut Place<'b, A>) -> Result<usize, AllocError>
+    /// no breakpoint matches. `AllocError` if it is out of memory.
+    fn walk_reached(&mut self, place: &mut Place<'b, A>) -> Result<(), AllocError>
         requires place { IsAt self.old.run place.old }
         requires here { place.old.position ≡ self.old.position }
         requires ran { place.old.ran ≡ self.old.ran }
@@ -419,8 +419,8 @@ impl<'b, A: Allocator + Copy> Debugger<'b, A> {
         ensures known { OnOk result (place.new.position ≤ self.old.reached) }
         ensures later { OnOk result (self.old.position ≤ place.new.position) }
         ensures ran { OnOk result (place.new.ran ≡ self.old.ran + (place.new.position - self.old.position)) }
-        ensures bound { IfOk result (λ bound. place.new.position ≤ bound) }
-        ensures stop { IfOk result (λ bound. min bound (stop self.old.breaks (events self.old.run) place.new.position) ≡ stop self.old.breaks (events self.old.run) self.old.position) }
+        ensures before { OnOk result (place.new.position < stop self.old.breaks (events self.old.run) self.old.position) }
+        ensures stop { OnOk result (stop self.old.breaks (events self.old.run) place.new.position ≡ stop self.old.breaks (events self.old.run) self.old.position) }
         ensures same { self.new ≡ self.old }
     {
         let reached = self.reached;
@@ -430,20 +430,20 @@ impl<'b, A: Allocator + Copy> Debugger<'b, A> {
             let position = place.position();
             if position < bound {
                 *place = self.start_ahead(position - 1)?;
-                return Ok(usize::MAX);
+                return Ok(());
             }
             *place = self.start_ahead(bound - 1)?;
         }
-        Ok(usize::MAX)
+        Ok(())
     }
 
-    /// Moves from a place to the first position that a breakpoint matches, or to a later one, or to the end, and returns the
-    /// new position. `AllocError` leaves the debugger as it was.
-    fn run_from(&mut self, mut place: Place<'b, A>, bound: usize) -> Result<usize, AllocError>
+    /// Moves from a place to the first position that a breakpoint matches, or to the end, and returns the new position.
+    /// `AllocError` leaves the debugger as it was.
+    fn run_from(&mut self, mut place: Place<'b, A>) -> Result<usize, AllocError>
         requires place { IsAt self.old.run place }
         requires known { place.position ≤ self.old.reached }
-        requires ahead { place.position ≤ bound }
-        ensures ok { IfOk result (λ p. (p ≡ min bound (stop self.old.breaks (events self.old.run) place.entry.position)) × (self.new ≡ moved_by (place.entry.ran + (p - place.entry.position)) p self.old)) }
+        requires more { place.position < end self.old.run }
+        ensures ok { IfOk result (λ p. (p ≡ stop self.old.breaks (events self.old.run) place.entry.position) × (self.new ≡ moved_by (place.entry.ran + (p - place.entry.position)) p self.old)) }
         ensures unchanged { OnErr result (self.new ≡ self.old) }
     {
         keep_if_due(&self.present, &mut self.kept)?;
@@ -456,7 +456,7 @@ impl<'b, A: Allocator + Copy> Debugger<'b, A> {
             &source,
             &mut place,
             self.breaks.as_slice(),
-            bound,
+            usize::MAX,
             &mut self.kept,
         )?;
         let position = place.position();
@@ -476,8 +476,8 @@ impl<'b, A: Allocator + Copy> Debugger<'b, A> {
             return self.step_some(usize::MAX);
         }
         let mut place = self.copy_present()?;
-        let bound = self.walk_reached(&mut place)?;
-        self.run_from(place, bound)
+        self.walk_reached(&mut place)?;
+        self.run_from(place)
     }
 
     /// Adds a breakpoint. `NoMemory` leaves the debugger as it was.

@@ -7,7 +7,7 @@ ghost use Rattle.h2_spec.specs.DynamicTable.{field_at, total_size};
 ghost use Rattle.h2_spec.specs.Instruction.{Shape, Indexed, Update, Literal, Ref, instr_at, instruction_of};
 ghost use Rattle.h2_instruction.specs.Instructions.{instr_of, name_text_of};
 ghost use Rattle.h2_instruction.specs.Shapes.{mode_of};
-ghost use Rattle.h2_table.specs.Lent.{lent_field};
+ghost use Rattle.h2_list.specs.Lent.{lent_field};
 ghost use Rattle.h2_describe.specs.Spelled.{IsDone, IsStep, Spelled, fields_of, keep, literal_added, read_to, spelling_seen, stop_at};
 
 use crate::kept_fields::KeptFields;

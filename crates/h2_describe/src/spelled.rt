@@ -5,7 +5,7 @@
 ghost use Rattle.std.specs.Prelude.{◌≡◌, ◌+◌, ◌^◌, ◌-◌, [], ◌++◌, length, min, option_map, None, IfOk, OnOk, OnErr};
 ghost use Rattle.h2_spec.specs.Block.{decoded, list_size};
 ghost use Rattle.h2_spec.specs.DynamicTable.{field_at};
-ghost use Rattle.h2_table.specs.Lent.{lent_field};
+ghost use Rattle.h2_list.specs.Lent.{lent_field};
 ghost use Rattle.h2_describe.specs.Spelled.{Agrees, begun_with, fields_of, progress_of, read_more};
 
 use crate::reading::Reading;

@@ -1,19 +1,13 @@
 -- Laws of fields in batches.
-use Rattle.std.proofs.Common.{◌≡◌, ℕ, zero, suc, ◌+◌, ◌-◌, ◌<◌, ◌≤◌, Bool, true, false, cond, nat_lt, List, [], ◌∷◌, ◌++◌, length, take, drop, get_or, refl, ap, ◌∙◌, sym, arith, length-append, append_assoc, take-add, Some}
+use Rattle.std.proofs.Common.{◌≡◌, ℕ, zero, suc, ◌+◌, ◌-◌, ◌<◌, ◌≤◌, Bool, true, false, cond, nat_lt, List, [], ◌∷◌, ◌++◌, length, take, drop, get_or, refl, ap, ◌∙◌, sym, arith, length-append, append_assoc, take-add}
 use Rattle.std.proofs.lemmas.Bool.Decides.{nat_tests}
-use Rattle.std.proofs.lemmas.List.{append-nil, take-append-le, take_all, take_more}
-use Rattle.std.proofs.lemmas.Option.{get_or_from_slice_get, slice_get-get_or}
+use Rattle.std.proofs.lemmas.List.{append-nil, take-append-le, take_all}
 use Rattle.std.specs.Prelude.{slice_get, slice_set, slice_index_or}
 use Rattle.std.specs.List.{AllWithin}
 use Rattle.std.specs.List.Sorted.{IsNonDecreasingBy}
 use Rattle.h2_fields.specs.Batches.{FieldsFrom, AreBatches, before, fields_in}
 
 -- ---- lists
-
-pub slice_get-within : {X : Type 0} (xs : List X) (i : ℕ) (x : X) → slice_get xs i ≡ Some x → i < length xs
-slice_get-within [] i x e = absurd (cc)
-slice_get-within (y ∷ xs) zero x e = omega arith
-slice_get-within (y ∷ xs) (suc i) x e = let h = slice_get-within xs i x e in omega (arith, h)
 
 pub get-left : {X : Type 0} (xs ys : List X) (i : ℕ) → i < length xs → slice_get (xs ++ ys) i ≡ slice_get xs i
 get-left [] ys i h = absurd (omega arith)
@@ -47,23 +41,6 @@ pub get_or-first : {X : Type 0} (xs : List X) (i : ℕ) (d : X) → get_or (take
 get_or-first [] i d = refl
 get_or-first (x ∷ xs) zero d = refl
 get_or-first (x ∷ xs) (suc i) d = get_or-first xs i d
-
--- where the first elements are the same, and the next is, so are they together
-pub same-next : {X : Type 0} (n : ℕ) (xs ys : List X) → n < length xs → take n xs ≡ take n ys → slice_get xs n ≡ slice_get ys n → take (n + 1) xs ≡ take (n + 1) ys
-same-next n [] ys h e g = absurd (omega arith)
-same-next n (x ∷ xs) ys h e g =
-    let at = slice_get-get_or (x ∷ xs) n x h in
-    let there = sym g ∙ at in
-    let inside : n < length ys = slice_get-within ys n _ there in
-    take_more (x ∷ xs) n x h
-    ∙ ap (λ l. l ++ get_or (x ∷ xs) n x ∷ []) e
-    ∙ ap (λ y. take n ys ++ y ∷ []) (sym (get_or_from_slice_get ys n _ x there))
-    ∙ sym (take_more ys n x inside)
-
-pub get-rest : {X : Type 0} (from i : ℕ) (xs : List X) → slice_get (drop from xs) i ≡ slice_get xs (from + i)
-get-rest zero i xs = let same : i ≡ 0 + i = omega arith in ap (slice_get xs) same
-get-rest (suc from) i [] = refl
-get-rest (suc from) i (x ∷ xs) = let same : suc (from + i) ≡ suc from + i = omega arith in get-rest from i xs ∙ ap (slice_get (x ∷ xs)) same
 
 -- some of the first elements, and then more of those after them
 pub take-further : {X : Type 0} (n m : ℕ) (before xs more : List X) → more ≡ take m (drop n xs) → (before ++ take n xs) ++ more ≡ before ++ take (n + m) xs

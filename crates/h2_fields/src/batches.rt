@@ -3,7 +3,8 @@
 
 ghost use Rattle.std.specs.Prelude.{◌≡◌, ◌+◌, ◌-◌, ◌^◌, ◌<◌, ◌≤◌, [], ◌++◌, true, length, map, drop, take, slice_get, option_map, IfErr, IfOk, IfSome, OnErr, OnOk};
 ghost use Rattle.h2_mark.specs.Mark.{mark_of};
-ghost use Rattle.h2_table.specs.Lent.{field_lent, lent_field, IsMarked};
+ghost use Rattle.h2_list.specs.Lent.{lent_field};
+ghost use Rattle.h2_table.specs.Lent.{field_lent, IsMarked};
 ghost use Rattle.h2_fields.specs.Batches.{AreBatches, before};
 
 use h2_list::{FieldList, FoldedFields};

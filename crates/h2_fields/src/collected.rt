@@ -12,7 +12,8 @@ ghost use Rattle.h2_instruction.specs.Faults.{refusal};
 ghost use Rattle.h2_instruction.specs.Shapes.{string_of};
 ghost use Rattle.h2_instruction.specs.declared.fault.BlockFault.TheVariants as faults;
 ghost use Rattle.h2_mark.specs.Mark.{mark_of};
-ghost use Rattle.h2_table.specs.Lent.{lent_field, field_lent, IsMarked};
+ghost use Rattle.h2_list.specs.Lent.{lent_field};
+ghost use Rattle.h2_table.specs.Lent.{field_lent, IsMarked};
 
 use crate::batches::{Batches, lent_at};
 use crate::hints::Hints;

@@ -1,7 +1,6 @@
 -- What one place more, and more spans, do to the fields that are chosen.
-use Rattle.std.proofs.Common.{◌≡◌, ℕ, zero, suc, ◌+◌, ◌-◌, ◌<◌, ◌≤◌, List, [], ◌∷◌, ◌++◌, length, take, drop, get_or, refl, ap, ◌∙◌, sym, arith, length-drop, Some, None, slice_get}
-use Rattle.std.proofs.lemmas.List.{get_or-drop, get_or-take, map-append, take_more}
-use Rattle.std.proofs.lemmas.Option.{get_or_from_slice_get, slice_get-get_or}
+use Rattle.std.proofs.Common.{◌≡◌, ℕ, zero, suc, ◌<◌, ◌≤◌, List, [], ◌∷◌, ◌++◌, length, take, get_or, refl, ap, ◌∙◌, sym, arith}
+use Rattle.std.proofs.lemmas.List.{get_or-take, map-append}
 use Rattle.h2_spec.specs.Field.{Field}
 use Rattle.h2_list.specs.Folded.{AreBelow, chosen, field_at, nothing}
 use Rattle.h2_list.specs.Spans.{AreSpans, field_in}
@@ -40,22 +39,3 @@ chosen-push octets spans now places place field b k e =
     map-append (field_at octets now) places (place ∷ [])
     ∙ ap (λ fs. fs ++ field_at octets now place ∷ []) (chosen-kept octets spans now places b k)
     ∙ ap (λ f. chosen octets spans places ++ f ∷ []) e
-
--- ---- fields from a place on
-
--- one more copied
-pub copied-more : (xs ys : List Field) (from i : ℕ) (f : Field) → ys ≡ take (i - from) (drop from xs) → from ≤ i → i < length xs → Some f ≡ slice_get xs i → ys ++ f ∷ [] ≡ take (i + 1 - from) (drop from xs)
-copied-more xs ys from i f e le h is =
-    let k = i - from in
-    let same : from + k ≡ i = omega (arith, le) in
-    let next : k + 1 ≡ i + 1 - from = omega (arith, le) in
-    let at : get_or (drop from xs) k f ≡ f = get_or-drop from xs k f ∙ ap (λ n. get_or xs n f) same ∙ get_or_from_slice_get xs i f f (sym is) in
-    ap (λ s. s ++ f ∷ []) e
-    ∙ ap (λ p. take k (drop from xs) ++ p ∷ []) (sym at)
-    ∙ sym (take_more (drop from xs) k f (omega (arith, le, h, length-drop from xs)))
-    ∙ ap (λ n. take n (drop from xs)) next
-
--- there is a field at each place before the end
-pub some-field : (xs : List Field) (i : ℕ) → i < length xs → None ≡ slice_get xs i → ⊥
-some-field [] i h e = omega arith
-some-field (x ∷ xs) i h e = let s = slice_get-get_or (x ∷ xs) i x h in cc

@@ -1,2 +1,3 @@
 mod Closing
 mod Folding
+pub mod ListParts

@@ -1,3 +1,4 @@
 pub mod Folded
+pub mod Lent
 pub mod Listed
 pub mod Spans

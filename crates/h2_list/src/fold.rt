@@ -2,7 +2,7 @@
 //! there is only the place of that one. Definitions: `specs/Folded.antt`.
 
 ghost use Rattle.std.specs.Prelude.{◌≡◌, ℕ, ◌<◌, ◌≤◌, List, [], true, drop, take, length, map, slice_get, option_map, IfOk};
-ghost use Rattle.h2_table.specs.Lent.{lent_field};
+ghost use Rattle.h2_list.specs.Lent.{lent_field};
 ghost use Rattle.h2_list.specs.Spans.{AreSpans, IsOrdered, between, field_in};
 ghost use Rattle.h2_list.specs.Folded.{AreBelow, AreWithin, chosen, field_at};
 

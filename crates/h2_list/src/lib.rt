@@ -6,7 +6,7 @@ ghost use Rattle.std.specs.Prelude.{◌≡◌, ◌↔◌, ℕ, ◌≤◌, List, 
 ghost use Rattle.h2_spec.specs.Field.{field};
 ghost use Rattle.h2_prim.specs.declared.fault.HuffFault.TheVariants as fault;
 ghost use Rattle.h2_spec.specs.Huffman.{Text, Eos, Padding, huffman_text};
-ghost use Rattle.h2_table.specs.Lent.{lent_field};
+ghost use Rattle.h2_list.specs.Lent.{lent_field};
 ghost use Rattle.h2_list.specs.Spans.{AreSpans, IsOrdered, IsPart, field_in};
 
 mod fold;

@@ -1,5 +1,6 @@
 mod Entries
-mod Copied
+pub mod Copied
 mod Editing
+mod KeptRuns
 mod Popped
 mod StaticEntries

@@ -1,5 +1,5 @@
 pub mod Edits
 pub mod Held
 pub mod Lent
-pub mod Shared
+pub mod Runs
 pub mod StaticMarks

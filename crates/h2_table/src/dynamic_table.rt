@@ -8,7 +8,8 @@ ghost use Rattle.circular_buffer.specs.Buffer.{buffer};
 ghost use Rattle.h2_spec.specs.DynamicTable.{IsLongestFit, fit, insert, resize, total_size, entry_at};
 ghost use Rattle.h2_spec.specs.Field.{field};
 ghost use Rattle.h2_table.specs.Held.{places_for};
-ghost use Rattle.h2_table.specs.Lent.{lent_field, field_lent, IsMarked};
+ghost use Rattle.h2_list.specs.Lent.{lent_field};
+ghost use Rattle.h2_table.specs.Lent.{field_lent, IsMarked};
 ghost use Rattle.h2_table.specs.declared.fault.TableFault.TheVariants as faults;
 
 use crate::entry::TableEntry;

@@ -1,151 +1,97 @@
-//! A dynamic table as it is at one time, kept to be made again later (RFC 7541, 2.3.2). Tables that are kept one after
-//! another share the entries that they have in common, by counted pointers to their octets, so an entry is in memory once
-//! however often the table is kept. Which octets may be an entry's is a guess that is compared. Contracts see the table that
-//! was kept, and nothing of what is shared.
+//! A dynamic table as it is at one time, kept to be made again later (RFC 7541, 2.3.2). Its entries are in runs, which do
+//! not change any more. Tables that are kept one after another share the runs that they have in common, so an entry is in
+//! memory once however often the table is kept, and a table to which nothing was added takes a few octets. Which runs may
+//! be a table's is a guess that is compared. Contracts see the table that was kept, and nothing of what is shared.
 
-ghost use Rattle.std.specs.Prelude.{◌≡◌, ◌↔◌, ◌≤◌, IfOk, IfSome, length, true};
+ghost use Rattle.std.specs.Prelude.{◌≡◌, ◌+◌, ◌-◌, ◌^◌, ◌<◌, ◌≤◌, ◌++◌, [], drop, take, true, IfOk, OnOk, length, option_map, slice_get};
+ghost use Rattle.std.specs.Option.{option_copied};
 ghost use Rattle.circular_buffer.specs.Buffer.{buffer};
-ghost use Rattle.h2_table.specs.Shared.{entry_in};
+ghost use Rattle.h2_list.specs.Lent.{lent_field};
+ghost use Rattle.h2_table.specs.Runs.{entries_in};
 
 use crate::dynamic_table::{DynTable, places_for, put_oldest};
-use crate::entry::{TableEntry, joined};
+use crate::entry::TableEntry;
 use circular_buffer::HeapCircularBuffer;
+use h2_list::{FieldList, FoldedFields};
 use h2_mark::FieldMark;
 use std::alloc::{AllocError, Allocator};
 use std::marker::Model;
 use std::rc::Rc;
 
-/// The most octets of a list in which entries are shared: places in it are numbers of 32 bits.
-const MAX_OCTETS: usize = 4_294_967_295;
+/// The most runs of an earlier table that are shared: where there are more, the entries are put into one run again.
+const MAX_RUNS: usize = 64;
 
-/// An entry that tables share, in a list of octets that other entries are in too; contracts see the entry.
+/// The newest entries of a run that does not change any more; the others were evicted.
 #[derive(Drop)]
-struct SharedEntry<A: Allocator> {
-    octets: Rc<Vec<u8, A>, A>,
-    /// Where in the octets the name starts.
-    name: u32,
-    /// Where the value starts, and the name ends.
-    value: u32,
-    /// Where the value ends.
-    end: u32,
-    mark: FieldMark,
+struct Run<A: Allocator> {
+    entries: Rc<FoldedFields<A>, A>,
+    count: usize,
 }
 
-impl<A: Allocator> Model for SharedEntry<A> {
-    ghost use Rattle.std.specs.Prelude.{◌≡◌, ◌≤◌, length};
-    ghost use Rattle.h2_mark.specs.Mark.{mark_of};
-    ghost use Rattle.h2_spec.specs.Field as spec;
-    ghost use Rattle.h2_table.specs.Shared.{entry_in};
+impl<A: Allocator> Model for Run<A> {
+    ghost use Rattle.std.specs.Prelude.{◌≤◌, List, length, take};
+    ghost use Rattle.h2_spec.specs.Field.{Field};
 
-    ghost Value = { spec.Field };
+    ghost Value = { List Field };
 
-    ghost view = { λ s. entry_in s.octets.value.items s.name s.value s.end };
+    ghost view = { λ r. take r.count r.entries.value };
 
-    ghost invariant = { λ s. (s.name ≤ s.value) × (s.value ≤ s.end) × (s.end ≤ length s.octets.value.items) × (s.mark ≡ mark_of (entry_in s.octets.value.items s.name s.value s.end)) };
+    ghost invariant = { λ r. r.count ≤ length r.entries.value };
 }
 
-impl<A: Allocator> SharedEntry<A> {
-    /// The octets of the name.
-    fn name(&self) -> &[u8]
-        ensures { result.now ≡ self.now.name }
+impl<A: Allocator> Run<A> {
+    /// The name and the value of the entry at a place, from 0, the newest; none past the oldest.
+    fn get(&self, place: usize) -> Option<(&[u8], &[u8])>
+        ensures { option_map lent_field result ≡ slice_get self.now place }
     {
-        &self.octets.as_ref().as_slice()[self.name as usize..self.value as usize]
-    }
-
-    /// The octets of the value.
-    fn value(&self) -> &[u8]
-        ensures { result.now ≡ self.now.value }
-    {
-        &self.octets.as_ref().as_slice()[self.value as usize..self.end as usize]
-    }
-
-    /// Whether it is this entry: the same name and the same value.
-    fn is(&self, entry: &TableEntry<A>) -> bool
-        ensures { (result ≡ true) ↔ (self.now ≡ entry.now) }
-    {
-        self.name() == entry.name() && self.value() == entry.value()
-    }
-}
-
-impl<A: Allocator + Copy> SharedEntry<A> {
-    /// An entry that starts at a place of the octets, shared there; none where something else is there.
-    fn at(
-        octets: &Rc<Vec<u8, A>, A>,
-        name: usize,
-        entry: &TableEntry<A>,
-    ) -> Result<Option<Self>, AllocError>
-        ensures { IfOk result (λ found. IfSome found (λ shared. shared ≡ entry.now)) }
-    {
-        let list = octets.as_ref().as_slice();
-        let value = name.saturating_add(entry.name().len());
-        let end = value.saturating_add(entry.value().len());
-        if end > MAX_OCTETS || !is_at(list, name, value, end, entry) {
-            return Ok(None);
+        if place >= self.count {
+            return None;
         }
-        Ok(Some(SharedEntry {
-            octets: octets.clone()?,
-            name: name as u32,
-            value: value as u32,
-            end: end as u32,
-            mark: entry.mark(),
-        }))
+        self.entries.as_ref().get(place)
     }
 
-    /// A copy of an entry in octets of its own, which can be shared.
-    fn of(entry: &TableEntry<A>, alloc: A) -> Result<Self, AllocError>
-        ensures { IfOk result (λ shared. shared ≡ entry.now) }
+    /// How many of its entries, the newest first, are in a ring one after another from a place on.
+    fn common(&self, ring: &HeapCircularBuffer<TableEntry<A>, A>, from: usize) -> usize
+        requires { from ≤ length ring.now.items }
+        ensures same { take result self.now ≡ take result (drop from ring.now.items) }
+        ensures within { (from + result ≤ length ring.now.items) × (from + result < 2 ^ 64) }
+        ensures few { result ≤ length self.now }
     {
-        let Ok(octets) = Rc::new(alloc, joined(alloc, entry.name(), entry.value())?) else {
-            return Err(AllocError);
-        };
-        match Self::at(&octets, 0, entry)? {
-            Some(shared) => Ok(shared),
-            None => Err(AllocError),
+        let most = self.count.min(ring.len() - from);
+        for place in 0..most {
+            if !is_same(self.get(place), ring.get(from + place)) {
+                return place;
+            }
         }
+        most
     }
 
-    /// The entry once more.
-    fn share(&self) -> Result<Self, AllocError>
-        ensures { IfOk result (λ shared. shared ≡ self.now) }
+    /// Its newest entries once more, that many.
+    fn share(&self, count: usize) -> Result<Self, AllocError>
+        requires { count ≤ length self.now }
+        ensures { IfOk result (λ run. run ≡ take count self.now) }
     {
-        Ok(SharedEntry {
-            octets: self.octets.clone()?,
-            name: self.name,
-            value: self.value,
-            end: self.end,
-            mark: self.mark,
+        Ok(Run {
+            entries: self.entries.clone()?,
+            count,
         })
     }
-
-    /// A copy of the entry, in memory of its own.
-    fn copy(&self, alloc: A) -> Result<TableEntry<A>, AllocError>
-        ensures { IfOk result (λ copy. copy ≡ self.now) }
-    {
-        TableEntry::of(alloc, self.name(), self.value(), self.mark)
-    }
 }
 
-/// Whether an entry is in octets, with its name from one place on, its value from another on, and its end there.
-fn is_at<A: Allocator>(
-    octets: &[u8],
-    name: usize,
-    value: usize,
-    end: usize,
-    entry: &TableEntry<A>,
-) -> bool
-    ensures order { result ≡ true → (name ≤ value) × (value ≤ end) × (end ≤ length octets.now) }
-    ensures same { result ≡ true → entry.now ≡ entry_in octets.now name value end }
+/// Whether there are a field and an entry, and they are the same.
+fn is_same<A: Allocator>(field: Option<(&[u8], &[u8])>, entry: Option<&TableEntry<A>>) -> bool
+    ensures { result ≡ true → option_map lent_field field.entry ≡ option_copied entry.entry }
 {
-    if name > value || value > end || end > octets.len() {
-        return false;
+    match (field, entry) {
+        (Some(field), Some(entry)) => field.0 == entry.name() && field.1 == entry.value(),
+        _ => false,
     }
-    &octets[name..value] == entry.name() && &octets[value..end] == entry.value()
 }
 
 /// A dynamic table as it was: its entries, the newest first, the maximum and the limit.
 #[derive(Drop)]
 pub struct KeptTable<A: Allocator> {
-    entries: Vec<SharedEntry<A>, A>,
+    runs: Vec<Run<A>, A>,
     size: usize,
     max: u32,
     limit: u32,
@@ -156,12 +102,13 @@ pub struct KeptTable<A: Allocator> {
 impl<A: Allocator> Model for KeptTable<A> {
     ghost use Rattle.std.specs.Prelude.{◌≡◌, ◌≤◌};
     ghost use Rattle.h2_spec.specs.DynamicTable.{LimitedTable, total_size};
+    ghost use Rattle.h2_table.specs.Runs.{entries_in};
 
     ghost Value = { LimitedTable };
 
-    ghost view = { λ t. record { table = record { entries = t.entries.items; max = t.max }; limit = t.limit } };
+    ghost view = { λ t. record { table = record { entries = entries_in t.runs.items; max = t.max }; limit = t.limit } };
 
-    ghost invariant = { λ t. (t.size ≡ total_size t.entries.items) × (t.size ≤ t.max) };
+    ghost invariant = { λ t. (t.size ≡ total_size (entries_in t.runs.items)) × (t.size ≤ t.max) };
 }
 
 impl<A: Allocator + Copy> DynTable<A> {
@@ -174,9 +121,10 @@ impl<A: Allocator + Copy> DynTable<A> {
     pub fn keep(&self, earlier: Option<&KeptTable<A>>) -> Result<KeptTable<A>, AllocError>
         ensures same { IfOk result (λ kept. kept ≡ self.now) }
     {
-        let entries = shared_entries(&self.ring, self.added, earlier)?;
+        let since = added_since(earlier, self.added);
+        let runs = runs_of(&self.ring, runs_before(earlier), since)?;
         Ok(KeptTable {
-            entries,
+            runs,
             size: self.size,
             max: self.max,
             limit: self.limit,
@@ -195,7 +143,7 @@ impl<A: Allocator + Copy> KeptTable<A> {
         ensures same { IfOk result (λ table. table ≡ self.now) }
     {
         let places = places_for(self.max.max(self.limit));
-        let ring = ring_of(self.entries.as_slice(), places, *self.entries.allocator())?;
+        let ring = ring_of(self.runs.as_slice(), places, *self.runs.allocator())?;
         Ok(DynTable {
             ring,
             size: self.size,
@@ -206,113 +154,146 @@ impl<A: Allocator + Copy> KeptTable<A> {
     }
 }
 
-/// How many entries were added since an earlier table was kept, where that many have been added; all where there is none.
+/// How many entries were added since an earlier table was kept, where that many have been added.
 fn added_since<A: Allocator>(earlier: Option<&KeptTable<A>>, added: usize) -> usize {
     match earlier {
         Some(earlier) => added.wrapping_sub(earlier.added),
-        None => usize::MAX,
+        None => 0,
     }
 }
 
-/// The entry of an earlier table that is at this place now, when that many were added since; none if there is none.
-fn earlier_at<A: Allocator>(
-    earlier: Option<&KeptTable<A>>,
-    place: usize,
-    since: usize,
-) -> Option<&SharedEntry<A>> {
-    if place < since {
-        return None;
+/// The runs of an earlier table, if there is one.
+fn runs_before<A: Allocator>(earlier: Option<&KeptTable<A>>) -> &[Run<A>] {
+    match earlier {
+        Some(earlier) => earlier.runs.as_slice(),
+        None => &[],
     }
-    earlier?.entries.get(place - since)
 }
 
-/// The octets of the newest entries, one after another: of that many, or of all.
-fn newest_octets<A: Allocator + Copy>(
+/// The entries of a ring in runs: those of an earlier table where they are the same, with as many before them as were
+/// added since. Where those are too many, one run has all entries.
+fn runs_of<A: Allocator + Copy>(
     ring: &HeapCircularBuffer<TableEntry<A>, A>,
-    count: usize,
-) -> Result<Rc<Vec<u8, A>, A>, AllocError> {
-    let alloc = *ring.allocator();
-    let mut octets = Vec::new(alloc);
-    for i in 0..count.min(ring.len()) {
-        if let Some(entry) = ring.get(i) {
-            octets.extend_from_slice(entry.name())?;
-            octets.extend_from_slice(entry.value())?;
-        }
+    earlier: &[Run<A>],
+    since: usize,
+) -> Result<Vec<Run<A>, A>, AllocError>
+    ensures { IfOk result (λ runs. entries_in runs.items ≡ ring.now.items) }
+{
+    let mut runs = Vec::new(*ring.allocator());
+    let mut taken = 0;
+    if earlier.len() <= MAX_RUNS {
+        let newer = since.min(ring.len());
+        push_run(&mut runs, ring, 0, newer)?;
+        taken = share_runs(&mut runs, earlier, ring, newer)?;
     }
-    octets.shrink_to_fit();
-    match Rc::new(alloc, octets) {
-        Ok(octets) => Ok(octets),
+    push_run(&mut runs, ring, taken, ring.len())?;
+    runs.shrink_to_fit();
+    Ok(runs)
+}
+
+/// Puts runs of an earlier table after those that have the first entries of a ring, up to a place, as long as the ring has
+/// their entries there. Returns up to which place the runs have its entries then.
+fn share_runs<A: Allocator>(
+    runs: &mut Vec<Run<A>, A>,
+    earlier: &[Run<A>],
+    ring: &HeapCircularBuffer<TableEntry<A>, A>,
+    from: usize,
+) -> Result<usize, AllocError>
+    requires first { entries_in runs.old.items ≡ take from ring.now.items }
+    requires within { from ≤ length ring.now.items }
+    ensures first { IfOk result (λ taken. entries_in runs.new.items ≡ take taken ring.now.items) }
+    ensures within { IfOk result (λ taken. taken ≤ length ring.now.items) }
+{
+    let mut taken = from;
+    for run in earlier {
+        let count = run.common(ring, taken);
+        if count == 0 {
+            return Ok(taken);
+        }
+        let shared = run.share(count)?;
+        runs.push(shared)?;
+        taken += count;
+    }
+    Ok(taken)
+}
+
+/// Puts a run with the entries of a ring from a place up to another after those that have the entries before it, if there
+/// are any.
+fn push_run<A: Allocator + Copy>(
+    runs: &mut Vec<Run<A>, A>,
+    ring: &HeapCircularBuffer<TableEntry<A>, A>,
+    from: usize,
+    to: usize,
+) -> Result<(), AllocError>
+    requires first { entries_in runs.old.items ≡ take from ring.now.items }
+    requires order { from ≤ to }
+    requires within { to ≤ length ring.now.items }
+    ensures { OnOk result (entries_in runs.new.items ≡ take to ring.now.items) }
+{
+    if from == to {
+        return Ok(());
+    }
+    let entries = folded(ring, from, to)?;
+    match Rc::new(*ring.allocator(), entries) {
+        Ok(entries) => {
+            let count = to - from;
+            runs.push(Run { entries, count })?;
+            Ok(())
+        }
         Err(_) => Err(AllocError),
     }
 }
 
-/// An entry, shared with an earlier one where that is the same, or with those that are new where it is at this place of their
-/// octets.
-fn share_or_copy<A: Allocator + Copy>(
-    entry: &TableEntry<A>,
-    earlier: Option<&SharedEntry<A>>,
-    newest: &Rc<Vec<u8, A>, A>,
-    place: usize,
-    alloc: A,
-) -> Result<SharedEntry<A>, AllocError>
-    ensures { IfOk result (λ shared. shared ≡ entry.now) }
-{
-    if let Some(shared) = earlier {
-        if shared.is(entry) {
-            return shared.share();
-        }
-    }
-    match SharedEntry::at(newest, place, entry)? {
-        Some(shared) => Ok(shared),
-        None => SharedEntry::of(entry, alloc),
-    }
-}
-
-/// The entries of the ring of a table to which that many were added, shared with those of the same table as it was
-/// before.
-fn shared_entries<A: Allocator + Copy>(
+/// The entries of a ring from a place up to another, in little memory.
+fn folded<A: Allocator + Copy>(
     ring: &HeapCircularBuffer<TableEntry<A>, A>,
-    added: usize,
-    earlier: Option<&KeptTable<A>>,
-) -> Result<Vec<SharedEntry<A>, A>, AllocError>
-    ensures { IfOk result (λ list. list.items ≡ ring.now.items) }
+    from: usize,
+    to: usize,
+) -> Result<FoldedFields<A>, AllocError>
+    requires order { from ≤ to }
+    requires within { to ≤ length ring.now.items }
+    ensures { IfOk result (λ entries. entries ≡ take (to - from) (drop from ring.now.items)) }
 {
-    let alloc = *ring.allocator();
-    let since = added_since(earlier, added);
-    let newest = newest_octets(ring, since)?;
-    let mut place = 0;
-    let mut list = Vec::with_capacity(alloc, ring.len())?;
-    for i in 0..ring.len() {
-        if let Some(entry) = ring.get(i) {
-            let earlier = earlier_at(earlier, i, since);
-            let shared = share_or_copy(entry, earlier, &newest, place, alloc)?;
-            list.push(shared)?;
-            place = end_of(place, entry);
+    let mut list = FieldList::new(*ring.allocator());
+    for place in from..to {
+        if let Some(entry) = ring.get(place) {
+            let like = list.len().wrapping_sub(1);
+            list.append_like(like, entry.name(), entry.value())?;
         }
     }
-    Ok(list)
+    list.fold()
 }
 
-/// Where an entry ends that starts at a place.
-fn end_of<A: Allocator>(place: usize, entry: &TableEntry<A>) -> usize {
-    place
-        .saturating_add(entry.name().len())
-        .saturating_add(entry.value().len())
-}
-
-/// A ring of that many places with copies of these entries.
+/// A ring of that many places with copies of the entries of these runs.
 fn ring_of<A: Allocator + Copy>(
-    entries: &[SharedEntry<A>],
+    runs: &[Run<A>],
     places: usize,
     alloc: A,
 ) -> Result<HeapCircularBuffer<TableEntry<A>, A>, AllocError>
-    requires { length entries.now ≤ places }
-    ensures { IfOk result (λ ring. ring ≡ buffer entries.now places) }
+    requires { length (entries_in runs.now) ≤ places }
+    ensures { IfOk result (λ ring. ring ≡ buffer (entries_in runs.now) places) }
 {
     let mut ring = HeapCircularBuffer::with_capacity(alloc, places)?;
-    for shared in entries {
-        let entry = shared.copy(alloc)?;
-        put_oldest(&mut ring, entry);
+    for run in runs {
+        put_run(&mut ring, run, alloc)?;
     }
     Ok(ring)
+}
+
+/// Puts copies of the entries of a run into a ring, as the oldest.
+fn put_run<A: Allocator + Copy>(
+    ring: &mut HeapCircularBuffer<TableEntry<A>, A>,
+    run: &Run<A>,
+    alloc: A,
+) -> Result<(), AllocError>
+    requires { length ring.old.items + length run.now ≤ ring.old.capacity }
+    ensures { OnOk result (ring.new ≡ buffer (ring.old.items ++ run.now) ring.old.capacity) }
+{
+    for place in 0..run.count {
+        if let Some((name, value)) = run.get(place) {
+            let entry = TableEntry::of(alloc, name, value, FieldMark::of(name, value))?;
+            put_oldest(ring, entry);
+        }
+    }
+    Ok(())
 }

@@ -6,7 +6,8 @@ ghost use Rattle.std.specs.Prelude.{◌≡◌, option_map, map, slice_get, Some,
 ghost use Rattle.h2_spec.specs.Field.{Field};
 ghost use Rattle.h2_spec.specs.StaticTable as spec;
 ghost use Rattle.h2_mark.specs.Mark.{mark_of};
-ghost use Rattle.h2_table.specs.Lent.{lent_field, field_lent, IsMarked};
+ghost use Rattle.h2_list.specs.Lent.{lent_field};
+ghost use Rattle.h2_table.specs.Lent.{field_lent, IsMarked};
 ghost use Rattle.h2_table.specs.StaticMarks.{mark_with};
 
 use crate::lent::LentField;

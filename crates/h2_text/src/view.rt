@@ -3,7 +3,7 @@
 
 ghost use Rattle.std.specs.Prelude.{◌≡◌, ◌<◌, ◌^◌, IfOk, length, map, nat_lt, option_map, slice_get};
 ghost use Rattle.h2_spec.specs.Field.{field};
-ghost use Rattle.h2_table.specs.Lent.{lent_field};
+ghost use Rattle.h2_list.specs.Lent.{lent_field};
 ghost use Rattle.h2_spec.specs.View.{shown_stream};
 
 use crate::lists::{Entries, StreamViews};

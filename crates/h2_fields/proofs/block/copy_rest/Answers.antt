@@ -1,19 +1,11 @@
-use Rattle.std.proofs.Common.{arith, ◌≡◌, ℕ, ◌+◌, ◌<◌, ◌≤◌, List, [], ◌∷◌, ◌++◌, length, take, ap, ◌∙◌, sym, Some, None, slice_get}
+use Rattle.std.proofs.Common.{arith, ◌≡◌, ℕ, ◌<◌, ◌≤◌, List, length, take, ap, ◌∙◌, sym, None, slice_get}
 use Rattle.std.proofs.lemmas.Result.{IfOk-from_err}
-use Rattle.std.proofs.lemmas.List.{take-take, take_all, take_more}
-use Rattle.std.proofs.lemmas.Option.{get_or_from_slice_get, slice_get-get_or}
+use Rattle.std.proofs.lemmas.List.{take-take, take_all}
 use Rattle.h2_spec.specs.Field.{Field, field}
+use Rattle.h2_list.proofs.ListParts.{some-at}
+use Rattle.h2_table.proofs.Copied.{copied_more}
 use Rattle.h2_fields.proofs.block.copy_rest.Goals as goal
 use Rattle.h2_fields.proofs.block.copy_rest.Goals.{in-Some+in_ok-field+in_ok-push, in_default}
-
--- one more copied
-copied_more : (xs ys : List Field) (i : ℕ) (x y : Field) → ys ≡ take i xs → i < length xs → Some x ≡ slice_get xs i → y ≡ x → ys ++ y ∷ [] ≡ take (i + 1) xs
-copied_more xs ys i x y same inside at copy =
-    ap (λ s. s ++ y ∷ []) same ∙ ap (λ p. take i xs ++ p ∷ []) (copy ∙ sym (get_or_from_slice_get xs i x x (sym at))) ∙ sym (take_more xs i x inside)
-
-no_none : (xs : List Field) (i : ℕ) → i < length xs → None ≡ slice_get xs i → ⊥
-no_none [] i h e = omega arith
-no_none (x ∷ xs) i h e = let s = slice_get-get_or (x ∷ xs) i x h in cc
 
 -- the copies of before are still in front
 in_front : (n i : ℕ) (xs ys zs : List Field) → ys ≡ take i xs → n ≤ i → take n xs ≡ zs → take n ys ≡ zs
@@ -51,11 +43,11 @@ loop-place-preserved g c =
           let f = field w.in-Some.name.now w.in-Some.value.now in
           rw w.fields-is (record {
             from = omega (arith, c.loop-place.invariant.from);
-            copied = w.in_ok-push.ensures.items ∙ copied_more xs c.loop-place.fields.items i f w.in_ok-field.field c.loop-place.invariant.copied inside w.in-Some.ensures w.in_ok-field.ensures;
+            copied = w.in_ok-push.ensures.items ∙ copied_more xs c.loop-place.fields.items i f w.in_ok-field.field c.loop-place.invariant.copied inside (sym w.in-Some.ensures) w.in_ok-field.ensures;
           })
       | in_default w ↦
           let none : None ≡ slice_get xs i = w.in_default.ensures in
-          absurd (no_none xs i inside none)
+          absurd (some-at xs i inside none)
     ]
 
 pub returns-clause-copied : goal.returns-clause-copied

@@ -1,6 +1,6 @@
 use Rattle.std.proofs.Common.{◌≡◌, ◌<◌, length, refl, arith, None, slice_get}
 use Rattle.h2_spec.specs.Field.{field}
-use Rattle.h2_list.proofs.Folding.{copied-more, some-field}
+use Rattle.h2_list.proofs.ListParts.{copied-more, some-at}
 use Rattle.h2_list.proofs.FieldList.copy_from.Goals as goal
 use Rattle.h2_list.proofs.FieldList.copy_from.Goals.{in-Some+in_ok-append_like, in_default}
 
@@ -19,5 +19,5 @@ loop-place-preserved g c =
           }))
       | in_default w ↦
           let none : None ≡ slice_get xs i = w.in_default.ensures in
-          absurd (some-field xs i inside none)
+          absurd (some-at xs i inside none)
     ]

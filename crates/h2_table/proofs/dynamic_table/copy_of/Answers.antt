@@ -2,7 +2,8 @@ use Rattle.std.proofs.Common.{arith, ◌≡◌, ◌<◌, ◌∙◌, refl, length
 use Rattle.std.proofs.lemmas.List.{length_push, take_all}
 use Rattle.std.proofs.lemmas.Result.{IfOk-from_err}
 use Rattle.circular_buffer.specs.Buffer.{buffer}
-use Rattle.h2_table.proofs.Copied.{copied_more, no_none}
+use Rattle.h2_list.proofs.ListParts.{some-at}
+use Rattle.h2_table.proofs.Copied.{copied_more}
 use Rattle.h2_table.proofs.dynamic_table.copy_of.Goals as goal
 use Rattle.h2_table.proofs.dynamic_table.copy_of.Goals.{in-Some+in_ok-entry, in_default}
 
@@ -19,7 +20,7 @@ loop-i-preserved g c =
           }))
       | in_default w ↦
           let none : None ≡ slice_get xs c.loop-i.i = w.in_default.ensures in
-          absurd (no_none xs c.loop-i.i inside none)
+          absurd (some-at xs c.loop-i.i inside none)
     ]
 
 pub returns-in_err-copy : goal.returns-in_err-copy

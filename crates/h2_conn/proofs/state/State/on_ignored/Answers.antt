@@ -2,7 +2,7 @@ use Rattle.std.proofs.Common.{sym, subst, ap}
 use Rattle.h2_spec.specs.declared.connection.ConnectionState.{ConnectionState}
 use Rattle.h2_conn.specs.Records.{records}
 use Rattle.h2_rules.specs.Sound.{IsSound, in_force}
-use Rattle.h2_conn.proofs.CountsLaws.{counted-by, ignore-counted}
+use Rattle.h2_conn.proofs.CountsLaws.{leaves-by, ignore-leaves}
 use Rattle.h2_conn.proofs.state.State.on_ignored.Goals as goal
 
 pub returns-clause-sound : goal.returns-clause-sound
@@ -12,4 +12,4 @@ returns-clause-sound g c =
     subst (λ (k : ConnectionState). IsSound s.book (records s) (in_force k) c.ignore.result) counts (c.ignore.ensures.sound s.book (records s) (sym (ap (λ (k : ConnectionState). k.last) counts)))
 
 pub returns-clause-counts : goal.returns-clause-counts
-returns-clause-counts g c = counted-by c.args.self.now.core c.core.result c.ignore.result _ c.ignore.ensures.rule c.core.ensures.counts (ignore-counted _ c.args.reason)
+returns-clause-counts g c = leaves-by c.args.self.now.core c.core.result c.ignore.result _ c.ignore.ensures.rule c.core.ensures.counts (ignore-leaves _ c.args.reason)

@@ -5,7 +5,7 @@ use Rattle.h2_debug.specs.Debugging.{Debugging, moved_by}
 use Rattle.h2_spec.specs.Debug.{stop}
 use Rattle.h2_debug.specs.Breakpoints.{break_of}
 use Rattle.h2_debug.specs.Places.{end, events}
-use Rattle.h2_debug.proofs.BreakLaws.{stop-least}
+use Rattle.h2_debug.proofs.BreakLaws.{stop-is}
 use Rattle.h2_debug.proofs.KeptLaws.{end-few, stop-none}
 use Rattle.h2_debug.proofs.debugger.Debugger.run_on.Goals as goal
 
@@ -19,15 +19,26 @@ returns-then-is_empty-clause-ok g c =
     let last : stop d.breaks (events d.run) d.position ≡ end d.run = rw none (stop-none d.position (events d.run) (omega (arith, c.requires))) in
     IfOk-weaker c.step_some.result _ _ (λ p h. (omega (arith, h.0, last, few, bound), h.1)) c.step_some.ensures.ok
 
+pub run_from-requires : goal.run_from-requires
+run_from-requires g c =
+    let d = c.args.self.now in
+    let there = c.in_ok-walk_reached.ensures in
+    let within = (stop-is d.breaks (events d.run) d.position c.requires).within in
+    rw there.same (record {
+      place = there.at;
+      known = there.known;
+      more = omega (arith, there.before, within);
+    })
+
 pub returns-clause-ok : goal.returns-clause-ok
 returns-clause-ok g c =
     let d = c.args.self.now in
     let place = c.walk_reached.new.place in
-    let least = stop-least d.breaks (events d.run) place.position in
-    let moves = rw c.in_ok-bound.ensures.same at c.run_from.ensures.ok in
+    let later = c.in_ok-walk_reached.ensures.later in
+    let moves = rw c.in_ok-walk_reached.ensures.same at c.run_from.ensures.ok in
     IfOk-weaker c.run_from.result _ _
     (λ p h. (
-      h.0 ∙ c.in_ok-bound.ensures.stop,
-      h.1 ∙ ap (λ n. moved_by n p d) (omega (arith, h.0, least, c.in_ok-bound.ensures.bound, c.in_ok-bound.ensures.later, c.in_ok-bound.ensures.ran)),
+      h.0 ∙ c.in_ok-walk_reached.ensures.stop,
+      h.1 ∙ ap (λ n. moved_by n p d) (omega (arith, h.0, c.in_ok-walk_reached.ensures.stop, c.in_ok-walk_reached.ensures.before, later, c.in_ok-walk_reached.ensures.ran)),
     ))
     moves

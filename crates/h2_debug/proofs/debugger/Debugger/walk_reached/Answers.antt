@@ -1,9 +1,9 @@
-use Rattle.std.proofs.Common.{◌≡◌, ◌∙◌, ◌+◌, ◌-◌, ◌<◌, ◌≤◌, ◌^◌, ap, arith, length, refl, subst, ℕ}
+use Rattle.std.proofs.Common.{◌≡◌, ◌∙◌, ◌+◌, ◌-◌, ◌<◌, ◌≤◌, ap, arith, refl, subst, ℕ}
 use Rattle.h2_spec.specs.Debug.{stop}
 use Rattle.h2_debug.specs.Debugging.{Debugging, replay_start}
-use Rattle.h2_debug.specs.Places.{end, events}
+use Rattle.h2_debug.specs.Places.{events}
 use Rattle.h2_debug.proofs.BreakLaws.{stop-between, stop-is}
-use Rattle.h2_debug.proofs.KeptLaws.{end-few, leg-ahead, replay-start-ahead, replay-start-reached, replay-start-within}
+use Rattle.h2_debug.proofs.KeptLaws.{leg-ahead, replay-start-ahead, replay-start-reached, replay-start-within}
 use Rattle.h2_debug.proofs.debugger.Debugger.walk_reached.Goals as goal
 
 from-known : (target s : ℕ) (d : Debugging) → s ≡ replay_start target d → d.position ≤ d.reached → d.position ≤ target → (s ≤ d.reached) × (d.position ≤ s) × (s ≤ target)
@@ -46,6 +46,17 @@ returns-then-position-bound-clause-later g c =
     let from = from-known _ s d start (omega (arith, c.loop-place.invariant.later, c.loop-place.invariant.known)) (omega (arith, past)) in
     from.1
 
+pub returns-then-position-bound-clause-before : goal.returns-then-position-bound-clause-before
+returns-then-position-bound-clause-before g c =
+    let d = c.args.self.now in
+    let s = c.in_ok-place.field-0.position in
+    let walked = rw c.loop-place.invariant.self at c.in_ok-walk.ensures.position in
+    let start = rw (c.in_ok-walk.ensures.same, c.loop-place.invariant.self) at c.in_ok-place.ensures.start in
+    let past : d.position ≤ c.position-position.result - 1 =
+    omega (arith, walked, c.loop-place.invariant.later, c.loop-place.invariant.before, c.loop-place.invariant.same, c.position-in-loop-place.ensures, c.position-position.ensures) in
+    let from = from-known _ s d start (omega (arith, c.loop-place.invariant.later, c.loop-place.invariant.known)) (omega (arith, past)) in
+    omega (arith, from.2, walked, c.loop-place.invariant.same, c.loop-place.invariant.before, c.position-in-loop-place.ensures, c.position-position.ensures)
+
 pub returns-then-position-bound-clause-stop : goal.returns-then-position-bound-clause-stop
 returns-then-position-bound-clause-stop g c =
     let d = c.args.self.now in
@@ -55,12 +66,8 @@ returns-then-position-bound-clause-stop g c =
     let past : d.position ≤ c.position-position.result - 1 =
     omega (arith, walked, c.loop-place.invariant.later, c.loop-place.invariant.before, c.loop-place.invariant.same, c.position-in-loop-place.ensures, c.position-position.ensures) in
     let from = from-known _ s d start (omega (arith, c.loop-place.invariant.later, c.loop-place.invariant.known)) (omega (arith, past)) in
-    let few : end d.run ≤ length c.self.inside.octets.items = rw (← c.self.view_is) (end-few _) in
-    let bound : length c.self.inside.octets.items < 2 ^ 63 = omega (arith, c.self.inside.octets.ok.0, c.self.inside.octets.ok.1, c.self.inside.octets.small) in
-    let within = (stop-is d.breaks (events d.run) d.position c.requires.more).within in
     let before : s < stop d.breaks (events d.run) d.position = omega (arith, from.2, walked, c.loop-place.invariant.same, c.loop-place.invariant.before, c.position-in-loop-place.ensures, c.position-position.ensures) in
-    let same = stop-between d.breaks (events d.run) d.position s c.requires.more from.1 before in
-    omega (arith, same, within, few, bound)
+    stop-between d.breaks (events d.run) d.position s c.requires.more from.1 before
 
 pub loop-place-smaller : goal.loop-place-smaller
 loop-place-smaller g c =
@@ -91,11 +98,3 @@ loop-place-preserved g c =
       ran = rw (c.in_ok-walk.ensures.same, c.loop-place.invariant.self) at c.in_ok-place-2.ensures.ran;
       same = stop-between d.breaks (events d.run) d.position c.in_ok-place-2.field-0.position c.requires.more later before;
     }
-
-pub returns-clause-stop : goal.returns-clause-stop
-returns-clause-stop g c =
-    let d = c.args.self.now in
-    let few : end d.run ≤ length c.self.inside.octets.items = rw (← c.self.view_is) (end-few _) in
-    let bound : length c.self.inside.octets.items < 2 ^ 63 = omega (arith, c.self.inside.octets.ok.0, c.self.inside.octets.ok.1, c.self.inside.octets.small) in
-    let within = (stop-is d.breaks (events d.run) d.position c.requires.more).within in
-    omega (arith, c.loop-place.invariant.same, within, few, bound)
