@@ -15,7 +15,7 @@ PROGRAM = os.path.join(os.path.dirname(os.path.dirname(HERE)), "crates/h2_progra
 KINDS = (
     "ping get browser refused data continuation table live-ping live-empty live-data live-settings live-update"
     " fields-1 fields-4 fields-16 fields-64 fields-1024 literals-1 literals-16 literals-1024 inserts-2 inserts-16 inserts-128"
-    " values-30 values-100 values-400 values-1000 values-4000 entry large-table"
+    " values-30 values-100 values-400 values-1000 values-4000 entry large-table large-table-1 large-table-16 large-table-64"
 ).split()
 MIB = "15.99"  # `debug` reads 16 MiB at most, commands with them
 
@@ -28,7 +28,7 @@ def peak(program, kind):
         size = file.tell()
         file.write(b"run\n")
         file.seek(0)
-        more = ["--table", "65536"] if kind == "large-table" else []
+        more = ["--table", "65536"] if kind.startswith("large-table") else []
         child = subprocess.Popen([program, "debug", "--streams", "1000", *more], stdin=file, stdout=subprocess.DEVNULL)
         _, status, used = os.wait4(child.pid, 0)
         child.returncode = status

@@ -3,7 +3,8 @@
 
 The preface, SETTINGS, the acknowledgement of the server's, and then as many items of one kind as there is space for. Kinds with a number have blocks of 65,000
 octets in frames of that many: `fields-N` of indices of one octet, each of 121 entries in turn; `literals-N` of values of one octet; `inserts-N` of new entries.
-`values-N` has them in frames of one octet, and values of N octets, no two of them the same. `entry` is requests of one new entry each. `large-table` has 2,048 entries and then PINGs; it wants `--table 65536`. Kinds `live-..` have 1,000 open streams first, so they want `--streams 1000`.
+`values-N` has them in frames of one octet, and values of N octets, no two of them the same. `entry` is requests of one new entry each. `large-table` has 2,048 entries and then PINGs,
+`large-table-N` a request with a new entry in each N-th item; they want `--table 65536`. Kinds `live-..` have 1,000 open streams first, so they want `--streams 1000`.
 """
 import struct
 import sys
@@ -49,6 +50,7 @@ FIRST = (
 )
 NEXT = b"\x82\x86" + PATH + b"\xc3\xc2\xc1\xc0\x90\xbf\xbe"
 FULL = GET + b"".join(b"\x40" + text(b"n%03d" % i) + text(b"") for i in range(113))  # fills the header table: 113 entries of 36
+EACH = 256  # how many entries a block of `large-table` adds
 SHORT = GET + b"".join(b"\x40" + text(b"n%03d" % i + b"x" * 20) + text(b"v") for i in range(60))  # 60 entries that take 25 octets each
 
 
@@ -80,6 +82,25 @@ def blocks(kind, size):
         stream += 2
 
 
+def entry(place):
+    """A field that enters the table: no name, and a value of two octets."""
+    return b"\x40\x00" + text(struct.pack(">H", place % 65536))
+
+
+def beside_table(every):
+    """A table of 65,536 octets with small entries, and then PINGs without end, or a request with a new entry in each of a number of items."""
+    for turn in range(8):
+        new = b"".join(entry(EACH * turn + place) for place in range(EACH))
+        yield frame(HEADERS, END_STREAM | END_HEADERS, 2 * turn + 1, (b"" if turn else LARGE) + new)
+    place = 8
+    while True:
+        if every and place % every == 0:
+            yield frame(HEADERS, END_STREAM | END_HEADERS, 2 * place + 1, entry(EACH * 8 + place))
+        else:
+            yield frame(PING, 0, 0, b"12345678")
+        place += 1
+
+
 def beside_live(kind):
     """Items of a kind beside open streams, without end."""
     for place in range(LIVE):
@@ -104,7 +125,9 @@ def beside_live(kind):
 
 def items(kind):
     """The items of a kind, without end."""
-    name, _, rest = kind.partition("-") if kind != "large-table" else (kind, "", "")
+    if kind.startswith("large-table"):
+        yield from beside_table(int(kind[12:] or 0))
+    name, _, rest = kind.partition("-")
     if name == "live":
         yield from beside_live(rest)
     if name == "values":
@@ -116,12 +139,9 @@ def items(kind):
         yield frame(HEADERS, END_HEADERS, 1, GET)
     if kind == "table":
         yield frame(HEADERS, END_STREAM | END_HEADERS, 1, FULL)
-    if kind == "large-table":
-        for turn in range(8):
-            yield frame(HEADERS, END_STREAM | END_HEADERS, 2 * turn + 1, (b"" if turn else LARGE) + b"\x40\x00\x00" * 256)
     while True:
         stream = 2 * place + 1
-        if kind in ("ping", "table", "large-table"):
+        if kind in ("ping", "table"):
             yield frame(PING, 0, 0, b"12345678")
         elif kind == "get":
             yield frame(HEADERS, END_STREAM | END_HEADERS, stream, GET)
