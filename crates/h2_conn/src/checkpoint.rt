@@ -121,9 +121,9 @@ impl<'b, A: Allocator + Copy> State<'b, A> {
         ensures { IfOk result (λ checkpoint. checkpoint ≡ checkpoint_of self.now) }
     {
         let reset = reset_by(&self.block);
-        let changing = self.streams.keep(reset, changing_of(earlier))?;
-        let table = self.table.keep(table_of(earlier))?;
         let block = keep_open(&self.block, block_of(earlier))?;
+        let table = self.table.keep(table_of(earlier))?;
+        let changing = self.streams.keep(reset, changing_of(earlier))?;
         Ok(Checkpoint {
             book: self.book,
             config: self.config,
@@ -144,9 +144,9 @@ impl<'b, A: Allocator + Copy> Checkpoint<'b, A> {
         ensures same { later.new ≡ later.old }
     {
         later.consistent();
+        let changing = self.changing.list()?;
         let table = self.table.restore()?;
         let block = restore_open(&self.block)?;
-        let changing = self.changing.list()?;
         let streams = later.streams.rebuilt(self.count, self.core.last, changing)?;
         Ok(State {
             book: self.book,

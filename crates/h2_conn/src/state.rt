@@ -100,8 +100,8 @@ impl<'b, A: Allocator + Copy> State<'b, A> {
     pub fn try_clone(&self) -> Result<Self, AllocError>
         ensures { IfOk result (λ copy. copy ≡ self.now) }
     {
-        let table = self.table.try_clone()?;
         let streams = self.streams.try_clone()?;
+        let table = self.table.try_clone()?;
         let block = copy_of(&self.block)?;
         Ok(State {
             book: self.book,

@@ -2,32 +2,30 @@ use Rattle.std.proofs.Common.{◌≡◌, subst, sym}
 use Rattle.h2_spec.specs.State.{State}
 use Rattle.h2_conn.specs.Checkpoint.{CheckpointView}
 use Rattle.h2_conn.proofs.RestoreLaws.{CanRebuild, IsRestored, can-rebuild, restored, restored-sound, state_of_checkpoint, state-restored}
+use Rattle.h2_conn.proofs.checkpoint.Checkpoint.state_by.Given.{Over}
 use Rattle.h2_conn.proofs.checkpoint.Checkpoint.state_by.Goals as goal
 
+-- what is asked where the records are made again
+asked : (g : Over) (c : goal.After-rebuilt-arg-1 g) →
+    (let i = c.self.inside in CanRebuild (record { book = i.book.now; config = i.config; core = i.core; block = i.block; table = i.table.table; count = i.count; changing = i.changing }) c.later.inside.streams.streams)
+asked g c =
+    subst (λ (m : CheckpointView). CanRebuild m c.later.inside.streams.streams) (sym c.self.view_is)
+    (subst (λ (s : State). CanRebuild c.args.self.now s.streams) (sym c.later.view_is) (can-rebuild c.args.self.now c.args.later.now c.consistent.ensures c.requires))
+
 pub rebuilt-requires-clause-within : goal.rebuilt-requires-clause-within
-rebuilt-requires-clause-within g c =
-    let parts = subst (λ (m : CheckpointView). CanRebuild m c.later.inside.streams.streams) (sym c.self.view_is) (subst (λ (s : State). CanRebuild c.args.self.now s.streams) (sym c.later.view_is) (can-rebuild c.args.self.now c.args.later.now c.consistent.ensures c.requires)) in
-    parts.within
+rebuilt-requires-clause-within g c = (asked g c).within
 
 pub rebuilt-requires-clause-rising : goal.rebuilt-requires-clause-rising
-rebuilt-requires-clause-rising g c =
-    let parts = subst (λ (m : CheckpointView). CanRebuild m c.later.inside.streams.streams) (sym c.self.view_is) (subst (λ (s : State). CanRebuild c.args.self.now s.streams) (sym c.later.view_is) (can-rebuild c.args.self.now c.args.later.now c.consistent.ensures c.requires)) in
-    parts.rising
+rebuilt-requires-clause-rising g c = (asked g c).rising
 
 pub rebuilt-requires-clause-changed : goal.rebuilt-requires-clause-changed
-rebuilt-requires-clause-changed g c =
-    let parts = subst (λ (m : CheckpointView). CanRebuild m c.later.inside.streams.streams) (sym c.self.view_is) (subst (λ (s : State). CanRebuild c.args.self.now s.streams) (sym c.later.view_is) (can-rebuild c.args.self.now c.args.later.now c.consistent.ensures c.requires)) in
-    rw c.in_ok-changing.ensures.same parts.changed
+rebuilt-requires-clause-changed g c = rw c.in_ok-changing.ensures.same (asked g c).changed
 
 pub rebuilt-requires-clause-known : goal.rebuilt-requires-clause-known
-rebuilt-requires-clause-known g c =
-    let parts = subst (λ (m : CheckpointView). CanRebuild m c.later.inside.streams.streams) (sym c.self.view_is) (subst (λ (s : State). CanRebuild c.args.self.now s.streams) (sym c.later.view_is) (can-rebuild c.args.self.now c.args.later.now c.consistent.ensures c.requires)) in
-    rw c.in_ok-changing.ensures.same parts.known
+rebuilt-requires-clause-known g c = rw c.in_ok-changing.ensures.same (asked g c).known
 
 pub rebuilt-requires-clause-closed : goal.rebuilt-requires-clause-closed
-rebuilt-requires-clause-closed g c =
-    let parts = subst (λ (m : CheckpointView). CanRebuild m c.later.inside.streams.streams) (sym c.self.view_is) (subst (λ (s : State). CanRebuild c.args.self.now s.streams) (sym c.later.view_is) (can-rebuild c.args.self.now c.args.later.now c.consistent.ensures c.requires)) in
-    rw c.in_ok-changing.ensures.same parts.closed
+rebuilt-requires-clause-closed g c = rw c.in_ok-changing.ensures.same (asked g c).closed
 
 pub invariant_of-result : goal.invariant_of-result
 invariant_of-result g c =

@@ -22,13 +22,13 @@ returns g c =
     ∙ ap checkpoint_of c.self.view_is
 
 pub returns-in_err-changing : goal.returns-in_err-changing
-returns-in_err-changing g c = IfOk-from_err c.from_residual.result _ c.from_residual.ensures.0
+returns-in_err-changing g c = IfOk-from_err c.from_residual-in_err-changing.result _ c.from_residual-in_err-changing.ensures.0
 
 pub returns-in_err-table : goal.returns-in_err-table
 returns-in_err-table g c = IfOk-from_err c.from_residual-in_err-table.result _ c.from_residual-in_err-table.ensures.0
 
 pub returns-in_err-block : goal.returns-in_err-block
-returns-in_err-block g c = IfOk-from_err c.from_residual-in_err-block.result _ c.from_residual-in_err-block.ensures.0
+returns-in_err-block g c = IfOk-from_err c.from_residual.result _ c.from_residual.ensures.0
 
 pub invariant_of-result : goal.invariant_of-result
 invariant_of-result g c = (ap (λ (t : LimitedTable). t.limit) c.in_ok-table.ensures.same ∙ c.self.invariant.1, c.self.invariant.3)
