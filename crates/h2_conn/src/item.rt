@@ -604,7 +604,6 @@ impl<'b, A: Allocator + Copy> State<'b, A> {
     }
 
     /// A frame: the checks of its head, the form of its payload, and then what it holds.
-    #[tactic(auto, unfolding(h2_spec::specs::Effect::effect, h2_spec::specs::Effect::cause_of, h2_spec::specs::Ignored::ignored_of))]
     fn on_frame<O: Outgoing<'b, A>>(
         &mut self,
         frame: FrameRef<'_>,

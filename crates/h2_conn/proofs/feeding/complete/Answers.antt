@@ -1,11 +1,12 @@
 use Rattle.std.proofs.Common.{◌≡◌, ◌∙◌, ◌++◌, ◌+◌, ℕ, List, [], length, take, drop, ap, arith, length-drop}
+use Rattle.std.proofs.lemmas.Result.{IfOk-from_err}
 use Rattle.h2_frame.specs.Rest.{Rest}
 use Rattle.h2_spec.specs.Frame.{NoItem}
 use Rattle.h2_spec.specs.Trace.{left_by, next_item}
 use Rattle.h2_conn.specs.Connection.{going}
 use Rattle.h2_conn.specs.Runs.{TakesOne}
 use Rattle.h2_conn.proofs.FeedingLaws.{fits-more, held-all, held-offered, offered-taken, short-none, some-missing}
-use Rattle.h2_conn.proofs.Runs.{stop-none}
+use Rattle.h2_conn.proofs.Runs.{if_err, stop-none}
 use Rattle.h2_conn.proofs.Shortest.{octet-rest, waits-all}
 use Rattle.h2_conn.proofs.feeding.complete.Given.{Over}
 use Rattle.h2_conn.proofs.feeding.complete.Goals as goal
@@ -79,3 +80,33 @@ loop-splitter-preserved g c =
       none = rw (none.1, none.2) (stop-none c.loop-splitter.state (c.loop-splitter.splitter.octets ++ take c.missing-count.result (drop c.loop-splitter.used c.args.piece.now)) none.0);
       within = omega (arith, i.within, c.if-rest-count.false, length-drop c.loop-splitter.used c.args.piece.now, ap length c.octets_from-rest.ensures);
     }
+
+pub returns-in_err-push-clause-ok : goal.returns-in_err-push-clause-ok
+returns-in_err-push-clause-ok g c = IfOk-from_err c.from_residual.result _ c.from_residual.ensures.0
+
+pub returns-in_err-push-clause-rest : goal.returns-in_err-push-clause-rest
+returns-in_err-push-clause-rest g c = IfOk-from_err c.from_residual.result _ c.from_residual.ensures.0
+
+pub returns-in_err-push-clause-empty : goal.returns-in_err-push-clause-empty
+returns-in_err-push-clause-empty g c = IfOk-from_err c.from_residual.result _ c.from_residual.ensures.0
+
+pub returns-in_err-push-clause-within : goal.returns-in_err-push-clause-within
+returns-in_err-push-clause-within g c = IfOk-from_err c.from_residual.result _ c.from_residual.ensures.0
+
+pub returns-in_err-push-clause-err : goal.returns-in_err-push-clause-err
+returns-in_err-push-clause-err g c = if_err c.from_residual.result (c.loop-splitter.invariant.same, c.loop-splitter.invariant.quiet)
+
+pub returns-in_err-offer-clause-ok : goal.returns-in_err-offer-clause-ok
+returns-in_err-offer-clause-ok g c = IfOk-from_err c.from_residual-in_err-offer.result _ c.from_residual-in_err-offer.ensures.0
+
+pub returns-in_err-offer-clause-rest : goal.returns-in_err-offer-clause-rest
+returns-in_err-offer-clause-rest g c = IfOk-from_err c.from_residual-in_err-offer.result _ c.from_residual-in_err-offer.ensures.0
+
+pub returns-in_err-offer-clause-empty : goal.returns-in_err-offer-clause-empty
+returns-in_err-offer-clause-empty g c = IfOk-from_err c.from_residual-in_err-offer.result _ c.from_residual-in_err-offer.ensures.0
+
+pub returns-in_err-offer-clause-within : goal.returns-in_err-offer-clause-within
+returns-in_err-offer-clause-within g c = IfOk-from_err c.from_residual-in_err-offer.result _ c.from_residual-in_err-offer.ensures.0
+
+pub returns-in_err-offer-clause-err : goal.returns-in_err-offer-clause-err
+returns-in_err-offer-clause-err g c = if_err c.from_residual-in_err-offer.result (c.in_err-offer.ensures.err.0 ∙ c.loop-splitter.invariant.same, c.in_err-offer.ensures.err.1 ∙ c.loop-splitter.invariant.quiet)

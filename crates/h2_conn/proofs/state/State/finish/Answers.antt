@@ -1,4 +1,4 @@
-use Rattle.std.proofs.Common.{◌≡◌, ℕ, Option, sym, ap, subst, ◌∙◌}
+use Rattle.std.proofs.Common.{◌≡◌, ℕ, Option, refl, sym, ap, subst, ◌∙◌}
 use Rattle.h2_spec.specs.declared.flow.LocalSettings.{LocalSettings}
 use Rattle.h2_spec.specs.Change.{made}
 use Rattle.h2_spec.specs.DynamicTable.{LimitedTable, Table}
@@ -9,8 +9,12 @@ use Rattle.h2_conn.specs.Blocks.{IsOpenFor, limited}
 use Rattle.h2_block.specs.Blocks.{block_after}
 use Rattle.h2_conn.specs.Does.{Does}
 use Rattle.h2_block.specs.Fragments.{after_of}
+use Rattle.h2_conn.proofs.ApplyChangeLaws.{stopped-open}
 use Rattle.h2_conn.proofs.FinishLaws.{open-then, rebound, same-settings, same-table}
 use Rattle.h2_conn.proofs.state.State.finish.Goals as goal
+
+pub apply_in_place-requires : goal.apply_in_place-requires
+apply_in_place-requires g c = λ k. ((refl, tt), (stopped-open _ _ c.requires.stopped, (c.requires.sound, c.requires.same)))
 
 pub commit-requires : goal.commit-requires
 commit-requires g c =

@@ -7,11 +7,11 @@ use Rattle.h2_spec.specs.declared.connection.Purpose.{Purpose}
 use Rattle.h2_spec.specs.Effect.{concluded, effect_verdict}
 use Rattle.h2_spec.specs.Headers.{Breaks, FrameEffect, fragment, fragment_read}
 use Rattle.h2_spec.specs.State.{Decoding, State}
+use Rattle.h2_spec.specs.Stream.{Records}
 use Rattle.h2_block.specs.Fragments.{after_of}
 use Rattle.h2_rules.specs.Open.{IsOpenAt}
 use Rattle.h2_conn.specs.Blocks.{effect_read, with_table}
 use Rattle.h2_conn.specs.Does.{Does, stepped}
-use Rattle.h2_conn.specs.Records.{records}
 use Rattle.h2_conn.proofs.state.State.on_fragment.Given.{Over}
 use Rattle.h2_conn.proofs.state.State.on_fragment.Goals as goal
 
@@ -21,12 +21,15 @@ fragment-is : (s t : State) (b : BlockView) (d before after : Decoding) (octets 
 fragment-is s t b d before after octets ends e read r effect same is end =
     ap (λ (x : Decoding). fragment s b x octets ends) (sym same) ∙ sym (effect ends) ∙ ap (effect_read t after ends) is ∙ ap (λ (x : Bool). effect_read t after x r) end
 
-open-ended : (g : Over) (c : goal.After-ends g) → IsOpenAt (records c.args.self.now) c.in-Ok-Ok.shown.stream c.fragment.new.decoding.purpose
-open-ended g c =
-    let r = records c.args.self.now in
+-- a block that goes on is open for what was read of it
+still-open : (r : Records) (id now : ℕ) (before after : Purpose) → IsOpenAt r id before → now ≡ id → after ≡ before → IsOpenAt r now after
+still-open r id now before after known stream purpose = subst (λ (i : ℕ). IsOpenAt r i after) (sym stream) (subst (λ (p : Purpose). IsOpenAt r id p) (sym purpose) known)
+
+pub ends-requires : goal.ends-requires
+ends-requires g c = λ k.
     let stream : c.in-Ok-Ok.shown.stream ≡ c.args.shown.stream = rw c.in-Ok-Ok.field-0-is at c.in-Ok-Ok.ensures.stream in
-    subst (λ (i : ℕ). IsOpenAt r i c.fragment.new.decoding.purpose) (sym stream)
-    (subst (λ (p : Purpose). IsOpenAt r c.args.shown.stream p) (sym (c.fragment.ensures.purpose ∙ ap (λ (d : Decoding). d.purpose) c.unchanged-tentative.ensures.before)) c.requires.known)
+    let purpose = c.fragment.ensures.purpose ∙ ap (λ (d : Decoding). d.purpose) c.unchanged-tentative.ensures.before in
+    ((refl, tt), (c.requires.stopped, (c.fragment.ensures.sized, (c.in-Ok-Ok.ensures.belongs, still-open _ _ _ _ _ c.requires.known stream purpose))))
 
 ended : (g : Over) (c : goal.After-ends g) → fragment c.args.self.now c.args.shown c.args.decoding.now c.args.octets.now c.args.end_headers ≡ fragment_read (with_table c.args.self.now c.fragment.new.edit) c.in-Ok-Ok.shown (after_of c.fragment.new.decoding c.fragment.new.tentative) true
 ended g c =
@@ -42,12 +45,11 @@ returns-then-end_headers-clause-verdict g c = subst (λ (e : FrameEffect). IfOk 
 pub returns-then-end_headers-clause-err : goal.returns-then-end_headers-clause-err
 returns-then-end_headers-clause-err g c = on_err_weaker c.ends.result (λ same. (same.0 ∙ c.fragment.ensures.before ∙ c.unchanged-tentative.ensures.before, same.1, same.2)) c.ends.ensures.err
 
-open-goes : (g : Over) (c : goal.After-goes_on g) → IsOpenAt (records c.args.self.now) c.in-Ok-Ok.shown.stream c.fragment.new.decoding.purpose
-open-goes g c =
-    let r = records c.args.self.now in
+pub goes_on-requires : goal.goes_on-requires
+goes_on-requires g c = λ k.
     let stream : c.in-Ok-Ok.shown.stream ≡ c.args.shown.stream = rw c.in-Ok-Ok.field-0-is at c.in-Ok-Ok.ensures.stream in
-    subst (λ (i : ℕ). IsOpenAt r i c.fragment.new.decoding.purpose) (sym stream)
-    (subst (λ (p : Purpose). IsOpenAt r c.args.shown.stream p) (sym (c.fragment.ensures.purpose ∙ ap (λ (d : Decoding). d.purpose) c.unchanged-tentative.ensures.before)) c.requires.known)
+    let purpose = c.fragment.ensures.purpose ∙ ap (λ (d : Decoding). d.purpose) c.unchanged-tentative.ensures.before in
+    ((refl, tt), (c.requires.stopped, (c.fragment.ensures.sized, (c.in-Ok-Ok.ensures.belongs, still-open _ _ _ _ _ c.requires.known stream purpose))))
 
 goes : (g : Over) (c : goal.After-goes_on g) → fragment c.args.self.now c.args.shown c.args.decoding.now c.args.octets.now c.args.end_headers ≡ fragment_read (with_table c.args.self.now c.fragment.new.edit) c.in-Ok-Ok.shown (after_of c.fragment.new.decoding c.fragment.new.tentative) false
 goes g c =

@@ -1,4 +1,4 @@
-use Rattle.std.proofs.Common.{◌≡◌, ℕ, Option, ap, sym, subst, ◌∙◌}
+use Rattle.std.proofs.Common.{◌≡◌, ℕ, Option, ap, refl, sym, subst, ◌∙◌}
 use Rattle.std.specs.Prelude.{IfOk, OnOk}
 use Rattle.h2_spec.specs.declared.connection.Phase.{Phase}
 use Rattle.h2_spec.specs.Checks.{refusal}
@@ -52,6 +52,15 @@ returns-in-Err-clause-verdict g c = subst (λ (e : FrameEffect). IfOk c.fail-in-
 
 pub returns-in-Err-clause-err : goal.returns-in-Err-clause-err
 returns-in-Err-clause-err g c = c.fail-in-Err.ensures.err
+
+pub on_part-requires : goal.on_part-requires
+on_part-requires g c = λ k.
+    let s = c.args.self.now in
+    let h = c.args.frame.head in
+    let part = sym c.part_of.ensures ∙ ap (seen part_seen) c.in-Ok.is in
+    let passed =
+    ap (λ (k : Phase). refusal (block_stream s.block) k h) (sym (ap (λ (x : State). x.core.phase) c.self.view_is)) ∙ ap (λ (b : Option ℕ). refusal b c.self.inside.core.phase h) (sym c.block_stream.ensures) ∙ sym c.refusal.ensures ∙ c.in-None.is in
+    ((refl, tt), (c.requires.fits, (part, passed)))
 
 -- a frame that passes the checks
 passes : (g : Over) (c : goal.After-on_part g) → item_effect c.args.self.now (WholeFrame c.args.frame.head c.args.frame.payload.now) ≡ frame_effect c.args.self.now c.args.frame.head c.args.frame.payload.now (part_seen c.in-Ok.part)
