@@ -76,7 +76,6 @@ pub struct Answer<'a, A: Allocator> {
 
 /// An entry, with the frames of its answer on stream 0 as octets: HEADERS without a table size update, and one DATA of
 /// the whole body, which ends the stream.
-#[derive(Drop)]
 struct Stored<A: Allocator> {
     method: Octets<A>,
     path: Octets<A>,
@@ -97,6 +96,21 @@ impl<A: Allocator> Model for Stored<A> {
     ghost view = { λ s. record { method = s.method; path = s.path; answer = record (spec.answer s.status s.fields (drop 9 s.body_frame.items)) { early = s.early } } };
 
     ghost invariant = { λ s. AreFramesOf (record (spec.answer s.status s.fields (drop 9 s.body_frame.items)) { early = s.early }) s.headers.items s.body_frame.items };
+}
+
+/// By hand, so that a function that drops it makes one call, where a derived `Drop` would drop each part there.
+impl<A: Allocator> Drop for Stored<A> {
+    fn drop(self) {
+        let Self {
+            method: _,
+            path: _,
+            status: _,
+            fields: _,
+            early: _,
+            headers: _,
+            body_frame: _,
+        } = self;
+    }
 }
 
 /// A list of entries, each of which may be answered with.
@@ -145,43 +159,39 @@ impl<A: Allocator + Copy> Book<A> {
         ensures kept { OnErr result (self.new ≡ self.old) }
         ensures refused { IfErr result (λ fault. IsRefusal (entry_fault self.old entry) fault) }
     {
-        let headers = self.headers_for(&entry)?;
-        let body_frame = frame_of_body(*self.entries.allocator(), entry.body.as_slice())?;
+        let stored = self.stored(entry)?;
         self.entries.reserve(1)?;
         self.firsts
-            .note(&entry.method, &entry.path, self.entries.len())?;
-        let stored = with_frames(entry, headers, body_frame);
+            .note(&stored.method, &stored.path, self.entries.len())?;
         self.entries.push_reserved(stored);
         Ok(())
     }
 
-    /// The HEADERS of an entry's answer on stream 0, where the entry is allowed.
-    fn headers_for(&self, entry: &Entry<A>) -> Result<Vec<u8, A>, BookFault>
-        ensures allowed { OnOk result (entry_fault self.now entry.now ≡ None) }
-        ensures headers { IfOk result (λ headers. headers.items ≡ headers_of_answer entry.now.answer) }
-        ensures within { OnOk result ((length (block_of_answer entry.now.answer) ≤ 16383) × (length entry.now.answer.body ≤ 1048576)) }
-        ensures refused { IfErr result (λ fault. IsRefusal (entry_fault self.now entry.now) fault) }
+    /// The entry with the frames of its answer, where it is allowed.
+    fn stored(&self, entry: Entry<A>) -> Result<Stored<A>, BookFault>
+        ensures same { IfOk result (λ stored. stored ≡ entry) }
+        ensures allowed { OnOk result (entry_fault self.now entry ≡ None) }
+        ensures refused { IfErr result (λ fault. IsRefusal (entry_fault self.now entry) fault) }
     {
-        let block = self.block_for(entry)?;
-        let alloc = *self.entries.allocator();
-        let is_empty = entry.body.as_slice().is_empty();
-        let headers = headers_of_block(alloc, is_empty, block.as_slice())?;
-        Ok(headers)
+        let (headers, body_frame) = self.frames_for(&entry)?;
+        Ok(with_frames(entry, headers, body_frame))
     }
 
-    /// The field block of an entry's answer, where the entry is allowed.
-    fn block_for(&self, entry: &Entry<A>) -> Result<Vec<u8, A>, BookFault>
+    /// The HEADERS and the DATA of an entry's answer on stream 0, where the entry is allowed.
+    fn frames_for(&self, entry: &Entry<A>) -> Result<(Vec<u8, A>, Vec<u8, A>), BookFault>
         ensures allowed { OnOk result (entry_fault self.now entry.now ≡ None) }
-        ensures block { IfOk result (λ block. block.items ≡ block_of_answer entry.now.answer) }
-        ensures within { IfOk result (λ block. length block.items ≤ 16383) }
+        ensures frames { IfOk result (λ frames. AreFramesOf entry.now.answer frames.0.items frames.1.items) }
         ensures refused { IfErr result (λ fault. IsRefusal (entry_fault self.now entry.now) fault) }
     {
         match self.fault_of(entry) {
             Some(fault) => Err(BookFault::BadEntry(fault)),
             None => {
                 let alloc = *self.entries.allocator();
+                let body = entry.body.as_slice();
                 let block = response_block(alloc, false, entry.status, entry.fields.as_slice())?;
-                Ok(block)
+                let headers = headers_of_block(alloc, body.is_empty(), block.as_slice())?;
+                let body_frame = frame_of_body(alloc, body)?;
+                Ok((headers, body_frame))
             }
         }
     }
