@@ -34,7 +34,6 @@ use std::marker::Model;
 /// the identifiers: by at most 31 comparisons, since there are at most 2^30 odd identifiers of 31 bits (RFC 9113,
 /// 5.1.1), and by at most 20 among a million. The peer chooses identifiers, and could crowd a map of all records, but
 /// this one has at most two entries for each live stream, and 32.
-#[derive(Drop)]
 pub(crate) struct OwnRecords<A: Allocator> {
     /// In the order of opening, so that identifiers rise.
     records: Vec<Stream, A>,
@@ -63,6 +62,20 @@ impl<A: Allocator> Model for OwnRecords<A> {
     ghost invariant = { λ s. IsKept s.records.items s.live.entries s.ended s.ready.items s.last × (length s.live.entries ≤ vec_capacity s.ready) };
 }
 
+/// By hand, so that a function that drops it makes one call, where a derived `Drop` would drop each part there.
+impl<A: Allocator> Drop for OwnRecords<A> {
+    fn drop(self) {
+        let Self {
+            records: _,
+            live: _,
+            ended: _,
+            ready: _,
+            last: _,
+            recent: _,
+        } = self;
+    }
+}
+
 impl<A: Allocator + Copy> OwnRecords<A> {
     /// No stream is open yet. Takes no memory.
     pub(crate) fn new(alloc: A) -> Self
@@ -83,8 +96,8 @@ impl<A: Allocator + Copy> OwnRecords<A> {
         ensures { IfOk result (λ copy. copy ≡ self.now) }
     {
         let records = copy_of(&self.records)?;
+        let ready = copy_with_capacity(&self.ready, self.live.len())?;
         let live = self.live.clone()?;
-        let ready = copy_with_capacity(&self.ready, live.len())?;
         Ok(OwnRecords {
             records,
             live,
@@ -157,7 +170,15 @@ impl<A: Allocator> OwnRecords<A> {
     pub(crate) fn into_records(self) -> Vec<Stream, A>
         ensures { result.items ≡ self.streams }
     {
-        self.records
+        let Self {
+            records,
+            live: _,
+            ended: _,
+            ready: _,
+            last: _,
+            recent: _,
+        } = self;
+        records
     }
 
     /// The records, in the order of opening.

@@ -1,4 +1,5 @@
 use Rattle.std.proofs.Common.{◌≡◌, IfOk, List, Option, Some, ap, length, subst, sym, take, ◌∙◌}
+use Rattle.std.proofs.lemmas.Result.{IfOk-from_err}
 use Rattle.h2_spec.specs.declared.streams.Stream.{Stream}
 use Rattle.h2_spec.specs.Stream.{AreRising, Records}
 use Rattle.h2_streams.specs.Joined.{AreIn, Base, GoWith, shared, with_base}
@@ -25,3 +26,18 @@ returns-clause-same g c = (parted g c).0 ∙ c.unite.ensures.own
 
 pub returns-clause-go : goal.returns-clause-go
 returns-clause-go g c = (parted g c).1
+
+pub returns-in_err-all-clause-records : goal.returns-in_err-all-clause-records
+returns-in_err-all-clause-records g c = IfOk-from_err c.from_residual.result _ c.from_residual.ensures.0
+
+pub returns-in_err-all-clause-front : goal.returns-in_err-all-clause-front
+returns-in_err-all-clause-front g c = IfOk-from_err c.from_residual.result _ c.from_residual.ensures.0
+
+pub returns-in_err-all-clause-space : goal.returns-in_err-all-clause-space
+returns-in_err-all-clause-space g c = IfOk-from_err c.from_residual.result _ c.from_residual.ensures.0
+
+pub returns-then-has_all-clause-front : goal.returns-then-has_all-clause-front
+returns-then-has_all-clause-front g c = c.share.ensures.front
+
+pub returns-then-has_all-clause-space : goal.returns-then-has_all-clause-space
+returns-then-has_all-clause-space g c = c.share.ensures.space

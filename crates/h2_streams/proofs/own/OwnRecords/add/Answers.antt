@@ -1,4 +1,5 @@
 use Rattle.std.proofs.Common.{◌<◌, length, ◌∙◌, ap, sym, subst, arith}
+use Rattle.std.proofs.lemmas.Result.{IfOk-from_err, MatchResult-from_err}
 use Rattle.h2_spec.specs.Stream.{Records, is_live}
 use Rattle.h2_streams.proofs.LiveLaws.{count-small, kept-absent, kept-added, kept-fewer, one-more}
 use Rattle.h2_streams.proofs.own.OwnRecords.add.Goals as goal
@@ -34,3 +35,18 @@ invariant_of-self-2 g c =
     let enough = c.in_ok-reserve-2.ensures.ok in
     let grown = c.append.ensures.capacity in
     rw (c.in_ok-push.ensures.items, c.enter.ensures.entries, place, c.append.ensures.items, c.reserve.ensures.entries, c.reserve-2.ensures.items, c.is_live-live.ensures, c.is_ready-ready.ensures) (kept, omega (arith, few, longer, small, live, ready, len, enough, grown))
+
+pub returns-in_err-reserve-clause-ok : goal.returns-in_err-reserve-clause-ok
+returns-in_err-reserve-clause-ok g c = IfOk-from_err c.from_residual.result _ c.from_residual.ensures.0
+
+pub returns-in_err-reserve-clause-err : goal.returns-in_err-reserve-clause-err
+returns-in_err-reserve-clause-err g c = MatchResult-from_err c.from_residual.result _ _ c.from_residual.ensures.0 (λ _. c.self.view_is)
+
+pub returns-in_err-reserve-2-clause-ok : goal.returns-in_err-reserve-2-clause-ok
+returns-in_err-reserve-2-clause-ok g c = IfOk-from_err c.from_residual-in_err-reserve-2.result _ c.from_residual-in_err-reserve-2.ensures.0
+
+pub returns-in_err-reserve-2-clause-err : goal.returns-in_err-reserve-2-clause-err
+returns-in_err-reserve-2-clause-err g c = MatchResult-from_err c.from_residual-in_err-reserve-2.result _ _ c.from_residual-in_err-reserve-2.ensures.0 (λ _. c.self.view_is)
+
+pub returns-in_err-push-clause-ok : goal.returns-in_err-push-clause-ok
+returns-in_err-push-clause-ok g c = IfOk-from_err c.from_residual-in_err-push.result _ c.from_residual-in_err-push.ensures.0

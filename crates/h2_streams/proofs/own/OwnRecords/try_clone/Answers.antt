@@ -14,11 +14,11 @@ invariant_of-result g c =
 pub returns-in_err-records : goal.returns-in_err-records
 returns-in_err-records g c = IfOk-from_err c.from_residual.result _ c.from_residual.ensures.0
 
-pub returns-in_err-live : goal.returns-in_err-live
-returns-in_err-live g c = IfOk-from_err c.from_residual-in_err-live.result _ c.from_residual-in_err-live.ensures.0
-
 pub returns-in_err-ready : goal.returns-in_err-ready
 returns-in_err-ready g c = IfOk-from_err c.from_residual-in_err-ready.result _ c.from_residual-in_err-ready.ensures.0
+
+pub returns-in_err-live : goal.returns-in_err-live
+returns-in_err-live g c = IfOk-from_err c.from_residual-in_err-live.result _ c.from_residual-in_err-live.ensures.0
 
 pub returns : goal.returns
 returns g c =

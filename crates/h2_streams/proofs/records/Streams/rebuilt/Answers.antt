@@ -1,4 +1,5 @@
 use Rattle.std.proofs.Common.{◌≡◌, ◌∙◌, Some, ap, arith, length, length-take-le, take}
+use Rattle.std.proofs.lemmas.Result.{IfOk-from_err}
 use Rattle.h2_spec.specs.Stream.{Records}
 use Rattle.h2_streams.specs.Joined.{GoWith, shared, with_base}
 use Rattle.h2_streams.specs.Rebuilt as earlier
@@ -27,3 +28,9 @@ invariant_of-result g c = (rebuilt g c).1
 
 pub returns-clause-rebuilt : goal.returns-clause-rebuilt
 returns-clause-rebuilt g c = (rebuilt g c).0
+
+pub returns-in_err-own-clause-rebuilt : goal.returns-in_err-own-clause-rebuilt
+returns-in_err-own-clause-rebuilt g c = IfOk-from_err c.from_residual.result _ c.from_residual.ensures.0
+
+pub returns-in_err-base-clause-rebuilt : goal.returns-in_err-base-clause-rebuilt
+returns-in_err-base-clause-rebuilt g c = IfOk-from_err c.from_residual-in_err-base.result _ c.from_residual-in_err-base.ensures.0
