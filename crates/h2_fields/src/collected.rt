@@ -425,10 +425,12 @@ impl<A: Allocator + Copy> Collected<A> {
     pub fn try_clone(&self) -> Result<Collected<A>, AllocError>
         ensures same { IfOk result (λ copy. copy ≡ self.now) }
     {
+        let marks = self.marks.clone()?;
+        let list = self.list.try_clone()?;
         Ok(Collected {
             shared: self.shared.try_clone()?,
-            list: self.list.try_clone()?,
-            marks: self.marks.clone()?,
+            list,
+            marks,
             hints: Hints::new(self.list.allocator()),
             size: self.size,
             due: self.due,
