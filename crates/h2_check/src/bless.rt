@@ -81,7 +81,12 @@ fn may_move(line: &[u8]) -> bool
 fn have_renewed(lines: &[&[u8]]) -> bool
     ensures { result ≡ have_renewed (map (λ l. l.now) lines.now) }
 {
-    lines.iter().any(|line| is_renewed(line))
+    for line in lines {
+        if is_renewed(line) {
+            return true;
+        }
+    }
+    false
 }
 
 /// Whether one of these lines says what is sent, before the next that may have octets or is a command.
@@ -426,7 +431,8 @@ impl<'t, 'b> Walk<'t, 'b> {
             Line::Script(text) => self.renew_script(alloc, conn, text, out),
             Line::Sent(text) => self.renew_sent(alloc, text, more, out),
             Line::Cause(_) => {
-                renew_cause(self.first_cause(), self.cause(), out);
+                let sight = self.sight();
+                renew_cause(sight.first, sight.cause, out);
                 Ok(())
             }
             Line::Command(_) => {
@@ -571,7 +577,7 @@ impl<'t, 'b> Walk<'t, 'b> {
             Err(error) => return Err(error),
         }
         self.spoken = self.sent().len();
-        put_error(before < self.at, self.cause(), out);
+        put_error(before < self.at, self.sight().cause, out);
         Ok(())
     }
 
@@ -751,8 +757,12 @@ pub fn add_lines(lines: &[&[u8]], text: &mut Vec<u8>) -> Result<(), AllocError>
     ensures { OnOk result (text.new.items ≡ text.old.items ++ flat_map kept_line (map (λ l. l.now) lines.now)) }
 {
     for line in lines {
-        text.extend_from_slice(line)?;
-        text.push(b'\n')?;
+        let Ok(()) = text.extend_from_slice(line) else {
+            return Err(AllocError);
+        };
+        let Ok(()) = text.push(b'\n') else {
+            return Err(AllocError);
+        };
     }
     Ok(())
 }

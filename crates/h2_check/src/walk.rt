@@ -71,6 +71,21 @@ impl<'t, 'b> Drop for Walk<'t, 'b> {
     }
 }
 
+/// What is seen at the place of a walk.
+#[derive(Clone, Copy)]
+pub(crate) struct Sight<'s> {
+    /// How many items there are up to the place.
+    pub items: usize,
+    /// The octets that were sent, of which lines speak: those for all items, or for the item of a debugger's position.
+    pub sent: &'s [u8],
+    /// Why the first error is one; with a debugger why the item of its position is one.
+    pub first: Option<Cause>,
+    /// Why the item before is an error.
+    pub cause: Option<Cause>,
+    /// Why the item before is ignored.
+    pub ignored: Option<Ignored>,
+}
+
 /// What a line that is none of a script is, in words.
 fn kind_words(kind: SyntaxKind) -> &'static str {
     match kind {
@@ -235,15 +250,39 @@ impl<'t, 'b> Walk<'t, 'b> {
         self.refuse(line, wanted, String::from_str(alloc, words))
     }
 
-    /// The octets that were sent, of which lines speak: those for all items, or for the item of a debugger's position.
+    /// What is seen of all items; with a debugger, of the item of its position. In one function, since a proof about what a
+    /// debugger has takes long.
+    pub(crate) fn sight(&self) -> Sight<'_>
+        ensures items { result.items ≡ (sight_here self.now).items }
+        ensures sent { result.sent.now ≡ sent_here self.now }
+        ensures few { length (sent_here self.now) < 2 ^ 64 }
+        ensures causes { (result.first ≡ (sight_here self.now).first) × (result.cause ≡ (sight_here self.now).cause) }
+        ensures ignored { result.ignored ≡ (sight_here self.now).ignored }
+    {
+        match &self.debugger {
+            Some(debugger) => Sight {
+                items: debugger.pos(),
+                sent: debugger.sent(),
+                first: debugger.cause(),
+                cause: debugger.cause(),
+                ignored: debugger.ignored(),
+            },
+            None => Sight {
+                items: self.seen.items,
+                sent: self.seen.sent.as_slice(),
+                first: self.seen.first,
+                cause: self.seen.cause,
+                ignored: self.seen.ignored,
+            },
+        }
+    }
+
+    /// The octets that were sent, of which lines speak.
     pub(crate) fn sent(&self) -> &[u8]
         ensures octets { result.now ≡ sent_here self.now }
         ensures few { length (sent_here self.now) < 2 ^ 64 }
     {
-        match &self.debugger {
-            Some(debugger) => debugger.sent(),
-            None => self.seen.sent.as_slice(),
-        }
+        self.sight().sent
     }
 
     /// Those of them that no line has spoken about.
@@ -314,9 +353,16 @@ impl<'t, 'b> Walk<'t, 'b> {
         ensures debugger { self.new.debugger ≡ self.old.debugger }
         ensures holds { self.new.holds ≡ self.old.holds }
     {
-        self.octets.extend_from_slice(more)?;
-        self.at = take_items(conn, self.octets.as_slice(), self.at, &mut self.seen)?;
-        Ok(())
+        let Ok(()) = self.octets.extend_from_slice(more) else {
+            return Err(AllocError);
+        };
+        match take_items(conn, self.octets.as_slice(), self.at, &mut self.seen) {
+            Ok(at) => {
+                self.at = at;
+                Ok(())
+            }
+            Err(error) => Err(error),
+        }
     }
 
     /// The octets of a line of the script.
@@ -468,54 +514,15 @@ impl<'t, 'b> Walk<'t, 'b> {
         self.find(alloc, shows(shown, text), number, text, found)
     }
 
-    /// Why the first error is one; with a debugger why the item of its position is one.
-    pub(crate) fn first_cause(&self) -> Option<Cause>
-        ensures { result ≡ (sight_here self.now).first }
-    {
-        match &self.debugger {
-            Some(debugger) => debugger.cause(),
-            None => self.seen.first,
-        }
-    }
-
-    /// Why the item before is an error.
-    pub(crate) fn cause(&self) -> Option<Cause>
-        ensures { result ≡ (sight_here self.now).cause }
-    {
-        match &self.debugger {
-            Some(debugger) => debugger.cause(),
-            None => self.seen.cause,
-        }
-    }
-
     /// Why the item before is an error; for a dash why any item is one.
     fn cause_for(&self, is_dash: bool) -> Option<Cause>
         ensures { result ≡ (if is_dash then (sight_here self.now).first else (sight_here self.now).cause) }
     {
+        let sight = self.sight();
         if is_dash {
-            return self.first_cause();
+            return sight.first;
         }
-        self.cause()
-    }
-
-    /// Why the item before is ignored.
-    fn ignored(&self) -> Option<Ignored>
-        ensures { result ≡ (sight_here self.now).ignored }
-    {
-        match &self.debugger {
-            Some(debugger) => debugger.ignored(),
-            None => self.seen.ignored,
-        }
-    }
-
-    /// How many items there are up to the place.
-    fn items(&self) -> usize
-        ensures { result ≡ (sight_here self.now).items }
-    {
-        match &self.debugger {
-            Some(debugger) => debugger.pos(),
-            None => self.seen.items,
-        }
+        sight.cause
     }
 }
 
@@ -600,7 +607,7 @@ impl<'t, 'b> Walk<'t, 'b> {
     ) -> Result<(), AllocError>
         ensures { OnOk result (Finds (ignores (sight_here self.old) text.now) self.old self.new) }
     {
-        let found = reason_name(self.ignored()).as_bytes();
+        let found = reason_name(self.sight().ignored).as_bytes();
         self.find(alloc, text == found, number, text, found)
     }
 
@@ -614,7 +621,7 @@ impl<'t, 'b> Walk<'t, 'b> {
     ) -> Result<(), AllocError>
         ensures { OnOk result (Finds (explains (text_before (map string_bytes texts.now) (sight_here self.old).items) text.now) self.old self.new) }
     {
-        let said = text_before(texts, self.items()).as_bytes();
+        let said = text_before(texts, self.sight().items).as_bytes();
         let found = closest(said, line_in(text));
         self.find(alloc, explains(said, text), number, text, found)
     }
