@@ -3,5 +3,4 @@ pub mod Bodies
 pub mod Headers
 pub mod Keys
 pub mod Pairs
-pub mod Refusals
 pub mod Texts

@@ -55,8 +55,10 @@ pub fn entry_in<F: Files>(
     let Some(table) = value.as_table() else {
         return Err(BookRefusal::NoTable);
     };
-    let said = said_in(alloc, table)?;
-    entry_from(alloc, files, path, said)
+    match said_in(alloc, table) {
+        Ok(said) => entry_from(alloc, files, path, said),
+        Err(cause) => Err(cause),
+    }
 }
 
 /// The entry of what an answer says.
@@ -73,12 +75,24 @@ fn entry_from<F: Files>(
     ensures same_printed { F.is_printed files.new ≡ F.is_printed files.old }
     ensures same_files { F.file files.new ≡ F.file files.old }
 {
-    let body = read_contents(alloc, files, path, said.body)?;
+    let body = match read_contents(alloc, files, path, said.body) {
+        Ok(body) => body,
+        Err(cause) => return Err(cause),
+    };
+    let Ok(method) = copy_of(alloc, said.method) else {
+        return Err(BookRefusal::NoMemory);
+    };
+    let Ok(path) = copy_of(alloc, said.path) else {
+        return Err(BookRefusal::NoMemory);
+    };
+    let Ok(fields) = read_headers(alloc, said.headers) else {
+        return Err(BookRefusal::NoMemory);
+    };
     Ok(Entry {
-        method: copy_of(alloc, said.method)?,
-        path: copy_of(alloc, said.path)?,
+        method,
+        path,
         status: said.status,
-        fields: EntryFields::new(read_headers(alloc, said.headers)?),
+        fields: EntryFields::new(fields),
         body,
         early: said.early,
     })
@@ -99,14 +113,29 @@ fn said_in(alloc: Global, table: &Table) -> Result<Said<'_>, BookRefusal>
     if has_unknown_key(table) {
         return Err(BookRefusal::UnknownKey(unknown_key(alloc, table)));
     }
-    let method = text_in(value_at(table, "method"), Key::Method)?;
-    let path = text_in(value_at(table, "path"), Key::Path)?;
-    let status = status_in(value_at(table, "status"))?;
+    let method = match text_in(value_at(table, "method"), Key::Method) {
+        Ok(method) => method,
+        Err(cause) => return Err(cause),
+    };
+    let path = match text_in(value_at(table, "path"), Key::Path) {
+        Ok(path) => path,
+        Err(cause) => return Err(cause),
+    };
+    let status = match status_in(value_at(table, "status")) {
+        Ok(status) => status,
+        Err(cause) => return Err(cause),
+    };
     let Some(headers) = headers_in(value_at(table, "headers")) else {
         return Err(BookRefusal::Malformed(Key::Headers));
     };
-    let body = contents_in(table)?;
-    let early = early_in(value_at(table, "early"))?;
+    let body = match contents_in(table) {
+        Ok(body) => body,
+        Err(cause) => return Err(cause),
+    };
+    let early = match early_in(value_at(table, "early")) {
+        Ok(early) => early,
+        Err(cause) => return Err(cause),
+    };
     Ok(Said {
         method,
         path,
@@ -126,8 +155,12 @@ fn has_unknown_key(table: &Table) -> bool
 
 /// The first such key, for a sentence; `None` where memory is refused.
 fn unknown_key(alloc: Global, table: &Table) -> Option<String> {
-    let key = table.keys().find(|key| !is_key_of_answer(key.as_str()))?;
-    copy_of_key(alloc, key.as_str())
+    for key in table.keys() {
+        if !is_key_of_answer(key.as_str()) {
+            return copy_of_key(alloc, key.as_str());
+        }
+    }
+    None
 }
 
 /// Whether a key is this one.

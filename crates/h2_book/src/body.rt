@@ -181,12 +181,11 @@ fn repeat_said(count: Option<i64>, text: Option<&str>) -> Option<Contents<'_>>
     ensures said { option_and_then spec.contents_seen result ≡ spec.repeat_said count (option_copied text.entry) }
     ensures whole { IfSome result (λ c. IsTrue (is_some (spec.contents_seen c))) }
 {
-    let count = count?;
-    let text = text?;
-    if count < 0 || text.is_empty() {
-        None
-    } else {
-        Some(Contents::Fill(count as usize, text))
+    match (count, text) {
+        (Some(count), Some(text)) if count >= 0 && !text.is_empty() => {
+            Some(Contents::Fill(count as usize, text))
+        }
+        _ => None,
     }
 }
 
@@ -209,8 +208,14 @@ pub fn read_contents<F: Files>(
     ensures same_files { F.file files.new ≡ F.file files.old }
 {
     match contents {
-        Contents::Text(text) => Ok(copy_of(alloc, text)?),
-        Contents::Hex(digits) => Ok(Octets::new(read_hex(alloc, digits.as_bytes())?)),
+        Contents::Text(text) => match copy_of(alloc, text) {
+            Ok(octets) => Ok(octets),
+            Err(_) => Err(BookRefusal::NoMemory),
+        },
+        Contents::Hex(digits) => match read_hex(alloc, digits.as_bytes()) {
+            Ok(octets) => Ok(Octets::new(octets)),
+            Err(_) => Err(BookRefusal::NoMemory),
+        },
         Contents::File(name) => read_file(alloc, files, path, name),
         Contents::Fill(count, text) => fill(alloc, count, text.as_bytes()),
     }
@@ -220,7 +225,10 @@ pub fn read_contents<F: Files>(
 pub fn copy_of(alloc: Global, text: &str) -> Result<Octets<Global>, AllocError>
     ensures { IfOk result (λ octets. octets ≡ text.now) }
 {
-    Ok(Octets::new(text.as_bytes().to_vec(alloc)?))
+    match text.as_bytes().to_vec(alloc) {
+        Ok(octets) => Ok(Octets::new(octets)),
+        Err(error) => Err(error),
+    }
 }
 
 /// The octets that pairs of hex digits write.
@@ -228,9 +236,10 @@ fn read_hex(alloc: Global, digits: &[u8]) -> Result<Vec<u8>, AllocError>
     requires { IsTrue (is_some (octets_in_hex digits.now)) }
     ensures { IfOk result (λ octets. octets_in_hex digits.now ≡ Some octets.items) }
 {
-    match octets_of(alloc, digits)? {
-        Some(octets) => Ok(octets),
-        None => unreachable!(),
+    match octets_of(alloc, digits) {
+        Ok(Some(octets)) => Ok(octets),
+        Ok(None) => unreachable!(),
+        Err(error) => Err(error),
     }
 }
 
@@ -246,7 +255,9 @@ fn read_file<F: Files>(
     ensures same_printed { F.is_printed files.new ≡ F.is_printed files.old }
     ensures same_files { F.file files.new ≡ F.file files.old }
 {
-    let place = directory_of(path).join(alloc, name)?;
+    let Ok(place) = directory_of(path).join(alloc, name) else {
+        return Err(BookRefusal::NoMemory);
+    };
     match files.read(alloc, place.as_str(), MAX_BODY) {
         Ok(octets) => Ok(Octets::new(octets)),
         Err(FilesFault::Failed) => Err(BookRefusal::FileUnread(files.failure(place.as_str()))),
@@ -277,16 +288,23 @@ fn fill(alloc: Global, count: usize, text: &[u8]) -> Result<Octets<Global>, Book
     if count > MAX_BODY {
         return Err(BookRefusal::FillTooLong);
     }
-    Ok(Octets::new(repeat(alloc, count, text)?))
+    match repeat(alloc, count, text) {
+        Ok(octets) => Ok(Octets::new(octets)),
+        Err(_) => Err(BookRefusal::NoMemory),
+    }
 }
 
 fn repeat(alloc: Global, count: usize, text: &[u8]) -> Result<Vec<u8>, AllocError>
     requires { 0 < length text.now }
     ensures { IfOk result (λ octets. octets.items ≡ spec.filled count text.now) }
 {
-    let mut octets = Vec::with_capacity(alloc, count)?;
+    let Ok(mut octets) = Vec::with_capacity(alloc, count) else {
+        return Err(AllocError);
+    };
     for place in 0..count {
-        octets.push(text[place % text.len()])?;
+        let Ok(()) = octets.push(text[place % text.len()]) else {
+            return Err(AllocError);
+        };
     }
     Ok(octets)
 }

@@ -154,8 +154,12 @@ fn has_unknown_key(table: &Table) -> bool
 
 /// The first such key, for a sentence; `None` where memory is refused.
 fn unknown_key(alloc: Global, table: &Table) -> Option<String> {
-    let key = table.keys().find(|key| key.as_str() != "answer")?;
-    copy_of_key(alloc, key.as_str())
+    for key in table.keys() {
+        if key.as_str() != "answer" {
+            return copy_of_key(alloc, key.as_str());
+        }
+    }
+    None
 }
 
 /// Puts the entries of answers after those of the book; says at which answer, counted from 1, one was refused.
@@ -199,7 +203,10 @@ fn add_answer<F: Files>(
     ensures same_printed { F.is_printed files.new ≡ F.is_printed files.old }
     ensures same_files { F.file files.new ≡ F.file files.old }
 {
-    let entry = entry_in(alloc, files, path, answer)?;
+    let entry = match entry_in(alloc, files, path, answer) {
+        Ok(entry) => entry,
+        Err(cause) => return Err(cause),
+    };
     match book.add(entry) {
         Ok(()) => Ok(()),
         Err(BookFault::NoMemory) => Err(BookRefusal::NoMemory),

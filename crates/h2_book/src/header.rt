@@ -68,14 +68,17 @@ pub fn read_headers(alloc: Global, pairs: &[Value]) -> Result<Vec<Field<Global>>
 fn field_from(alloc: Global, name: &str, value: &str) -> Result<Field<Global>, AllocError>
     ensures { IfOk result (λ f. f ≡ field name.now value.now) }
 {
-    Ok(Field::new(
-        name.as_bytes().to_vec(alloc)?,
-        value.as_bytes().to_vec(alloc)?,
-    ))
+    let Ok(name) = name.as_bytes().to_vec(alloc) else {
+        return Err(AllocError);
+    };
+    match value.as_bytes().to_vec(alloc) {
+        Ok(value) => Ok(Field::new(name, value)),
+        Err(error) => Err(error),
+    }
 }
 
 /// A name and a value, from an array of two strings.
-fn header_in(pair: &Value) -> Option<(&str, &str)>
+pub(crate) fn header_in(pair: &Value) -> Option<(&str, &str)>
     ensures { option_map (λ p. field p.0.now p.1.now) result ≡ spec.header_said (view pair.now) }
 {
     match pair.as_array() {
@@ -98,5 +101,8 @@ fn both<'v>(name: Option<&'v str>, value: Option<&'v str>) -> Option<(&'v str, &
     ensures { option_map (λ p. field p.0.now p.1.now) result
         ≡ spec.field_with (option_copied name.entry) (option_copied value.entry) }
 {
-    Some((name?, value?))
+    match (name, value) {
+        (Some(name), Some(value)) => Some((name, value)),
+        _ => None,
+    }
 }

@@ -2,12 +2,13 @@
 //! of the file are cut and escaped as in `explain`. No definition speaks of it.
 
 use crate::fault::{BookRefusal, Key};
+use crate::header::{header_in, headers_in};
 use crate::line::{line_of_answer, line_of_key};
 use h2_describe::say_all;
 use h2_entries::fault::EntryFault;
 use h2_reasons::{Cut, Say, TextBuilder, field_reason, file_reason};
 use std::alloc::{AllocError, Allocator, Global};
-use toml::{Table, Value};
+use toml::Value;
 
 /// Where in a book's file something is wrong, and what is there.
 #[derive(Clone, Copy)]
@@ -63,32 +64,29 @@ impl<'w> Where<'w> {
         }
     }
 
-    /// The table that an answer is.
-    fn table(self) -> Option<&'w Table> {
+    /// What an answer has for a key.
+    fn get(self, key: &str) -> Option<&'w Value> {
         match self.value {
-            Some(value) => value.as_table(),
+            Some(value) => match value.as_table() {
+                Some(table) => table.get(key),
+                None => None,
+            },
             None => None,
         }
     }
 
     /// The text that an answer has for a key; empty where it has none.
     fn text_at(self, key: &str) -> &'w str {
-        match self.table() {
-            Some(table) => match table.get(key) {
-                Some(value) => value.as_str().unwrap_or(""),
-                None => "",
-            },
+        match self.get(key) {
+            Some(value) => value.as_str().unwrap_or(""),
             None => "",
         }
     }
 
     /// The integer that an answer has for `status`.
     fn status(self) -> i64 {
-        match self.table() {
-            Some(table) => match table.get("status") {
-                Some(value) => value.as_integer().unwrap_or(0),
-                None => 0,
-            },
+        match self.get("status") {
+            Some(value) => value.as_integer().unwrap_or(0),
             None => 0,
         }
     }
@@ -115,12 +113,12 @@ impl<'w> Where<'w> {
 
 /// The key of the body that an answer has.
 fn body_key(place: Where<'_>) -> &'static str {
-    match place.table() {
-        Some(table) if table.get("body-hex").is_some() => "body-hex",
-        Some(table) if table.get("body-file").is_some() => "body-file",
-        Some(table) if table.get("body-fill").is_some() => "body-fill",
-        _ => "body",
+    for key in ["body-hex", "body-file", "body-fill"] {
+        if place.get(key).is_some() {
+            return key;
+        }
     }
+    "body"
 }
 
 /// The key that is at fault; empty where none is.
@@ -184,46 +182,45 @@ const LONGEST: usize = 16;
 /// Whether a line ends in a number that may be one of more than 64 bits.
 fn has_long_number(line: &str) -> bool {
     match line.split_once('=') {
-        Some((_, value)) => {
-            let value = value.trim();
-            let digits = value
-                .as_bytes()
-                .iter()
-                .filter(|octet| octet.is_ascii_hexdigit())
-                .count();
-            digits >= LONGEST && value.as_bytes().iter().all(|octet| is_of_number(*octet))
-        }
+        Some((_, value)) => is_long_number(value.trim().as_bytes()),
         None => false,
     }
 }
 
-fn is_of_number(octet: u8) -> bool {
-    octet.is_ascii_hexdigit()
-        || octet == b'x'
-        || octet == b'o'
-        || octet == b'_'
-        || octet == b'+'
-        || octet == b'-'
+fn is_long_number(octets: &[u8]) -> bool {
+    let mut digits = 0usize;
+    for octet in octets {
+        if octet.is_ascii_hexdigit() {
+            digits = digits.saturating_add(1);
+        } else if !is_beside_digits(*octet) {
+            return false;
+        }
+    }
+    digits >= LONGEST
+}
+
+/// Whether a number may have this octet besides its digits.
+fn is_beside_digits(octet: u8) -> bool {
+    matches!(octet, b'x' | b'o' | b'_' | b'+' | b'-')
 }
 
 /// The first header that is not allowed, and why.
 fn bad_header(place: Where<'_>) -> Option<(&str, &'static str)> {
-    let headers = place.table()?.get("headers")?.as_array()?;
-    for pair in headers.as_slice() {
-        if let Some((name, value)) = pair_in(pair)
+    match headers_in(place.get("headers")) {
+        Some(headers) => first_bad(headers),
+        None => None,
+    }
+}
+
+fn first_bad(headers: &[Value]) -> Option<(&str, &'static str)> {
+    for pair in headers {
+        if let Some((name, value)) = header_in(pair)
             && let Some(reason) = field_reason(name.as_bytes(), value.as_bytes())
         {
             return Some((name, reason));
         }
     }
     None
-}
-
-fn pair_in(pair: &Value) -> Option<(&str, &str)> {
-    match pair.as_array()?.as_slice() {
-        [name, value] => Some((name.as_str()?, value.as_str()?)),
-        _ => None,
-    }
 }
 
 fn say_entry(place: Where<'_>, fault: EntryFault, out: &mut TextBuilder) {
