@@ -8,17 +8,17 @@ use Rattle.std.specs.Box.{box_value}
 use Rattle.clap.specs.declared.Error.{Error}
 use Rattle.clap.specs.declared.error.ErrorKind.{ErrorKind}
 use Rattle.clap.specs.declared.error.ErrorKind.TheVariants.{OutOfMemory}
-use Rattle.h2_words.specs.Grammar.{Asked, BookAsked, batch, play, asked_at, asked_by, bench_app, asked_of, devices_at, devices_found, unless_refused}
+use Rattle.h2_words.specs.Grammar.{Asked, BookAsked, batch, play, asked_at, asked_by, bench_app, asked_of, devices_at, devices_found, unless_refused, with_offline}
 use Rattle.h2_words.specs.Plans.{Refuses}
 use Rattle.h2_words.specs.declared.command.Refusal.{Refusal}
 use Rattle.h2_words.specs.declared.command.Refusal.TheVariants.{Words, NoMemory}
 
 pub bench-simple : is_simple bench_app ≡ true
-unfolding bench_app
+unfolding bench_app with_offline
 bench-simple = refl
 
 pub bench-free : is_simple_and_free bench_app ≡ true
-unfolding bench_app
+unfolding bench_app with_offline
 bench-free = refl
 
 taken : (words : List Text) → fault_of bench_app words ≡ [] → asked_of words ≡ asked_at (subcommand_of bench_app words)

@@ -1,3 +1,4 @@
 pub mod Built
 pub mod Grammar
 pub mod Numbers
+pub mod Tables

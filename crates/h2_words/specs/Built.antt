@@ -11,9 +11,13 @@ use Rattle.clap.specs.declared.builder.ValueParser.TheVariants as parser
 abbrev pub IsArg : Rule → Arg → Type 0
 IsArg rule arg = (rule_of arg ≡ rule) × (arg.global ≡ false)
 
--- a command that is read as this one, with no argument that is in its subcommands too
+-- a command with no argument that is in its subcommands too
+abbrev pub IsLocal : Command → Type 0
+IsLocal command = (out-Command command).has_globals ≡ false
+
+-- such a command that is read as this one
 abbrev pub IsCommand : App → Command → Type 0
-IsCommand app command = (app_of command ≡ app) × ((out-Command command).has_globals ≡ false)
+IsCommand app command = (app_of command ≡ app) × IsLocal command
 
 -- the rule of a positional that takes a number, from the least to the most
 abbrev pub number_rule : Text → ℕ → ℕ → Rule

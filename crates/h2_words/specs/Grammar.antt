@@ -168,10 +168,13 @@ check_app = with_rule (with_rule (with_rule (with_rule (with_rule (with_limits (
 abbrev pub top_app : App
 top_app = record (new_app (codes "h2_bench")) { top = record (new_app (codes "h2_bench")).top { subcommand_required = true } }
 
+-- a command with those that read their whole input and don't explain it
+unfoldable pub with_offline : App → App
+with_offline app = with_subcommand (with_subcommand (with_subcommand (with_subcommand app play_app.top) asm_app.top) dis_app.top) table_app.top
+
 unfoldable pub bench_app : App
 bench_app =
-    let offline = with_subcommand (with_subcommand (with_subcommand (with_subcommand top_app play_app.top) asm_app.top) dis_app.top) table_app.top in
-    with_subcommand (with_subcommand (with_subcommand (with_subcommand offline debug_app.top) serve_app.top) explain_app.top) check_app.top
+    with_subcommand (with_subcommand (with_subcommand (with_subcommand (with_offline top_app) debug_app.top) serve_app.top) explain_app.top) check_app.top
 
 -- ---- what words ask for
 

@@ -1,3 +1,4 @@
 pub mod Built
 pub mod Grammar
 pub mod Plans
+pub mod Tables

@@ -3,6 +3,7 @@
 
 pub mod command;
 mod legend;
+mod usages;
 mod words;
 
 pub use words::Words;

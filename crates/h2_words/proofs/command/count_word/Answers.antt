@@ -1,8 +1,0 @@
-use Rattle.std.proofs.Common.{sym, subst}
-use Rattle.h2_words.specs.Built.{IsArg}
-use Rattle.h2_words.specs.Grammar.{count_rule}
-use Rattle.h2_words.proofs.Built.{required-given}
-use Rattle.h2_words.proofs.command.count_word.Goals as goal
-
-pub returns : goal.returns
-returns c = subst (IsArg count_rule) (sym c.help.ensures) (required-given _ _ _ _ c.required.ensures c.number_arg.ensures)
