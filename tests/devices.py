@@ -1,5 +1,5 @@
 #!/usr/bin/env python3
-"""The program between devices that transcripts don't show: outputs that are closed, full or slow, inputs that are slow, and the launcher on a terminal.
+"""The program between devices that transcripts don't show: outputs that are closed, full or slow, inputs that are slow, pipes that are named as files, and the launcher on a terminal.
 
     tests/devices.py PROGRAM
 
@@ -96,6 +96,31 @@ def a_slow_writer_loses_nothing(program):
     yield ran.ended(), (0, "")
 
 
+def run_of_pipe(program, words, text, **how):
+    """What a run prints whose words have the path of a pipe in place of PIPE, with its status and what it says."""
+    with tempfile.TemporaryDirectory() as folder:
+        pipe = f"{folder}/pipe"
+        os.mkfifo(pipe)
+        ran = Ran(program, [pipe if word == "PIPE" else word for word in words], stdout=subprocess.PIPE, **how)
+        with open(pipe, "wb") as end:
+            end.write(text)
+        printed = ran.process.communicate(timeout=SECONDS)[0]
+        return printed, *(it.replace(pipe, "PIPE") if isinstance(it, str) else it for it in ran.ended())
+
+
+def a_pipe_is_read_once(program):
+    """A pipe that is named as a file gives what a file does: its hex, a case, and what is wrong with its text."""
+    with open(f"{TOP}/examples/get.hex", "rb") as file:
+        text = file.read()
+    for words in (["explain"], ["explain", "--json"]):
+        of_file = subprocess.run(["h2_bench", *words, "examples/get.hex"], executable=program, cwd=TOP, stdout=subprocess.PIPE, check=True).stdout
+        yield run_of_pipe(program, [*words, "PIPE"], text), (of_file, 0, "")
+    yield run_of_pipe(program, ["debug", "--in", "PIPE"], text, stdin=subprocess.DEVNULL), (b"", 0, "")
+    yield b"SETTINGS" in run_of_pipe(program, ["explain", "PIPE"], b"; a case\nPREFACE\nSETTINGS 00 0 -\n")[0], True
+    wrong = run_of_pipe(program, ["explain", "PIPE"], b"zz")
+    yield (wrong[:2], wrong[2].startswith("PIPE, line 1, column 1 (octet 1): `z` is no hex digit")), ((b"fault 25\n", 1), True)
+
+
 def installed(program, folder):
     """The launcher and the program as tools/install.sh lays them out."""
     os.makedirs(f"{folder}/bin")
@@ -165,6 +190,7 @@ TESTS = [
     a_reader_that_leaves_is_status_3,
     a_slow_reader_loses_nothing,
     a_slow_writer_loses_nothing,
+    a_pipe_is_read_once,
     a_limit_on_files_is_status_3,
     terminals_have_colours_but_dumb_ones,
     terminals_have_a_prompt,

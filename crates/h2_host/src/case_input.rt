@@ -9,6 +9,7 @@ use h2_script::{ScriptFault, assemble};
 use h2_words::Words;
 use h2_words::command::{Devices, Plan, Refusal};
 use std::alloc::{AllocError, Global};
+use std::fs::Files;
 use std::path::{Path, PathBuf};
 use std::str;
 
@@ -17,7 +18,7 @@ use std::str;
 pub struct CaseInput {
     /// The words of the command, and after them those of the case.
     pub words: Words,
-    /// The octets of its script, as hex.
+    /// The octets of its script, as hex; of a pipe that is no case what it had.
     pub text: Vec<u8>,
 }
 
@@ -78,12 +79,17 @@ fn words_with(
         Err(ShellFault::NoMemory) => return Err(AllocError),
         Err(ShellFault::Open) => return Ok(None),
     }
-    let mut all = Words::new(alloc);
-    for word in words.as_slice() {
-        all.add(word)?;
-    }
+    let mut all = copy_of(alloc, words)?;
     add_all(alloc, path, &case_words, &mut all)?;
     Ok(Some(all))
+}
+
+fn copy_of(alloc: Global, words: &Words) -> Result<Words, AllocError> {
+    let mut copy = Words::new(alloc);
+    for word in words.as_slice() {
+        copy.add(word)?;
+    }
+    Ok(copy)
 }
 
 /// Whether a text is one case. Hex does not begin with a comment.
@@ -91,12 +97,14 @@ fn is_case(text: &str) -> bool {
     text.starts_with(';') && text.lines().filter(|line| line.starts_with(";# ")).count() < 2
 }
 
-/// What a file gives a command, where it is a case that can be read.
-fn case_at(rt: &HostRuntime, words: &Words, path: &str) -> Result<Option<CaseInput>, AllocError> {
-    let Ok(octets) = read_file(rt, path, MAX_INPUT) else {
-        return Ok(None);
-    };
-    let Ok(text) = str::from_utf8(octets.as_slice()) else {
+/// What these octets of a file give a command, where they are a case that can be read.
+fn case_in(
+    rt: &HostRuntime,
+    words: &Words,
+    path: &str,
+    octets: &[u8],
+) -> Result<Option<CaseInput>, AllocError> {
+    let Ok(text) = str::from_utf8(octets) else {
         return Ok(None);
     };
     if !is_case(text) {
@@ -116,6 +124,29 @@ fn case_at(rt: &HostRuntime, words: &Words, path: &str) -> Result<Option<CaseInp
         }
         None => Ok(None),
     }
+}
+
+/// Whether a file can be read twice: a pipe can't be.
+fn is_lasting(rt: &HostRuntime, path: &str) -> bool {
+    match rt.metadata(path) {
+        Ok(about) => about.is_file(),
+        Err(_) => false,
+    }
+}
+
+/// What a file gives a command, where it is a case that can be read; and of a pipe what it had, since it can't be read again.
+fn case_at(rt: &HostRuntime, words: &Words, path: &str) -> Result<Option<CaseInput>, AllocError> {
+    let Ok(octets) = read_file(rt, path, MAX_INPUT) else {
+        return Ok(None);
+    };
+    let case = case_in(rt, words, path, octets.as_slice())?;
+    if case.is_some() || is_lasting(rt, path) {
+        return Ok(case);
+    }
+    Ok(Some(CaseInput {
+        words: copy_of(rt.alloc(), words)?,
+        text: octets,
+    }))
 }
 
 /// What a case gives a command, where its file is one. Where memory for that is refused, the words are refused for it.

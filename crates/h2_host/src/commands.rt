@@ -1,4 +1,4 @@
-//! What does the commands. The program gives h2_bench; nothing here knows what a command prints.
+//! What does the commands. The program gives h2_run; nothing here knows what a command prints.
 
 ghost use Rattle.std.specs.Prelude.{◌≡◌, false};
 
