@@ -6,6 +6,7 @@
 #   tools/proof-cost.sh --check [CRATE..]    names each crate above its line of docs/BUDGET; the status is then 1
 #   tools/proof-cost.sh --minutes [FILE]     processor minutes by crate and kind of the last run of tools/gate-times.sh, or as FILE has them
 #   tools/proof-cost.sh --seconds CRATE..    seconds by kind and by module of the last check of each crate, the slowest first
+#   tools/proof-cost.sh --libraries [CRATE..]   megabytes of statements that each library has, and of which crates they are
 #
 # `--top FOLDER` before the rest takes the crates/*/out of another copy; --functions N shows N functions instead of 40.
 #
@@ -16,6 +17,8 @@
 #
 # Seconds are between the times at which the files of a check were written, so they are right where one process wrote them: remove the crate's out/incremental, and
 # call `rt check --jobs 1`. `Lts` is what a function holds at each point, `Proof` the checker's own search for what no file answers.
+#
+# A library has the statements of all that its public items mention, private fields too: `rt ci` leaves it in crates/*/out/rlib. To write them takes 0.12 s a megabyte.
 set -eu
 top=$(cd "$(dirname "$0")/.." && pwd)
 exec python3 -B - --here "$top" "$@" <<'PYTHON'
@@ -31,7 +34,7 @@ KINDS = ("proof", "second proof", "edits", "tests", "compiling")
 
 
 def arguments():
-    given = argparse.ArgumentParser(prog="proof-cost.sh", usage="proof-cost.sh [--top FOLDER] [--functions N] [--budget | --check | --minutes [FILE] | --seconds] [CRATE..]")
+    given = argparse.ArgumentParser(prog="proof-cost.sh", usage="proof-cost.sh [--top FOLDER] [--functions N] [--budget | --check | --minutes [FILE] | --seconds | --libraries] [CRATE..]")
     given.add_argument("--here", help=argparse.SUPPRESS)
     given.add_argument("--top")
     given.add_argument("--functions", type=int, default=40)
@@ -39,6 +42,7 @@ def arguments():
     given.add_argument("--check", action="store_true")
     given.add_argument("--minutes", nargs="?", const="")
     given.add_argument("--seconds", action="store_true")
+    given.add_argument("--libraries", action="store_true")
     given.add_argument("crates", nargs="*")
     return given.parse_intermixed_args()
 
@@ -150,6 +154,25 @@ def show_seconds(top, crate, count):
         print(f"{seconds:7.1f}  {name.removeprefix('Rattle-')}")
 
 
+def statements(top, crate):
+    """The megabytes of a library's statements by the crate that they are of."""
+    listing = f"{top}/crates/{crate}/out/rlib/{crate}.rlib/toolchain/checked.json"
+    sizes = collections.Counter()
+    if os.path.isfile(listing):
+        with open(listing, encoding="utf-8") as file:
+            for of, size in re.findall(r'^\["(?:part/)?Rattle-(\w+)[^"]*",\d+,(\d+)', file.read(), re.M):
+                sizes[of] += int(size) / 1e6
+    return sizes
+
+
+def show_libraries(top, crates):
+    found = {crate: sizes for crate in crates if (sizes := statements(top, crate))}
+    print("     MB  crate: of which crates")
+    for crate, sizes in sorted(found.items(), key=lambda it: -it[1].total()):
+        print(f"{sizes.total():7.1f}  {crate}:", ", ".join(f"{of} {size:.0f}" for of, size in sizes.most_common(6) if size >= 1))
+    print(f"{sum(sizes.total() for sizes in found.values()):7.1f}  all")
+
+
 def main():
     given = arguments()
     here = given.here
@@ -168,6 +191,8 @@ def main():
         for crate in asked:
             show_seconds(top, crate, given.functions)
         return 0
+    if given.libraries:
+        return show_libraries(top, asked)
     found = {crate: of for crate in asked if (of := sizes(top, crate))}
     lacking = [it for it in asked if it not in found]
     if lacking:

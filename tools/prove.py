@@ -2,8 +2,8 @@
 """Proves and builds the program: `h2_bench --prove`.
 
 The crates that the program is made of are copied to a temporary folder, without their must-fail edits, and `rt ci` proves them there: as many side by side as there
-are processors and as memory carries. What it has proved is kept on this machine, so a later call and the gate prove only what has changed since. It builds the
-program with both compilers and runs it. The two programs are put into crates/h2_program/out, and beside them the checksum of the sources that were proved.
+are processors and as memory carries. Where the kit keeps what it has proved, a later call and the gate prove only what has changed since. It builds the program
+with both compilers and runs it. The two programs are put into crates/h2_program/out, and beside them the checksum of the sources that were proved.
 """
 
 import os
@@ -70,6 +70,7 @@ class Progress:
 def prove(room, progress):
     """Has rt prove all crates of the copy and build the program: each line that ends a crate is counted as it comes."""
     how = {"stdin": subprocess.DEVNULL, "stdout": subprocess.PIPE, "stderr": subprocess.STDOUT, "errors": "replace", "start_new_session": True}
+    how["env"] = {**os.environ, "RT_JOBS": str(program.side_by_side())}
     said = []
     with subprocess.Popen(["rt", "ci"], cwd=room, **how) as ran:
         try:
