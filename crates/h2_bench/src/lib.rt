@@ -1,16 +1,10 @@
-//! The program: what the words ask for, from the octets of an input to those of an output. What drives a connection over
-//! a wire (`h2_drive`) and serves a listener's connections (`h2_serve`) is offered here too.
+//! What users of the library call by the name of the program: its commands (`h2_run`), what drives a connection over a wire
+//! (`h2_drive`), and what serves a listener's connections (`h2_serve`).
 #![tactic(auto)]
 
-mod execute;
-mod memory;
-mod server;
-
-pub use execute::{carry_out, run, run_on};
 pub use h2_commands::{BenchFault, parse_answer};
 pub use h2_drive::{DriveEnd, DriveFault, Socket, Wire, WireFault, drive};
-pub use h2_serve::{Keeper, NoKeeper, ServeFault, serve_on};
-pub use h2_words::Words;
-pub use h2_words::command::{Plan, parse};
-pub use memory::{Ran, run_in_memory};
-pub use server::serve;
+pub use h2_run::{
+    Keeper, NoKeeper, Plan, Ran, Words, carry_out, parse, run, run_in_memory, run_on, serve,
+};
+pub use h2_serve::{ServeFault, serve_on};

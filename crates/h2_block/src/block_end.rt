@@ -23,10 +23,6 @@ ghost use Rattle.h2_rules.specs.Sound.{HasBody, IsSoundChange, IsSoundConnection
 
 use h2_entries::book::Book;
 use h2_fields::collected::Collected;
-use h2_request::causes::{request_cause, trailers_cause};
-use h2_request::fields::Fields;
-use h2_request::reason::Malformed;
-use h2_request::well_formed::{check_fields, check_trailer_fields};
 use h2_rules::block::goes_on;
 use h2_rules::change::{only_counts, stream_error, with_outcome};
 use h2_rules::headers::{
@@ -37,6 +33,10 @@ use h2_spec::connection::{BlockView, Config, ConnectionState, Purpose};
 use h2_spec::reactions::{BlockSummary, Change, StreamOutcome};
 use h2_spec::streams::Pick;
 use h2_streams::Streams;
+use h2_well_formed::causes::{request_cause, trailers_cause};
+use h2_well_formed::fields::Fields;
+use h2_well_formed::reason::Malformed;
+use h2_well_formed::well_formed::{check_fields, check_trailer_fields};
 use std::alloc::Allocator;
 
 /// What the fields of a request result in.

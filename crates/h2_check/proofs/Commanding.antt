@@ -12,7 +12,7 @@ use Rattle.h2_session.specs.declared.reply.Reply.TheVariants as code
 use Rattle.h2_spec.specs.State.{ended_code}
 use Rattle.h2_spec.specs.declared.causes.Cause.{Cause}
 use Rattle.h2_spec.specs.declared.ignored.Ignored.{Ignored}
-use Rattle.h2_why.specs.Why.{error_lines, ignored_lines, why_lines}
+use Rattle.h2_describe.specs.Why.{error_lines, ignored_lines, why_lines}
 use Rattle.h2_check.specs.Cases.{Start, closes, debugger_at, sight_above}
 use Rattle.h2_check.specs.Commands.{answered, debugger_or, fault_in, is_memory_fault, is_refusal}
 use Rattle.h2_cases.specs.Lines as line

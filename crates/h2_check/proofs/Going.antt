@@ -10,7 +10,7 @@ use Rattle.h2_debug.specs.Debugging.{Debugging}
 use Rattle.h2_check.specs.Cases.{Start, all_hold, closes, errs, first_place, ignores, passed, played, plays, sight_above, sight_at, unspoken}
 use Rattle.h2_check.specs.Commands.{text_by}
 use Rattle.h2_check.specs.Frames.{is_none, sends, spoken_by}
-use Rattle.h2_item_texts.specs.ItemTexts.{text_before}
+use Rattle.h2_check.specs.ItemTexts.{text_before}
 use Rattle.h2_cases.specs.Lines as line
 use Rattle.h2_check.specs.Seen.{Sight, no_item, seen_by, sight, sight_by}
 use Rattle.h2_check.specs.Texts.{explains, shows}

@@ -4,3 +4,4 @@ pub mod Feeds
 pub mod Gains
 pub mod Going
 pub mod Items
+pub mod TextLaws

@@ -12,7 +12,7 @@ use Rattle.h2_spec.specs.declared.connection.Config.{Config}
 use Rattle.h2_check.specs.Cases.{Place, Start, cause_text, first_place, played, sight_at, start_of, unspoken}
 use Rattle.h2_cases.specs.Files.{is_empty_or_comment}
 use Rattle.h2_check.specs.Frames.{is_none, sends, spoken_by}
-use Rattle.h2_item_texts.specs.ItemTexts.{octets_at, octets_or_none}
+use Rattle.h2_check.specs.ItemTexts.{octets_at, octets_or_none}
 use Rattle.h2_cases.specs.Lines as line
 use Rattle.h2_cases.specs.Lines.{Said, line_said}
 

@@ -19,7 +19,7 @@ use Rattle.h2_session.specs.Replies.{Answer}
 use Rattle.h2_session.specs.Session.{loaded}
 use Rattle.h2_check.specs.Commands.{answered, debugger_or, is_refusal, text_by}
 use Rattle.h2_check.specs.Frames.{is_none, sends, spoken_by}
-use Rattle.h2_item_texts.specs.ItemTexts.{AreTextsOf, octets_at, text_before}
+use Rattle.h2_check.specs.ItemTexts.{AreTextsOf, octets_at, text_before}
 use Rattle.h2_cases.specs.Lines as line
 use Rattle.h2_cases.specs.Files.{expect_something}
 use Rattle.h2_cases.specs.Lines.{Said, line_said}

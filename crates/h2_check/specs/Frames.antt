@@ -2,7 +2,7 @@
 use Rattle.std.specs.Prelude.{ℕ, ◌+◌, Bool, true, false, List, [], ◌∷◌, length, nat_eq, codes, if◌then◌else◌, Option, Some, None}
 use Rattle.std.specs.List.{starts_with}
 use Rattle.std.specs.Str.{bytes_eq}
-use Rattle.h2_item_texts.specs.ItemTexts.{octets_at}
+use Rattle.h2_check.specs.ItemTexts.{octets_at}
 
 -- nothing is left
 abbrev pub is_none : List ℕ → Bool

@@ -2,6 +2,7 @@ pub mod Blessed
 pub mod Cases
 pub mod Commands
 pub mod Frames
+pub mod ItemTexts
 pub mod Seen
 pub mod Texts
 pub mod Tap

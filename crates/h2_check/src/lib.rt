@@ -5,14 +5,16 @@
 
 mod bless;
 mod command;
+mod fault;
 mod growing;
 mod pattern;
 mod run;
 mod tap;
+mod texts;
 mod verdict;
 mod walk;
 
 pub use bless::{add_lines, bless_case};
-pub use h2_item_texts::CaseFault;
+pub use fault::CaseFault;
 pub use tap::{Title, plan_line, verdict_text};
 pub use verdict::{Verdict, Wrong, check_case};

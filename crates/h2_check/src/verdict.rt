@@ -7,13 +7,14 @@ ghost use Rattle.h2_check.specs.Cases.{IsOutcome, Start, all_hold, first_place, 
 ghost use Rattle.h2_cases.specs.Files.{expect_something};
 ghost use Rattle.h2_cases.specs.Lines.{line_said};
 ghost use Rattle.h2_check.specs.Walks.{outcome_by};
-ghost use Rattle.h2_item_texts.specs.declared.fault.CaseFault.TheVariants.{BadConfig, NoMemory};
+ghost use Rattle.h2_check.specs.declared.fault.CaseFault.TheVariants.{BadConfig, NoMemory};
 
 use crate::command::Given;
+use crate::fault::CaseFault;
+use crate::texts::item_texts;
 use crate::walk::{Walk, check_lines};
 use h2_conn::{Conn, ConnFault};
 use h2_entries::book::Book;
-use h2_item_texts::{CaseFault, item_texts};
 use h2_spec::connection::Config;
 use std::alloc::Global;
 

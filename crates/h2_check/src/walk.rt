@@ -10,7 +10,7 @@ ghost use Rattle.h2_check.specs.Cases.{Start, all_hold, cause_text, closes, errs
 ghost use Rattle.h2_check.specs.Commands.{text_by};
 ghost use Rattle.h2_cases.specs.Files.{expect_something};
 ghost use Rattle.h2_check.specs.Frames.{is_next, is_none, sends, spoken_by};
-ghost use Rattle.h2_item_texts.specs.ItemTexts.{octets_at, text_before};
+ghost use Rattle.h2_check.specs.ItemTexts.{octets_at, text_before};
 ghost use Rattle.h2_cases.specs.Lines as said;
 ghost use Rattle.h2_cases.specs.Lines.{line_said, said_by, Said};
 ghost use Rattle.h2_check.specs.Seen.{no_item, seen_by};
@@ -20,13 +20,13 @@ ghost use Rattle.h2_check.specs.Walks.{Begins, Closes, Commands, Compares, Finds
 use crate::command::{Given, debugger_over, fault_line, give_line, is_obeyed};
 use crate::pattern::{closest, explains, shows};
 use crate::run::{Seen, take_items};
+use crate::texts::text_before;
 use crate::verdict::{Verdict, Wrong};
 use h2_cases::{Line, expect_something, line_of};
 use h2_conn::Conn;
 use h2_debug::Debugger;
 use h2_describe::sent::next_frame;
 use h2_device::string_of;
-use h2_item_texts::text_before;
 use h2_script::{LineFault, SyntaxKind, add_line, disassemble};
 use h2_session::{Reply, ReplyText};
 use h2_spec::causes::Cause;

@@ -1,6 +1,7 @@
 pub mod Assembled
 pub mod Inputs
 pub mod Played
-pub mod RefusedWords
+pub mod RefusedAnswers
+pub mod Setups
 pub mod Tables
 pub mod Written

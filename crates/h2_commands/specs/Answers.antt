@@ -1,9 +1,9 @@
 -- Why the words of an answer are refused, as a fault of the commands.
 use Rattle.std.specs.Prelude.{Option}
 use Rattle.h2_spec.specs.Answer.{Entry}
-use Rattle.h2_answers.specs.AnswerParts as answers
-use Rattle.h2_answers.specs.declared.fault.AnswerFault.{AnswerFault}
-use Rattle.h2_answers.specs.declared.fault.AnswerFault.TheVariants as answer
+use Rattle.h2_play.specs.AnswerParts as answers
+use Rattle.h2_play.specs.declared.fault.AnswerFault.{AnswerFault}
+use Rattle.h2_play.specs.declared.fault.AnswerFault.TheVariants as answer
 use Rattle.h2_commands.specs.declared.fault.BenchFault.{BenchFault}
 use Rattle.h2_commands.specs.declared.fault.BenchFault.TheVariants.{NoMemory, BadAnswer, BadEntry}
 

@@ -1,7 +1,7 @@
 -- The book of answers of a command: the entries of a file, and after them those of the words.
 use Rattle.std.specs.Prelude.{ℕ, List, [], ◌∷◌, Result, Ok}
 use Rattle.h2_spec.specs.Answer.{Entry}
-pub use Rattle.h2_answers.specs.Books.{book_of, unless_refused}
+pub use Rattle.h2_play.specs.Books.{book_of, unless_refused}
 use Rattle.h2_book.specs.Entries.{Directory, book_of_file}
 use Rattle.h2_words.specs.Grammar.{BatchAsked, BookAsked, play, asm, dis, table}
 

@@ -1,6 +1,7 @@
 pub mod Advice
 pub mod Answers
 pub mod Books
+pub mod CaseSetups
 pub mod CommandEnd
 pub mod Commands
 pub mod Each

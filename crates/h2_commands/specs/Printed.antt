@@ -17,7 +17,7 @@ use Rattle.h2_commands.specs.Input.{most}
 use Rattle.h2_hex.specs.HexText.{octets_spelled}
 use Rattle.h2_commands.specs.ScriptPrograms.{printed_asm, printed_dis}
 use Rattle.h2_commands.specs.TableProgram.{table_parts, table_text}
-pub use Rattle.h2_places.specs.Places.{item_text, item_texts, places_from, places_run}
+pub use Rattle.h2_play.specs.Places.{item_text, item_texts, places_from, places_run}
 pub use Rattle.h2_commands.specs.Printing.{OrCutShort, Printed, cut_short, done, failed, failed_as, refused}
 use Rattle.h2_commands.specs.declared.fault.BenchFault.TheVariants.{BadConfig, Read, BadHex}
 

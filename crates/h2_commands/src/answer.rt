@@ -6,8 +6,8 @@ ghost use Rattle.h2_spec.specs.AnswerWords as words;
 ghost use Rattle.h2_commands.specs.Answers.{fault_told, refusal_of};
 
 use crate::fault::BenchFault;
-use h2_answers::AnswerFault;
 use h2_entries::book::Entry;
+use h2_play::AnswerFault;
 use std::alloc::Global;
 
 /// Why words are refused, as a fault of this crate.
@@ -35,7 +35,7 @@ pub fn parse_answer(alloc: Global, text: &str) -> Result<Entry<Global>, BenchFau
     ensures said { IfOk result (λ entry. words.entry_of text.now ≡ Some entry) }
     ensures refused { IfErr result (λ fault. fault ≡ refusal_of (words.entry_of text.now)) }
 {
-    match h2_answers::parse_answer(alloc, text.as_bytes()) {
+    match h2_play::parse_answer(alloc, text.as_bytes()) {
         Ok(entry) => Ok(entry),
         Err(fault) => Err(told(fault)),
     }

@@ -3,7 +3,7 @@
 
 ghost use Rattle.std.specs.Prelude.{◌≡◌, ◌⊎◌, ◌<◌, [], Ok, Err, false, map, IfOk, IfErr, OnOk};
 ghost use Rattle.h2_words.specs.Plans.{book_asked};
-ghost use Rattle.h2_answers.specs.Books.{book_of, with_answer};
+ghost use Rattle.h2_play.specs.Books.{book_of, with_answer};
 ghost use Rattle.h2_commands.specs.Books.{book_filed, book_said};
 ghost use Rattle.h2_commands.specs.CommandEnd.{KnowsFile};
 ghost use Rattle.h2_commands.specs.Faults.{fault_number};
@@ -11,11 +11,11 @@ ghost use Rattle.h2_commands.specs.declared.fault.BenchFault.TheVariants.{NoMemo
 
 use crate::answer::told;
 use crate::fault::BenchFault;
-use h2_answers::add_answer;
 use h2_book::{BookFileFault, BookRefusal, Files, add_book};
 use h2_device::Output;
 use h2_entries::book::Book;
 use h2_entries::fault::EntryFault;
+use h2_play::add_answer;
 use h2_reasons::{EntryRefusal, TextBuilder, say_answer, say_no_answer, say_no_memory};
 use h2_words::command::BookWords;
 use std::alloc::{AllocError, Global};
@@ -65,7 +65,7 @@ struct Refused {
 ///
 /// The first word that is refused decides: `BadAnswer` where it says no answer, else what the book refuses it for;
 /// `NoMemory` may come before.
-#[tactic(auto, unfolding(h2_answers::specs::Books::book_of))]
+#[tactic(auto, unfolding(h2_play::specs::Books::book_of))]
 fn add_answers(alloc: Global, book: &mut Book<Global>, words: &[&str]) -> Result<(), Refused>
     ensures ok { OnOk result (book_of book.old (map (λ s. s.now) words.now) ≡ Ok book.new) }
     ensures err { IfErr result (λ r. (r.fault ≡ NoMemory)

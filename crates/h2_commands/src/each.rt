@@ -13,7 +13,7 @@ ghost use Rattle.h2_commands.specs.Printed.{OrCutShort, done, item_text, places_
 use crate::fault::BenchFault;
 use h2_conn::Conn;
 use h2_device::{Output, Text};
-use h2_places::ShownPlaces;
+use h2_play::ShownPlaces;
 use std::alloc::Global;
 
 /// Why what a command prints was not all written.
@@ -57,9 +57,9 @@ pub fn write_places<O: Output>(
     ensures flag { O.has_failed output.new ≡ not_written result }
     ensures name { O.name output.new ≡ O.name output.old }
 {
-    match h2_places::write_places(alloc, conn, sent, octets, ShownPlaces::all(), output) {
+    match h2_play::write_places(alloc, conn, sent, octets, ShownPlaces::all(), output) {
         Ok(()) => Ok(()),
-        Err(h2_places::PlacesFault::NoMemory) => Err(PrintFault::Fault(BenchFault::NoMemory)),
-        Err(h2_places::PlacesFault::NotWritten) => Err(PrintFault::NotWritten),
+        Err(h2_play::PlacesFault::NoMemory) => Err(PrintFault::Fault(BenchFault::NoMemory)),
+        Err(h2_play::PlacesFault::NotWritten) => Err(PrintFault::NotWritten),
     }
 }

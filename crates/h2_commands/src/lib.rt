@@ -1,5 +1,6 @@
-//! The commands that read their whole input before they answer: what is printed for it, and the exit status.
-//! They are a crate of their own, apart from `debug`, so that they are proved without the debugger.
+//! The commands that read their whole input before they answer: what is printed for it, and the exit status. Also what
+//! a case is played with, which is a book of words too. They are a crate of their own, apart from `debug`, so that they
+//! are proved without the debugger.
 #![tactic(auto)]
 
 mod advice;
@@ -7,6 +8,7 @@ mod answer;
 mod asm;
 mod batch;
 mod books;
+mod case_setup;
 mod dis;
 mod each;
 mod fault;
@@ -19,6 +21,7 @@ pub use advice::advise;
 pub use answer::parse_answer;
 pub use batch::{print, print_end, print_fault, print_fault_as, respond};
 pub use books::{book_for_words, write_reason};
+pub use case_setup::{Case, CaseSetup, Common, OwnFault, RefusedWords, own_of, words_line};
 pub use each::PrintFault;
 pub use fault::BenchFault;
 pub use input::{read_all, read_hex};

@@ -17,8 +17,8 @@ ghost use Rattle.h2_commands.specs.declared.fault.BenchFault.TheVariants.{NoMemo
 
 use crate::each::{PrintFault, write_text};
 use crate::fault::BenchFault;
-use h2_answers::{place_of, text_before, text_from};
 use h2_device::{DeviceFault, Number, Output, Text, texts};
+use h2_play::{place_of, text_before, text_from};
 use h2_script::number_at;
 use h2_table::DynTable;
 use h2_text::show::EntriesText;

@@ -3,12 +3,12 @@
 
 ghost use Rattle.std.specs.Prelude.{◌≡◌, false};
 
-use h2_bench::{Keeper, NoKeeper, Plan, carry_out, serve};
 use h2_book::Files;
 use h2_console::{Noted, ServerOutput, Stopwatch};
 use h2_device::{Input, IntoWrite, Output};
 use h2_host::{Commands, NamedFiles, answer};
 use h2_records::{record_of, refuse_record};
+use h2_run::{Keeper, NoKeeper, Plan, carry_out, serve};
 use h2_words::command::{Refusal, Serve};
 use std::alloc::Global;
 use std::io::Write;
@@ -66,7 +66,7 @@ fn serve_over<'x, W: Write>(
     }
 }
 
-/// The commands as h2_bench has them.
+/// The commands as h2_run has them.
 #[derive(Clone, Copy)]
 struct Program;
 

@@ -1,12 +1,10 @@
-//! Requests: which fields make a request or trailers, what is asked for, and the cause where they make none (RFC 9113, 8.1
-//! to 8.5). The book of answers is h2_entries. The definitions are Request and Reasons of `h2_spec`.
+//! Requests for users of the library: what a well-formed request is (`h2_well_formed`), and the book of answers
+//! (`h2_entries`; RFC 9113, 8.1 to 8.5).
 #![tactic(auto)]
-
-pub mod causes;
-pub mod fields;
-pub mod reason;
-mod walk;
-pub mod well_formed;
 
 pub use h2_entries::asked::Request;
 pub use h2_entries::book::{Answer, Book, Entry};
+pub use h2_entries::fault::BookFault;
+pub use h2_spec::streams::Pick;
+pub use h2_well_formed::reason::{Malformed, Reason};
+pub use h2_well_formed::well_formed::{check, check_trailers};

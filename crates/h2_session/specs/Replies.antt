@@ -9,7 +9,7 @@ use Rattle.h2_spec.specs.State.{ended_code}
 use Rattle.h2_debug.specs.Places.{at, cause_at, end, events, ignored_at, sent_octets_at}
 use Rattle.h2_debug.specs.declared.fault.DebugFault.{DebugFault}
 use Rattle.h2_session.specs.Commands.{Command, Step, Back, Go, Run, BreakOn, Clear, Show, Why}
-use Rattle.h2_why.specs.Why.{why_lines}
+use Rattle.h2_describe.specs.Why.{why_lines}
 use Rattle.h2_session.specs.declared.reply.Reply.{Reply}
 use Rattle.h2_session.specs.declared.reply.Reply.TheVariants as code
 

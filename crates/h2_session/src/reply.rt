@@ -4,12 +4,12 @@
 ghost use Rattle.std.specs.Prelude.{◌≡◌, ℕ, List, OnOk, false, is_err};
 ghost use Rattle.std.specs.Io.KnownBytes.{Appends};
 ghost use Rattle.h2_session.specs.Replies.{fault_line, number_line, reply_text, shown_text, why_text};
-ghost use Rattle.h2_why.specs.Why.{why_lines};
+ghost use Rattle.h2_describe.specs.Why.{why_lines};
 
 use h2_debug::Debugger;
+use h2_describe::why::WhyText;
 use h2_device::{DeviceFault, Number, Output, Text, texts};
 use h2_text::hex_text::OctetsText;
-use h2_why::WhyText;
 use std::alloc::Global;
 
 /// What is printed for a command.

@@ -5,7 +5,7 @@
 use crate::line::Call;
 use crate::programs::{input_of, words_of};
 use crate::trials::Answer;
-use h2_bench::{Ran, Words, run_in_memory};
+use h2_run::{Ran, Words, run_in_memory};
 use std::alloc::{AllocError, Global};
 use std::str;
 

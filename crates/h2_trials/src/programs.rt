@@ -6,7 +6,7 @@
 use crate::commands;
 use crate::line::Call;
 use crate::trials::Answer;
-use h2_bench::{Words, run};
+use h2_run::{Words, run};
 use std::alloc::{AllocError, Global};
 use std::io::{ErrorKind, Read, Write};
 use std::{io, str};

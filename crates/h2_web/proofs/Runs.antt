@@ -7,18 +7,18 @@ use Rattle.h2_spec.specs.Opening.{opening_octets}
 use Rattle.h2_spec.specs.State.{State, is_allowed, opening}
 use Rattle.h2_spec.specs.Trace.{trace}
 use Rattle.h2_spec.specs.View.{view}
-use Rattle.h2_answers.specs.Books.{book_of}
-use Rattle.h2_answers.specs.Faults as numbers
-use Rattle.h2_answers.specs.declared.fault.AnswerFault.{AnswerFault}
-use Rattle.h2_answers.specs.declared.fault.AnswerFault.TheVariants as answer
+use Rattle.h2_play.specs.Books.{book_of}
+use Rattle.h2_play.specs.Faults as numbers
+use Rattle.h2_play.specs.declared.fault.AnswerFault.{AnswerFault}
+use Rattle.h2_play.specs.declared.fault.AnswerFault.TheVariants as answer
 use Rattle.h2_conn.specs.Connection.{Connection, going}
 use Rattle.h2_conn.specs.Faults.{refusal_for}
 use Rattle.h2_conn.specs.declared.fault.ConnFault.{ConnFault}
 use Rattle.h2_conn.specs.declared.fault.ConnFault.TheVariants as conn
-use Rattle.h2_places.specs.Places.{StopsAt, Writes, item_text, items_shown, places_from, through, up_to}
-use Rattle.h2_places.specs.declared.places.PlacesFault.{PlacesFault}
-use Rattle.h2_places.specs.declared.places.PlacesFault.TheVariants as places
-use Rattle.h2_places.specs.declared.places.ShownPlaces.{ShownPlaces}
+use Rattle.h2_play.specs.Places.{StopsAt, Writes, item_text, items_shown, places_from, through, up_to}
+use Rattle.h2_play.specs.declared.places.PlacesFault.{PlacesFault}
+use Rattle.h2_play.specs.declared.places.PlacesFault.TheVariants as places
+use Rattle.h2_play.specs.declared.places.ShownPlaces.{ShownPlaces}
 use Rattle.h2_web.specs.Web.{RunText, RunsInto, ShowsRun, WritesFrom, answers_said, ended_as, refused_line, texts_from, texts_run, texts_shown, told}
 use Rattle.h2_web.specs.Whys.{why_texts}
 use Rattle.h2_web.specs.declared.fault.WebFault.{WebFault}

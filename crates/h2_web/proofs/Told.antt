@@ -14,7 +14,7 @@ use Rattle.h2_spec.proofs.TraceLaws.{event-uses}
 use Rattle.h2_conn.specs.Connection.{Connection}
 use Rattle.h2_conn.specs.Reports.{reported}
 use Rattle.h2_conn.specs.declared.report.TakenItem.{TakenItem}
-use Rattle.h2_places.proofs.Taken.{events, events-one, events-stop}
+use Rattle.h2_play.proofs.Taken.{events, events-one, events-stop}
 use Rattle.h2_web.specs.Whys.{TakesWhy, event_why, why_text, why_texts}
 use Rattle.h2_web.specs.declared.items.TakenWhy.{TakenWhy}
 

@@ -3,10 +3,10 @@ use Rattle.std.proofs.Common.{◌≡◌, ◌⊎◌, ℕ, Bool, true, false, List
 use Rattle.h2_spec.specs.Answer.{Entry}
 use Rattle.h2_spec.specs.State.{State, is_allowed, opening}
 use Rattle.h2_spec.specs.declared.connection.Config.{Config}
-use Rattle.h2_answers.specs.Books.{book_of}
-use Rattle.h2_answers.specs.Faults as numbers
-use Rattle.h2_answers.specs.declared.fault.AnswerFault.{AnswerFault}
-use Rattle.h2_answers.specs.declared.fault.AnswerFault.TheVariants as answer
+use Rattle.h2_play.specs.Books.{book_of}
+use Rattle.h2_play.specs.Faults as numbers
+use Rattle.h2_play.specs.declared.fault.AnswerFault.{AnswerFault}
+use Rattle.h2_play.specs.declared.fault.AnswerFault.TheVariants as answer
 use Rattle.h2_conn.specs.Connection.{Connection, going}
 use Rattle.h2_explain.specs.Explains.{Gains, IsExplanation, not_written}
 use Rattle.h2_explain.specs.declared.run.ExplainFault.{ExplainFault}

@@ -11,14 +11,14 @@ use Rattle.h2_spec.specs.Trace.{trace}
 use Rattle.h2_spec.specs.View.{view}
 use Rattle.h2_spec.specs.Written.{written}
 use Rattle.h2_spec.specs.declared.connection.Config.{Config}
-use Rattle.h2_answers.specs.Books.{book_of}
-use Rattle.h2_answers.specs.Faults as numbers
-use Rattle.h2_answers.specs.declared.fault.AnswerFault.{AnswerFault}
-use Rattle.h2_answers.specs.declared.fault.AnswerFault.TheVariants as answer
-use Rattle.h2_places.specs.Places.{item_text, items_shown, places_from, places_shown}
-use Rattle.h2_places.specs.declared.places.PlacesFault.{PlacesFault}
-use Rattle.h2_places.specs.declared.places.PlacesFault.TheVariants as places
-use Rattle.h2_places.specs.declared.places.ShownPlaces.{ShownPlaces}
+use Rattle.h2_play.specs.Books.{book_of}
+use Rattle.h2_play.specs.Faults as numbers
+use Rattle.h2_play.specs.declared.fault.AnswerFault.{AnswerFault}
+use Rattle.h2_play.specs.declared.fault.AnswerFault.TheVariants as answer
+use Rattle.h2_play.specs.Places.{item_text, items_shown, places_from, places_shown}
+use Rattle.h2_play.specs.declared.places.PlacesFault.{PlacesFault}
+use Rattle.h2_play.specs.declared.places.PlacesFault.TheVariants as places
+use Rattle.h2_play.specs.declared.places.ShownPlaces.{ShownPlaces}
 use Rattle.h2_web.specs.declared.answers.RefusedLine.{RefusedLine}
 use Rattle.h2_web.specs.declared.fault.CallEnd.{CallEnd}
 use Rattle.h2_web.specs.declared.fault.WebFault.{WebFault}

@@ -9,7 +9,7 @@ use Rattle.h2_spec.specs.Trace.{Event, next_event}
 use Rattle.h2_spec.specs.declared.causes.Cause.{Cause}
 use Rattle.h2_spec.specs.declared.ignored.Ignored.{Ignored}
 use Rattle.h2_conn.specs.Connection.{Connection, going}
-use Rattle.h2_why.specs.Why.{why_lines}
+use Rattle.h2_describe.specs.Why.{why_lines}
 use Rattle.h2_web.specs.declared.items.TakenWhy.{TakenWhy}
 
 -- the number of an item, and what `why` of `debug` says of it

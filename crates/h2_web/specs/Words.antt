@@ -3,8 +3,8 @@ use Rattle.std.specs.Prelude.{◌≡◌, ◌++◌, ℕ, true, false, List, [], O
 use Rattle.h2_spec.specs.Answer.{Entry}
 use Rattle.h2_spec.specs.State.{State, is_allowed, opening}
 use Rattle.h2_spec.specs.declared.connection.Config.{Config}
-use Rattle.h2_answers.specs.Books.{book_of}
-use Rattle.h2_answers.specs.Faults as numbers
+use Rattle.h2_play.specs.Books.{book_of}
+use Rattle.h2_play.specs.Faults as numbers
 use Rattle.h2_explain.specs.Explains.{IsExplanation}
 use Rattle.h2_explain.specs.declared.run.ExplainFault.{ExplainFault}
 use Rattle.h2_explain.specs.declared.run.ExplainFault.TheVariants as explain

@@ -1,14 +1,14 @@
 //! The book of a page: a line for each answer. Definitions: `specs/Web.antt`.
 
 ghost use Rattle.std.specs.Prelude.{◌≡◌, ◌⊎◌, [], Ok, Err, map, IfOk, IfErr, OnOk};
-ghost use Rattle.h2_answers.specs.Books.{book_of};
-ghost use Rattle.h2_answers.specs.Faults.{fault_number};
-ghost use Rattle.h2_answers.specs.declared.fault.AnswerFault.TheVariants.{NoMemory};
+ghost use Rattle.h2_play.specs.Books.{book_of};
+ghost use Rattle.h2_play.specs.Faults.{fault_number};
+ghost use Rattle.h2_play.specs.declared.fault.AnswerFault.TheVariants.{NoMemory};
 ghost use Rattle.h2_spec.specs.Script.{lines_of};
 ghost use Rattle.h2_web.specs.Web.{answers_said};
 
-use h2_answers::{AnswerFault, add_answer};
 use h2_entries::book::Book;
+use h2_play::{AnswerFault, add_answer};
 use std::alloc::{AllocError, Allocator};
 
 /// A line that was refused, from 1, and why.
@@ -36,7 +36,7 @@ fn answers_in<A: Allocator>(alloc: A, text: &[u8]) -> Result<Vec<&[u8], A>, Allo
 }
 
 /// Puts the answers that these lines say last in the book, from the first on; the first that is refused decides.
-#[tactic(auto, unfolding(h2_answers::specs::Books::book_of))]
+#[tactic(auto, unfolding(h2_play::specs::Books::book_of))]
 fn add_lines<A: Allocator + Copy>(
     alloc: A,
     book: &mut Book<A>,

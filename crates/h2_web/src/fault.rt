@@ -3,7 +3,7 @@
 ghost use Rattle.std.specs.Prelude.{◌≡◌};
 ghost use Rattle.h2_web.specs.Web.{end_of};
 
-use h2_answers::AnswerFault;
+use h2_play::AnswerFault;
 use h2_script::{SyntaxKind, kind_number};
 
 /// Why a call does not give all that it was asked for.

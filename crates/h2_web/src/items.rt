@@ -5,17 +5,17 @@ ghost use Rattle.std.specs.Io.KnownBytes.{Appends};
 ghost use Rattle.std.specs.List.{concat};
 ghost use Rattle.h2_spec.specs.Trace.{trace};
 ghost use Rattle.h2_conn.specs.Connection.{going};
-ghost use Rattle.h2_places.specs.Places.{StopsAt, items_shown, not_written, text_shown};
-ghost use Rattle.h2_places.specs.declared.places.PlacesFault.TheVariants.{NoMemory, NotWritten};
+ghost use Rattle.h2_play.specs.Places.{StopsAt, items_shown, not_written, text_shown};
+ghost use Rattle.h2_play.specs.declared.places.PlacesFault.TheVariants.{NoMemory, NotWritten};
 ghost use Rattle.h2_web.specs.Whys.{TakesAnyWhy, why_text, why_texts};
 
 use h2_conn::Conn;
+use h2_describe::why::WhyText;
 use h2_device::{DeviceFault, Number, Output, Text, texts};
-use h2_places::{PlacesFault, ShownPlaces, write_shown};
+use h2_play::{PlacesFault, ShownPlaces, write_shown};
 use h2_spec::causes::Cause;
 use h2_spec::ignored::Ignored;
 use h2_spec::octets::octets_from;
-use h2_why::WhyText;
 use std::alloc::{AllocError, Allocator};
 
 /// An item that was taken: how many octets it has, whether it ended the connection, and why it was an error or was

@@ -2,7 +2,7 @@
 
 ghost use Rattle.std.specs.Prelude.{◌≡◌, ◌≤◌, ◌<◌, ◌^◌, ℕ, List, [], Some, false, length, take};
 ghost use Rattle.h2_conn.specs.Connection.{going};
-ghost use Rattle.h2_places.specs.Places.{item_text};
+ghost use Rattle.h2_play.specs.Places.{item_text};
 ghost use Rattle.h2_spec.specs.View.{view};
 ghost use Rattle.h2_web.specs.declared.run.What.TheVariants as what;
 ghost use Rattle.h2_web.specs.Web.{Gives, RunsInto, RunText, ShowsRun, WritesFrom, asked_for, config_of, ended_as, refused_answer, told};
@@ -11,12 +11,11 @@ use crate::answers::{RefusedLine, book_in};
 use crate::fault::{CallEnd, WebFault};
 use crate::gathered::{PageOutput, put_text};
 use crate::items::write_whys;
-use h2_answers::AnswerFault;
 use h2_arena::{Arena, Free};
 use h2_conn::{Conn, ConnFault};
 use h2_device::Output;
 use h2_entries::book::Book;
-use h2_places::{PlacesFault, ShownPlaces, write_places};
+use h2_play::{AnswerFault, PlacesFault, ShownPlaces, write_places};
 use h2_spec::connection::Config;
 use std::alloc::Allocator;
 

@@ -1,6 +1,6 @@
 use Rattle.std.proofs.Common.{◌≡◌, ◌∙◌, ◌+◌, ap, arith, sym}
 use Rattle.h2_check.specs.Seen.{Sight, seen_by}
-use Rattle.h2_item_texts.proofs.TextLaws.{within_next}
+use Rattle.h2_check.proofs.TextLaws.{within_next}
 use Rattle.h2_check.proofs.Items.{rest_end, rest_next, seen_end, seen_next, state_end, state_next}
 use Rattle.h2_check.proofs.run.take_items.Goals as goal
 

@@ -1,6 +1,6 @@
 use Rattle.std.proofs.Common.{◌∙◌, Bor, List, ℕ, map, sym}
 use Rattle.std.proofs.lemmas.List.{at_drop_all}
-use Rattle.h2_answers.specs.Books.{book_of}
+use Rattle.h2_play.specs.Books.{book_of}
 use Rattle.h2_commands.proofs.books.add_answers.Goals as goal
 
 pub returns-clause-ok : goal.returns-clause-ok

@@ -1,6 +1,6 @@
 use Rattle.std.proofs.Common.{◌≡◌, ◌==◌, ◌∙◌, false, length, sym}
 use Rattle.std.proofs.lemmas.Result.{IfErr-weaker, on_ok_weaker}
-use Rattle.h2_commands.proofs.RefusedWords.{file-added, file-not-added, no-file}
+use Rattle.h2_commands.proofs.RefusedAnswers.{file-added, file-not-added, no-file}
 use Rattle.h2_commands.proofs.books.add_file.Goals as goal
 
 pub returns-then-is_empty-clause-ok : goal.returns-then-is_empty-clause-ok

@@ -1,5 +1,5 @@
 use Rattle.std.proofs.Common.{◌≡◌, drop, map}
-use Rattle.h2_answers.specs.Books.{book_of}
+use Rattle.h2_play.specs.Books.{book_of}
 use Rattle.h2_web.proofs.answers.add_lines.Given as goal
 
 abbrev pub invariant-loop-before : goal.invariant-loop-before

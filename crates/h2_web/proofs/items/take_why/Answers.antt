@@ -1,5 +1,5 @@
 use Rattle.std.proofs.Common.{◌∙◌, ap, is_some}
-use Rattle.h2_places.proofs.Taken.{event-state}
+use Rattle.h2_play.proofs.Taken.{event-state}
 use Rattle.h2_web.proofs.Told.{reported-event, some-mapped}
 use Rattle.h2_web.proofs.items.take_why.Goals as goal
 

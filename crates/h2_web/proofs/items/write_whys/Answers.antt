@@ -1,9 +1,9 @@
 use Rattle.std.proofs.Common.{rules, ◌≡◌, true, false, ◌∙◌, ◌+◌, ◌-◌, ◌++◌, List, ℕ, Result, Some, ap, arith}
 use Rattle.h2_spec.specs.Trace.{trace}
-use Rattle.h2_places.specs.Places.{before_last, not_written}
-use Rattle.h2_places.specs.declared.places.PlacesFault.{PlacesFault}
-use Rattle.h2_places.proofs.Spans.{cut-at, drop-next, ended-at, item-written, nothing-first, stopped-at, within-first, within-next}
-use Rattle.h2_places.proofs.Taken.{trace-events}
+use Rattle.h2_play.specs.Places.{before_last, not_written}
+use Rattle.h2_play.specs.declared.places.PlacesFault.{PlacesFault}
+use Rattle.h2_play.proofs.Spans.{cut-at, drop-next, ended-at, item-written, nothing-first, stopped-at, within-first, within-next}
+use Rattle.h2_play.proofs.Taken.{trace-events}
 use Rattle.h2_web.specs.Whys.{why_texts}
 use Rattle.h2_web.proofs.Told.{why-next, why-none, why-within}
 use Rattle.h2_web.proofs.items.write_whys.Goals as goal

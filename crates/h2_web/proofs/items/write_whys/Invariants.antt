@@ -2,7 +2,7 @@ use Rattle.std.proofs.Common.{◌≡◌, ◌≤◌, ◌+◌, ◌-◌, ℕ, List,
 use Rattle.std.specs.List.{concat}
 use Rattle.h2_spec.specs.Trace.{trace}
 use Rattle.h2_conn.specs.Connection.{going}
-use Rattle.h2_places.proofs.Taken.{events}
+use Rattle.h2_play.proofs.Taken.{events}
 use Rattle.h2_web.specs.Whys.{why_texts}
 use Rattle.h2_web.proofs.items.write_whys.Given as goal
 

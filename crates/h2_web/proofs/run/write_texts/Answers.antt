@@ -1,5 +1,5 @@
 use Rattle.h2_spec.specs.View.{view}
-use Rattle.h2_places.specs.Places.{item_text}
+use Rattle.h2_play.specs.Places.{item_text}
 use Rattle.h2_web.proofs.Runs.{places-written, whys-written}
 use Rattle.h2_web.proofs.run.write_texts.Goals as goal
 

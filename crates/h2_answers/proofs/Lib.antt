@@ -1,2 +1,0 @@
-pub mod AnswerTexts
-pub mod RefusedWords

@@ -1,3 +1,0 @@
-pub mod AnswerParts
-pub mod Books
-pub mod Faults

@@ -1,4 +1,0 @@
-mod InMemory
-mod Parsed
-mod Served
-mod Shown

@@ -1,0 +1,4 @@
+pub mod AnswerTexts
+pub mod RefusedWords
+pub mod Spans
+pub mod Taken

@@ -1,0 +1,4 @@
+pub mod AnswerParts
+pub mod Books
+pub mod Faults
+pub mod Places

@@ -1,0 +1,6 @@
+mod Checked
+mod Explained
+mod InMemory
+mod Parsed
+mod Served
+mod Shown

@@ -1,0 +1,19 @@
+use Rattle.std.proofs.Common.{◌≡◌, ℕ, rules, subst}
+use Rattle.h2_spec.specs.State.{is_allowed}
+use Rattle.h2_run.specs.ProgramEnd.{EndsInFault}
+use Rattle.h2_run.proofs.Served.{ends-at-once, ends-reported}
+use Rattle.h2_run.proofs.server.serve.Goals as goal
+
+pub returns-in-Err-clause-refused : goal.returns-in-Err-clause-refused
+returns-in-Err-clause-refused g c = λ quiet one. ends-at-once _ _ _ _ _ (c.refuse.ensures.line one)
+
+pub returns-in_default-clause-refused : goal.returns-in_default-clause-refused
+returns-in_default-clause-refused g c = λ quiet one. ends-at-once _ _ _ _ _ (c.refuse-in_default.ensures.line one)
+
+pub returns-clause-refused : goal.returns-clause-refused
+returns-clause-refused g c = λ quiet one.
+    let same : c.in-Ok-try_from.port ≡ c.args.plan.now.port = search rules in
+    subst (λ (p : ℕ). EndsInFault p c.args.plan.now.count (g.W.Write.contents c.args.output.now) (g.W.Write.contents c.status_of.new.output)) same
+    (ends-reported (is_allowed c.args.plan.now.config) c.in-Ok-try_from.port c.args.plan.now.count (g.W.Write.contents c.args.output.now)
+    (g.W.Write.contents c.listen_and_serve-ended.new.output) (g.W.Write.contents c.status_of.new.output) c.listen_and_serve-ended.result
+    c.listen_and_serve-ended.ensures (c.status_of.ensures.line one))

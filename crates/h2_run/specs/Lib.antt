@@ -1,0 +1,4 @@
+pub mod CheckProgram
+pub mod ExplainProgram
+pub mod Memory
+pub mod ProgramEnd
