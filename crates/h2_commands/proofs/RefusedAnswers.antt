@@ -1,5 +1,5 @@
 -- The book of answers: its file, then word after word.
-use Rattle.std.proofs.Common.{◌≡◌, ◌==◌, ◌<◌, ◌∙◌, ℕ, Bool, true, false, List, [], ◌∷◌, Option, Some, None, Result, Ok, Err, inl, inr, ◌⊎◌, refl, ap, sym, subst, arith, length, eqb-true, true≢false, lit<}
+use Rattle.std.proofs.Common.{◌≡◌, ◌==◌, ◌<◌, ◌∙◌, ℕ, Bool, true, false, List, [], ◌∷◌, Result, Ok, Err, inl, inr, ◌⊎◌, refl, ap, sym, subst, arith, length, eqb-true, true≢false, lit<}
 use Rattle.h2_spec.specs.Answer.{Entry}
 use Rattle.h2_book.specs.Entries.{Directory, book_of_file}
 use Rattle.h2_words.specs.Grammar.{BookAsked}

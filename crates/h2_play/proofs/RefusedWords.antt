@@ -1,5 +1,5 @@
 -- Words that say no answer.
-use Rattle.std.proofs.Common.{◌≡◌, ℕ, List, Option, Some, None, Result, Err, inl, inr, ◌⊎◌, refl}
+use Rattle.std.proofs.Common.{◌≡◌, ℕ, List, Option, Some, None, Err, inl, inr, ◌⊎◌, refl}
 use Rattle.h2_spec.specs.Answer.{Entry}
 use Rattle.h2_spec.specs.AnswerWords.{entry_of}
 use Rattle.h2_play.specs.AnswerParts.{refusal_of}

@@ -1,5 +1,5 @@
 -- Which places of a run are written, and what an output holds then.
-use Rattle.std.proofs.Common.{◌≡◌, ◌∙◌, ◌+◌, ◌-◌, ◌<◌, ◌≤◌, ℕ, zero, suc, List, [], ◌∷◌, ◌++◌, Option, Some, None, Result, Ok, Err, IfErr, IfSome, OnOk, Bool, true, false, length, take, drop, nat_le, nat_lt, if◌then◌else◌, refl, sym, ap, ap₂, subst, arith, append_assoc, length-take, length-drop}
+use Rattle.std.proofs.Common.{◌≡◌, ◌∙◌, ◌+◌, ◌-◌, ◌≤◌, ℕ, zero, suc, List, [], ◌∷◌, ◌++◌, Option, Some, None, Result, Ok, Err, IfErr, IfSome, OnOk, Bool, true, false, length, take, drop, nat_le, if◌then◌else◌, refl, sym, ap, ap₂, subst, arith, append_assoc, length-take, length-drop}
 use Rattle.std.specs.List.{concat}
 use Rattle.std.specs.Io.KnownBytes.{Appends}
 use Rattle.std.proofs.lemmas.Bool.Decides.{nat_tests}

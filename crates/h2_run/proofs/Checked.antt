@@ -1,15 +1,15 @@
 -- The results of cases, one after another.
-use Rattle.std.proofs.Common.{◌≡◌, ◌⊎◌, ◌∙◌, ◌++◌, ◌<◌, ◌≤◌, ◌==◌, ℕ, Bool, true, false, cond, List, [], ◌∷◌, Option, Some, None, Result, Ok, Err, length, map, flat_map, take, drop, drop-cons, get_or, Bor, ◌+◌, add-one, refl, sym, ap, ap₂, subst, inl, inr, append_assoc, arith, le-ltb, lt-ltb}
+use Rattle.std.proofs.Common.{◌≡◌, ◌∙◌, ◌++◌, ◌<◌, ◌≤◌, ℕ, Bool, true, false, List, [], ◌∷◌, Option, Some, None, Result, Ok, Err, length, map, take, drop, drop-cons, get_or, Bor, ◌+◌, add-one, refl, sym, ap, ap₂, subst, inl, inr, append_assoc, le-ltb, lt-ltb}
 use Rattle.std.proofs.lemmas.List.{append-nil, drop_all}
 use Rattle.std.proofs.lemmas.Str.{IsUtf8-from_is_utf8}
 use Rattle.std.specs.Option.{IsSomeAnd}
 use Rattle.std.specs.Str.{IsUtf8, is_utf8}
 use Rattle.std.specs.Io.KnownBytes.{Appends}
 use Rattle.h2_book.specs.Entries.{Directory}
-use Rattle.h2_check.specs.Cases.{Outcome, Fails}
+use Rattle.h2_check.specs.Cases.{Outcome}
 use Rattle.h2_cases.specs.Files.{case_length, cases_from}
 use Rattle.h2_cases.proofs.CaseLists.{case-at, none-left}
-use Rattle.h2_run.specs.CheckProgram.{AreReported, ChecksFiles, IsChecked, IsOneResult, IsPlanned, IsVerdict, PlansCases, Reports, ReportsOne, Subject, all_subjects, cases_if, cases_with, checked_after, first_tally, plan_line, subject, subjects_of, tallied, title_of, version_line}
+use Rattle.h2_run.specs.CheckProgram.{AreReported, ChecksFiles, IsChecked, IsOneResult, IsPlanned, IsVerdict, PlansCases, Reports, ReportsOne, Subject, all_subjects, cases_if, cases_with, checked_after, first_tally, subject, subjects_of, tallied, title_of, version_line}
 use Rattle.h2_commands.specs.Input.{most}
 use Rattle.h2_commands.specs.Printing.{failed_after}
 use Rattle.h2_run.specs.declared.check.CaseTally.{CaseTally}

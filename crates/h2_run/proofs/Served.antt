@@ -1,5 +1,5 @@
 -- How a server ends in a fault.
-use Rattle.std.proofs.Common.{◌≡◌, ◌∙◌, ◌≤◌, ℕ, ◌++◌, Bool, List, [], Option, Some, Result, Ok, Err, inl, inr, refl, sym, ap, subst, arith, append_assoc, length}
+use Rattle.std.proofs.Common.{◌∙◌, ◌≤◌, ℕ, ◌++◌, Bool, List, [], Option, Some, Result, Ok, Err, inl, inr, refl, sym, ap, subst, arith, append_assoc}
 use Rattle.std.proofs.lemmas.List.{append-nil}
 use Rattle.h2_commands.specs.Faults.{fault_line}
 use Rattle.h2_serve.specs.Lines.{listening_line, end_lines}

@@ -1,5 +1,3 @@
-use Rattle.std.proofs.Common.{◌≡◌, ◌∙◌, ◌⊎◌, ℕ, List, Result, Err, inl, inr, ap, sym}
-use Rattle.h2_spec.specs.Answer.{Entry}
 use Rattle.h2_commands.proofs.RefusedAnswers.{word-told}
 use Rattle.h2_commands.proofs.books.add_word.Goals as goal
 

@@ -1,4 +1,3 @@
-use Rattle.std.proofs.Common.{ℕ, List}
 use Rattle.h2_spec.specs.View.{view}
 use Rattle.h2_commands.specs.Printed.{item_text, places_from}
 use Rattle.h2_commands.proofs.Written.{all-places, some-places}

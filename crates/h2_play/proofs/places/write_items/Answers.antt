@@ -1,6 +1,4 @@
-use Rattle.std.proofs.Common.{rules, ◌≡◌, true, false, ◌∙◌, ◌+◌, ◌-◌, ◌++◌, List, ℕ, Result, Some, ap, arith, drop, refl, sym}
-use Rattle.std.specs.List.{concat}
-use Rattle.std.proofs.lemmas.List.{append-nil}
+use Rattle.std.proofs.Common.{rules, ◌≡◌, true, false, ◌∙◌, ◌+◌, ◌-◌, ◌++◌, List, ℕ, Result, Some, ap, arith, refl}
 use Rattle.h2_spec.specs.Trace.{trace}
 use Rattle.h2_play.specs.Places.{before_last, not_written, item_texts}
 use Rattle.h2_play.specs.declared.places.PlacesFault.{PlacesFault}

@@ -1,4 +1,4 @@
-use Rattle.std.proofs.Common.{◌∙◌, ℕ, List, sym}
+use Rattle.std.proofs.Common.{ℕ, List}
 use Rattle.h2_spec.specs.Trace.{trace}
 use Rattle.h2_spec.specs.View.{view}
 use Rattle.h2_play.specs.Places.{item_text, item_texts, text_shown}

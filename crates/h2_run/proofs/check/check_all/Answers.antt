@@ -1,6 +1,5 @@
-use Rattle.std.proofs.Common.{◌≡◌, ◌∙◌, Bor, List, Result, ℕ, ap, get_or, is_err, map, subst, sym}
-use Rattle.h2_book.specs.Entries.{Directory}
-use Rattle.h2_run.specs.CheckProgram.{Reports, all_subjects, common_of, subjects_of}
+use Rattle.std.proofs.Common.{◌∙◌, Result, ap, is_err, map}
+use Rattle.h2_run.specs.CheckProgram.{all_subjects, common_of}
 use Rattle.h2_commands.specs.Each.{not_written}
 use Rattle.h2_commands.specs.declared.each.PrintFault.{PrintFault}
 use Rattle.h2_run.proofs.Checked.{files_ended, files_stopped, files_went}

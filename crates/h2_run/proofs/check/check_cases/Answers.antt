@@ -1,4 +1,4 @@
-use Rattle.std.proofs.Common.{◌≡◌, ◌∙◌, ◌∷◌, [], Bor, true, false, length, List, Result, Some, ℕ, ap, arith, is_err, length-drop, map, subst, sym, take, drop}
+use Rattle.std.proofs.Common.{◌≡◌, ◌∙◌, ◌∷◌, [], Bor, true, false, length, List, Result, Some, ℕ, ap, arith, is_err, length-drop, map, subst, take, drop}
 use Rattle.h2_book.specs.Entries.{Directory}
 use Rattle.h2_cases.specs.Files.{case_length, cases_in}
 use Rattle.h2_run.specs.CheckProgram.{Reports, Subject, common_of, subject}

@@ -1,4 +1,4 @@
-use Rattle.std.proofs.Common.{◌≡◌, ◌∙◌, ◌≤◌, [], ◌∷◌, false, List, Option, None, ℕ, ap, arith, is_err, length, map, subst, sym}
+use Rattle.std.proofs.Common.{◌∙◌, ◌≤◌, false, List, Option, ℕ, ap, arith, is_err, length, map, subst, sym}
 use Rattle.std.specs.Str.{is_utf8}
 use Rattle.h2_book.specs.Entries.{Directory}
 use Rattle.h2_run.specs.CheckProgram.{Reports, cases_if, common_of, subject, subjects_of}

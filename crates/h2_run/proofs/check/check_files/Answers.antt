@@ -1,4 +1,4 @@
-use Rattle.std.proofs.Common.{◌≡◌, ◌∙◌, Bool, Err, true, false, Result, ap, is_err, map, subst, sym, List, ℕ}
+use Rattle.std.proofs.Common.{◌∙◌, Err, true, false, Result, ap, is_err, map, subst, sym, List, ℕ}
 use Rattle.h2_run.specs.CheckProgram.{ChecksFiles, Reports, all_subjects, common_of}
 use Rattle.h2_commands.specs.Each.{not_written}
 use Rattle.h2_run.specs.declared.check.CaseTally.{CaseTally}
