@@ -12,7 +12,7 @@ os.chdir(os.path.join(os.path.dirname(os.path.abspath(__file__)), '..'))
 # Specs that say words of rules, or list them, and not when they hold.
 WORDS = {'Cause', 'CauseWords', 'IgnoredWords', 'Rules', 'SpecialCases', 'ErrorContext', 'Special', 'Ignoring', 'Account'}
 # Crates whose functions decide; those above them speak of causes alone.
-DECIDING = ['h2_frame', 'h2_instruction', 'h2_fields', 'h2_well_formed', 'h2_mark', 'h2_rules', 'h2_block', 'h2_conn', 'h2_spec']
+DECIDING = ['h2_frame', 'h2_instruction', 'h2_fields', 'h2_well_formed', 'h2_mark', 'h2_rules', 'h2_conn', 'h2_spec']
 
 
 def lines_of(path):

@@ -5,10 +5,10 @@ use Rattle.std.proofs.lemmas.Fmt.{decimal_injective}
 use Rattle.std.proofs.lemmas.List.{append_cancel_right}
 use Rattle.h2_debug.specs.Debugging.{Debugging}
 use Rattle.h2_debug.specs.Places.{at, cause_at, ignored_at}
-use Rattle.h2_session.specs.Commands.{Command, command_of}
-use Rattle.h2_session.specs.Replies.{Obeys, answer, fault_line, number_line, place_text, reply_text}
-use Rattle.h2_session.specs.declared.reply.Reply.{Reply}
-use Rattle.h2_session.specs.declared.reply.Reply.TheVariants as code
+use Rattle.h2_debug.specs.Commands.{Command, command_of}
+use Rattle.h2_debug.specs.Replies.{Obeys, answer, fault_line, number_line, place_text, reply_text}
+use Rattle.h2_debug.specs.declared.reply.Reply.{Reply}
+use Rattle.h2_debug.specs.declared.reply.Reply.TheVariants as code
 use Rattle.h2_spec.specs.State.{ended_code}
 use Rattle.h2_spec.specs.declared.causes.Cause.{Cause}
 use Rattle.h2_spec.specs.declared.ignored.Ignored.{Ignored}

@@ -15,8 +15,8 @@ use Rattle.h2_spec.specs.declared.causes.Cause.{Cause}
 use Rattle.h2_spec.specs.declared.connection.Config.{Config}
 use Rattle.h2_spec.specs.declared.ignored.Ignored.{Ignored}
 use Rattle.h2_debug.specs.Debugging.{Debugging}
-use Rattle.h2_session.specs.Replies.{Answer}
-use Rattle.h2_session.specs.Session.{loaded}
+use Rattle.h2_debug.specs.Replies.{Answer}
+use Rattle.h2_debug.specs.Loaded.{loaded}
 use Rattle.h2_check.specs.Commands.{answered, debugger_or, is_refusal, text_by}
 use Rattle.h2_check.specs.Frames.{is_none, sends, spoken_by}
 use Rattle.h2_check.specs.ItemTexts.{AreTextsOf, octets_at, text_before}

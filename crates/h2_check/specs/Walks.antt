@@ -4,7 +4,7 @@ use Rattle.h2_conn.specs.Connection.{Connection, going}
 use Rattle.h2_spec.specs.Parse.{parse_all}
 use Rattle.h2_spec.specs.Trace.{next_event}
 use Rattle.h2_debug.specs.Debugging.{Debugging}
-use Rattle.h2_session.specs.Session.{loaded}
+use Rattle.h2_debug.specs.Loaded.{loaded}
 use Rattle.h2_check.specs.Blessed.{held_line, held_text, kept_line}
 use Rattle.h2_check.specs.Cases.{Outcome, Place, Start, Skipped, Holds, Fails, behind, holds, sight_above}
 use Rattle.h2_check.specs.Commands.{answered, debugger_or, is_refusal}

@@ -1,13 +1,12 @@
 //! Commands of a debugger in a case. Definitions: `specs/Commands.antt`.
 
 ghost use Rattle.std.specs.Prelude.{◌≡◌, ◌<◌, is_some, not, IfOk, IfSome};
-ghost use Rattle.h2_session.specs.Session.{loaded};
+ghost use Rattle.h2_debug.specs.Loaded.{loaded};
 ghost use Rattle.h2_check.specs.Commands.{answered, fault_in, is_memory_fault, is_refusal};
 
-use h2_debug::Debugger;
+use h2_debug::obey::obey;
+use h2_debug::{Debugger, Reply, command_of};
 use h2_entries::book::Book;
-use h2_session::obey::obey;
-use h2_session::{Reply, command_of};
 use h2_spec::connection::Config;
 use std::alloc::{AllocError, Global};
 

@@ -22,8 +22,8 @@ use Rattle.h2_spec.specs.Headers.{FrameEffect, fragment_decoded, fragment_read, 
 use Rattle.h2_spec.specs.State as state
 use Rattle.h2_rules.specs.Block.{cause_by, refused_end}
 use Rattle.h2_rules.specs.Open.{state_of}
-use Rattle.h2_block.specs.Blocks.{bad_end}
-use Rattle.h2_block.specs.Fragments.{HasFault, after_fragment, before_fragment}
+use Rattle.h2_conn.specs.OpenBlocks.{bad_end}
+use Rattle.h2_conn.specs.Fragments.{HasFault, after_fragment, before_fragment}
 
 -- the cause of a fault of the octets
 cause-named : (x : Fault) → cause_by (fault_of x) ≡ Some (fault_cause x)

@@ -8,11 +8,14 @@ pub mod Items
 mod InsideLaws
 pub mod FollowsLaws
 mod ApplyChangeLaws
+mod BlockLaws
 mod PartLaws
 mod PlainDataLaws
 pub mod Phases
 mod Plays
 mod RestoreLaws
+mod RequestOutcomeLaws
 mod RestLaws
 pub mod Runs
 pub mod Shortest
+mod TentativeLaws

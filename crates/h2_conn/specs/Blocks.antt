@@ -7,7 +7,7 @@ use Rattle.h2_spec.specs.DynamicTable.{LimitedTable, Table}
 use Rattle.h2_spec.specs.Headers as headers
 use Rattle.h2_spec.specs.State.{Decoding, OpenBlock, State}
 use Rattle.h2_spec.specs.Stream.{Records}
-use Rattle.h2_block.specs.Blocks.{block_after, decoding_in}
+use Rattle.h2_conn.specs.OpenBlocks.{block_after, decoding_in}
 pub use Rattle.h2_rules.specs.Open.{IsOpenAt}
 use Rattle.h2_table.specs.Edits.{EditOf, edited}
 

@@ -7,6 +7,8 @@ pub mod First
 pub mod Granted
 pub mod Checkpoint
 pub mod Follows
+pub mod Fragments
+pub mod OpenBlocks
 pub mod Parted
 pub mod Records
 pub mod Reports

@@ -13,8 +13,8 @@ ghost use Rattle.h2_conn.specs.Does.{Does};
 ghost use Rattle.h2_conn.specs.Records.{records};
 ghost use Rattle.h2_rules.specs.Sound.{IsSoundChange, in_force, updated_records};
 
+use crate::open_block::OpenBlock;
 use crate::state::State;
-use h2_block::OpenBlock;
 use h2_frame::Outgoing;
 use h2_rules::change::verdict_of;
 use h2_send::{send_and_update, with_sent, without, write_goaway};

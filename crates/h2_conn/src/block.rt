@@ -5,10 +5,11 @@ ghost use Rattle.std.specs.Prelude.{◌≡◌, Bool, IfOk};
 ghost use Rattle.h2_spec.specs.Headers as rule;
 ghost use Rattle.h2_table.specs.Edits.{IsEdit};
 ghost use Rattle.h2_conn.specs.Blocks.{effect_read, limited, with_table};
-ghost use Rattle.h2_block.specs.Fragments.{IsSized, IsUntouched, after_of, before_of};
+ghost use Rattle.h2_conn.specs.Fragments.{IsSized, IsUntouched, after_of, before_of};
 
+use crate::decoding::Decoding;
 use crate::state::State;
-use h2_block::{Decoding, Tentative};
+use crate::tentative::Tentative;
 use h2_rules::block::{fault_cause, is_block_too_large};
 use h2_spec::causes::Cause;
 use h2_spec::connection::BlockView;

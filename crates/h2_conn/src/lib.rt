@@ -4,20 +4,25 @@
 
 mod apply_change;
 mod block;
+mod block_end;
 mod checkpoint;
 mod conn;
+mod decoding;
 mod fault;
 mod feeding;
 mod first;
 mod headers_frame;
 mod item;
+mod kept_block;
 mod look;
 mod one;
+mod open_block;
 pub mod play;
 mod receive;
 pub mod report;
 mod scratch;
 mod state;
+mod tentative;
 pub mod view;
 
 pub use checkpoint::Checkpoint;

@@ -1,7 +1,7 @@
 //! Memory that one fragment of a field block leaves to the next. It is beside the state and lent with it, so that a
 //! fragment moves neither.
 
-use h2_block::Decoding;
+use crate::decoding::Decoding;
 use h2_spec::connection::Purpose;
 use h2_table::Edit;
 use std::alloc::Allocator;

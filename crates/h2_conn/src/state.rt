@@ -5,7 +5,7 @@ ghost use Rattle.std.specs.Prelude.{◌≡◌, IfOk};
 ghost use Rattle.h2_rules.specs.Sound.{AreInRange};
 ghost use Rattle.h2_spec.specs.State.{configured, opening, opening_core};
 
-use h2_block::{OpenBlock, copy_of};
+use crate::open_block::{OpenBlock, copy_of};
 use h2_entries::book::Book;
 use h2_spec::connection::{Config, ConnectionState, Phase};
 use h2_spec::flow::{Credit, LocalSettings, Settings, Window};

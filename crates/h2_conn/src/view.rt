@@ -3,8 +3,8 @@
 ghost use Rattle.std.specs.Prelude.{◌≡◌};
 ghost use Rattle.h2_spec.specs.View.{shown_block, view};
 
+use crate::open_block::OpenBlock;
 use crate::state::State;
-use h2_block::OpenBlock;
 use h2_spec::connection::BlockView;
 use h2_text::view::Shown;
 pub use h2_text::view::View;

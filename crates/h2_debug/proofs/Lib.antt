@@ -1,3 +1,4 @@
 pub mod BreakLaws
 pub mod KeptLaws
+pub mod Obeying
 pub mod PlaceLaws

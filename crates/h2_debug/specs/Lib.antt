@@ -1,7 +1,11 @@
 pub mod Breakpoints
+pub mod Commands
 pub mod Debugging
 pub mod Faults
 pub mod Items
+pub mod Loaded
 pub mod Places
 pub mod Reasons
+pub mod Replies
 pub mod Stops
+pub mod Words

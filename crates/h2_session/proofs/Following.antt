@@ -2,9 +2,9 @@
 use Rattle.std.proofs.Common.{◌≡◌, ◌∙◌, ◌-◌, ◌<◌, ◌≤◌, ℕ, Bool, true, false, List, [], ◌∷◌, ◌++◌, Option, Some, length, refl, ap, sym, subst}
 use Rattle.std.proofs.lemmas.List.{append_assoc, append-nil}
 use Rattle.h2_debug.specs.Debugging.{Debugging}
-use Rattle.h2_session.specs.Commands.{command_of}
+use Rattle.h2_debug.specs.Commands.{command_of}
 use Rattle.h2_session.specs.Reading.{IsCut, TakesLast, TakesLine, most}
-use Rattle.h2_session.specs.Replies.{Obeys}
+use Rattle.h2_debug.specs.Replies.{Obeys}
 use Rattle.h2_session.specs.Session.{IsAnswered, IsFollowed, Printed, closed}
 use Rattle.h2_session.specs.Takes.{TakesNext}
 use Rattle.h2_session.specs.declared.line.LineEnd.{LineEnd}

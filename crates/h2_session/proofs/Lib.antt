@@ -4,6 +4,5 @@ pub mod Beginning
 pub mod Following
 pub mod Giving
 pub mod Lines
-pub mod Obeying
 pub mod Short
 pub mod Taking

@@ -5,7 +5,7 @@ use Rattle.std.proofs.lemmas.List.{take_all, length-take-le, length-drop}
 use Rattle.std.proofs.lemmas.Slice.Eq.{bytes_eq-Decides}
 use Rattle.h2_spec.specs.Script.{max_u32}
 use Rattle.h2_spec.specs.Debug.{AtPosition, OnType, OnStream, OnSent}
-use Rattle.h2_session.specs.Commands.{Step, Back, Go, BreakOn, behind, break_of, command_of, longest, numbered, read_behind, word_of}
+use Rattle.h2_debug.specs.Commands.{Step, Back, Go, BreakOn, behind, break_of, command_of, longest, numbered, read_behind, word_of}
 
 -- more than 10 digits are no number
 number-long : {R : Type 0} (make : ℕ → R) (most : ℕ) (text : List ℕ) → 10 < length text → numbered make most text ≡ None

@@ -4,7 +4,7 @@ use Rattle.std.proofs.lemmas.List.Folds.{list_any-append}
 use Rattle.memchr.specs.Find.{Nowhere, Passes, is_byte}
 use Rattle.std.proofs.lemmas.List.{append-nil, length-append, take_all, take-append-le, length-take-le}
 use Rattle.std.specs.Io.KnownBytes.{Consumes, IsAtEnd}
-use Rattle.h2_session.specs.Commands.{longest}
+use Rattle.h2_debug.specs.Commands.{longest}
 use Rattle.h2_session.specs.Reading.{IsPlain, IsTaken, IsUnread, IsCut, TakesLast, TakesLine}
 use Rattle.h2_session.proofs.Ahead.{takes-more}
 

@@ -1,10 +1,7 @@
-pub mod Commands
 pub mod Faults
 pub mod Lines
 pub mod Loading
 pub mod Reading
-pub mod Replies
 pub mod Responses
 pub mod Session
 pub mod Takes
-pub mod Words

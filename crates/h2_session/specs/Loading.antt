@@ -4,7 +4,7 @@ use Rattle.h2_spec.specs.State.{is_allowed}
 use Rattle.h2_spec.specs.declared.connection.Config.{Config}
 use Rattle.h2_spec.specs.Answer.{Entry}
 use Rattle.h2_debug.specs.Debugging.{Debugging}
-use Rattle.h2_session.specs.Session.{loaded}
+use Rattle.h2_debug.specs.Loaded.{loaded}
 use Rattle.h2_session.specs.declared.fault.SessionFault.{SessionFault}
 use Rattle.h2_session.specs.declared.fault.SessionFault.TheVariants.{BadConfig, BadHex, NoMemory}
 

@@ -5,11 +5,12 @@ use Rattle.h2_spec.specs.State.{is_allowed}
 use Rattle.h2_spec.specs.declared.connection.Config.{Config}
 use Rattle.h2_spec.specs.Answer.{Entry}
 use Rattle.h2_debug.specs.Debugging.{Debugging}
-use Rattle.h2_session.specs.Commands.{Command, command_of}
+use Rattle.h2_debug.specs.Commands.{Command, command_of}
+use Rattle.h2_debug.specs.Loaded.{loaded}
 use Rattle.h2_hex.specs.HexText.{octets_spelled}
 use Rattle.h2_session.specs.Lines.{ended_lines, lines_of}
 use Rattle.h2_session.specs.Reading.{most}
-use Rattle.h2_session.specs.Replies.{Obeys, fault_line}
+use Rattle.h2_debug.specs.Replies.{Obeys, fault_line}
 
 -- a text that is printed, and the exit status
 pub record Printed : Type 0 where
@@ -24,10 +25,6 @@ failed fault = record { text = fault_line fault; status = 1 }
 abbrev pub closed : Bool → List ℕ → Printed
 closed true text = record { text = text; status = 0 }
 closed false text = record { text = text ++ fault_line 22; status = 1 }
-
--- a new debugger
-abbrev pub loaded : List Entry → Config → List ℕ → Debugging
-loaded book config octets = record { run = record { book = book; config = config; octets = octets }; breaks = []; position = 0; reached = 0; ran = 0; replayed = 0 }
 
 -- the answers to lines, one after another
 abbrev pub RespondsWith : Debugging → List (List ℕ) → List ℕ → Type 0

@@ -1,6 +1,6 @@
 -- What is taken of an input for a line, and why none is taken.
 use Rattle.std.specs.Prelude.{◌≡◌, ◌⊎◌, ◌<◌, ℕ, Bool, false, List, [], length, take, Option, Some, None}
-use Rattle.h2_session.specs.Commands.{longest}
+use Rattle.h2_debug.specs.Commands.{longest}
 use Rattle.h2_session.specs.Reading.{TakesLast, TakesLine}
 use Rattle.h2_session.specs.declared.fault.SessionFault.{SessionFault}
 use Rattle.h2_session.specs.declared.fault.SessionFault.TheVariants.{BadHex, NoMemory, Read}

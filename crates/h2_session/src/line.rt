@@ -2,7 +2,7 @@
 //! command goes. Definitions: `specs/Lines.antt`, `specs/Reading.antt`.
 
 ghost use Rattle.std.specs.Prelude.{◌≡◌, ◌⊎◌, ◌<◌, ◌≤◌, false, [], ◌∷◌, ◌++◌, Some, None, length, take, IfOk, IfErr, IfSome, OnOk, OnErr};
-ghost use Rattle.h2_session.specs.Commands.{longest};
+ghost use Rattle.h2_debug.specs.Commands.{longest};
 ghost use Rattle.h2_hex.specs.HexText.{octets_spelled};
 ghost use Rattle.h2_session.specs.Reading.{IsCut, ahead, most};
 ghost use Rattle.h2_session.specs.declared.line.LineEnd.TheVariants.{Input};

@@ -4,22 +4,21 @@
 ghost use Rattle.std.specs.Prelude.{◌≡◌, ◌==◌, ◌-◌, ◌≤◌, ℕ, List, Some, false, IfErr, IfOk, OnErr, OnOk, is_err};
 ghost use Rattle.h2_spec.specs.State.{is_allowed};
 ghost use Rattle.h2_session.specs.Faults.{fault_number};
-ghost use Rattle.h2_session.specs.Commands.{command_of};
+ghost use Rattle.h2_debug.specs.Commands.{command_of};
 ghost use Rattle.h2_hex.specs.HexText.{octets_spelled};
 ghost use Rattle.h2_session.specs.Reading.{ahead, most};
-ghost use Rattle.h2_session.specs.Replies.{Obeys, reply_text};
+ghost use Rattle.h2_debug.specs.Replies.{Obeys, reply_text};
 ghost use Rattle.h2_session.specs.Session.{AnswersLine, IsFollowed, IsSession, Prints, Printed, failed};
 ghost use Rattle.h2_session.specs.Responses.{IsRefusal, IsResponse};
 ghost use Rattle.h2_session.specs.declared.line.LineEnd.TheVariants.{Input as LastLine};
 ghost use Rattle.h2_session.specs.Loading.{Loads, load_fault};
 
-use crate::command::command_of;
 use crate::fault::SessionFault;
 use crate::line::{LineEnd, LineStart, next_line, spelled, take_line};
-use crate::obey::obey;
 use crate::reader::Reader;
-use crate::reply::{FaultLine, Reply, ReplyText, write_flushed};
-use h2_debug::Debugger;
+use crate::written::write_flushed;
+use h2_debug::obey::obey;
+use h2_debug::{Debugger, FaultLine, Reply, ReplyText, command_of};
 use h2_device::{DeviceFault, Input, Output};
 use h2_entries::book::Book;
 use h2_hex::is_hex_text;

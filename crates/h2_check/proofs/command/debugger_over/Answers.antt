@@ -1,6 +1,6 @@
 use Rattle.std.proofs.Common.{◌∙◌, ap}
 use Rattle.std.specs.List.{each_same}
-use Rattle.h2_session.specs.Session.{loaded}
+use Rattle.h2_debug.specs.Loaded.{loaded}
 use Rattle.h2_check.proofs.command.debugger_over.Goals as goal
 
 pub returns-in-Ok-load : goal.returns-in-Ok-load

@@ -1,5 +1,5 @@
 use Rattle.std.proofs.Common.{◌∙◌, ℕ, List, ◌∷◌, ◌++◌, [], ap, arith, take}
-use Rattle.h2_session.specs.Commands.{longest}
+use Rattle.h2_debug.specs.Commands.{longest}
 use Rattle.h2_session.proofs.Taking.{keeps-more, taken-line, taken-octet}
 use Rattle.h2_session.proofs.line.next_line.Goals as goal
 

@@ -1,5 +1,5 @@
 use Rattle.std.proofs.Common.{◌≡◌, ◌-◌, ℕ, List, false, take}
-use Rattle.h2_session.specs.Commands.{longest}
+use Rattle.h2_debug.specs.Commands.{longest}
 use Rattle.h2_session.specs.Reading.{IsTaken, ahead}
 use Rattle.h2_session.proofs.line.next_line.Given as goal
 

@@ -1,6 +1,6 @@
 use Rattle.std.proofs.Common.{◌∙◌, ◌++◌, ℕ, List, [], ◌∷◌, true, false, Some, ap, refl, sym, append_assoc, is_err}
 use Rattle.std.proofs.lemmas.List.{append-nil}
-use Rattle.h2_session.specs.Commands.{command_of}
+use Rattle.h2_debug.specs.Commands.{command_of}
 use Rattle.h2_session.specs.Reading.{ahead}
 use Rattle.h2_session.specs.Session.{closed}
 use Rattle.h2_session.proofs.Appending.{appended-more}

@@ -5,7 +5,7 @@ use Rattle.h2_spec.specs.Effect.{concluded, effect_verdict}
 use Rattle.h2_spec.specs.Headers.{FrameEffect, block_ends, fragment_read}
 use Rattle.h2_spec.specs.State.{Decoding, State}
 use Rattle.h2_spec.specs.Stream.{Records}
-use Rattle.h2_block.specs.Fragments.{after_of}
+use Rattle.h2_conn.specs.Fragments.{after_of}
 use Rattle.h2_rules.specs.Open.{IsOpenAt, state_of}
 use Rattle.h2_rules.specs.Sound.{IsSoundState}
 use Rattle.h2_conn.specs.Blocks.{makes_open, with_table}

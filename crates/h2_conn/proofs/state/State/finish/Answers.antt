@@ -6,9 +6,9 @@ use Rattle.h2_spec.specs.State.{OpenBlock, State}
 use Rattle.h2_spec.specs.Trace.{then_sent}
 use Rattle.h2_table.specs.Edits.{IsEdit, edited}
 use Rattle.h2_conn.specs.Blocks.{IsOpenFor, limited}
-use Rattle.h2_block.specs.Blocks.{block_after}
+use Rattle.h2_conn.specs.OpenBlocks.{block_after}
 use Rattle.h2_conn.specs.Does.{Does}
-use Rattle.h2_block.specs.Fragments.{after_of}
+use Rattle.h2_conn.specs.Fragments.{after_of}
 use Rattle.h2_conn.proofs.ApplyChangeLaws.{stopped-open}
 use Rattle.h2_conn.proofs.FinishLaws.{open-then, rebound, same-settings, same-table}
 use Rattle.h2_conn.proofs.state.State.finish.Goals as goal

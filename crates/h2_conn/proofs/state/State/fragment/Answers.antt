@@ -8,7 +8,7 @@ use Rattle.h2_fields.specs.declared.collected.Savepoint.{Savepoint}
 use Rattle.h2_instruction.specs.declared.fault.BlockFault.TheVariants.{NoMemory}
 use Rattle.h2_rules.specs.Block.{cause_by}
 use Rattle.h2_conn.specs.Blocks.{limited}
-use Rattle.h2_block.specs.Fragments.{HasFault, after_fragment, after_of, before_fragment, before_of}
+use Rattle.h2_conn.specs.Fragments.{HasFault, after_fragment, after_of, before_fragment, before_of}
 use Rattle.h2_conn.proofs.FragmentLaws.{fragment-faulty, fragment-read, not-memory}
 use Rattle.h2_conn.proofs.state.State.fragment.Goals as goal
 

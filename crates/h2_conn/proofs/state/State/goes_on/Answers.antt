@@ -5,7 +5,7 @@ use Rattle.h2_spec.specs.declared.reactions.Change.{Change}
 use Rattle.h2_spec.specs.Effect.{concluded, effect_verdict}
 use Rattle.h2_spec.specs.Headers as rule
 use Rattle.h2_spec.specs.State.{Decoding}
-use Rattle.h2_block.specs.Fragments.{after_of}
+use Rattle.h2_conn.specs.Fragments.{after_of}
 use Rattle.h2_conn.specs.Blocks.{makes_open}
 use Rattle.h2_conn.specs.Does.{Does, stepped}
 use Rattle.h2_conn.proofs.state.State.goes_on.Given.{Over}

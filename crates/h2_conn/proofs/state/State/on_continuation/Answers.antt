@@ -11,7 +11,7 @@ use Rattle.h2_spec.specs.FrameType.{END_HEADERS, has}
 use Rattle.h2_spec.specs.Headers as headers
 use Rattle.h2_spec.specs.Headers.{Breaks, FrameEffect, Makes}
 use Rattle.h2_spec.specs.State.{OpenBlock, Decoding, State}
-use Rattle.h2_block.specs.Blocks.{decoding_in}
+use Rattle.h2_conn.specs.OpenBlocks.{decoding_in}
 use Rattle.h2_conn.specs.Blocks.{decoding_of}
 use Rattle.h2_conn.specs.Does.{Does, stepped, stopped}
 use Rattle.h2_conn.proofs.state.State.on_continuation.Goals as goal

@@ -8,7 +8,7 @@ use Rattle.h2_spec.specs.Effect.{concluded, effect_verdict}
 use Rattle.h2_spec.specs.Headers.{Breaks, FrameEffect, fragment, fragment_read}
 use Rattle.h2_spec.specs.State.{Decoding, State}
 use Rattle.h2_spec.specs.Stream.{Records}
-use Rattle.h2_block.specs.Fragments.{after_of}
+use Rattle.h2_conn.specs.Fragments.{after_of}
 use Rattle.h2_rules.specs.Open.{IsOpenAt}
 use Rattle.h2_conn.specs.Blocks.{effect_read, with_table}
 use Rattle.h2_conn.specs.Does.{Does, stepped}

@@ -1,3 +1,0 @@
-mod BlockLaws
-mod RequestOutcomeLaws
-mod TentativeLaws
