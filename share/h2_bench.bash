@@ -11,8 +11,8 @@ _h2_bench() {
         dis) words="--in --raw --quiet --help" ;;
         table) words="--in --quiet --help" ;;
         debug) words="--streams --credit --table --window --frame --book --why --quiet --in --raw --prompt --help" ;;
-        serve) words="--streams --credit --table --window --frame --explain --times --record --json --color --strict --full --book --why --quiet --help" ;;
-        explain) words="--streams --credit --table --window --frame --json --color --strict --full --book --why --quiet --raw --help" ;;
+        serve) words="--streams --credit --table --window --frame --explain --times --record --json --color --strict --full --brief --errors --stream --book --why --quiet --help" ;;
+        explain) words="--streams --credit --table --window --frame --json --color --strict --full --brief --errors --stream --book --why --quiet --in --raw --help" ;;
         check) words="--streams --credit --table --window --frame --book --bless --in-place --quiet --help" ;;
     esac
     if [[ $current == -* ]]; then
@@ -21,7 +21,7 @@ _h2_bench() {
         mapfile -t COMPREPLY < <(compgen -W "dot line" -- "$current")
     else
         case ${COMP_WORDS[1]}:$before in
-            explain:* | check:* | *:--book | *:--in) mapfile -t COMPREPLY < <(compgen -f -- "$current") ;;
+            play:* | asm:* | dis:* | table:* | debug:* | explain:* | check:* | *:--book | *:--in) mapfile -t COMPREPLY < <(compgen -f -- "$current") ;;
             help:help) mapfile -t COMPREPLY < <(compgen -W "play asm dis table debug serve explain check" -- "$current") ;;
         esac
     fi

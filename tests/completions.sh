@@ -10,14 +10,14 @@ lines() {
         'h2_bench ex' 'explain !play' \
         'h2_bench --v' '--version' \
         'h2_bench play --' '--streams --credit --table --window --frame --cut --each --book --quiet --in --raw --help !--json' \
-        'h2_bench explain --' '--json --color --strict --full --book --raw !--in !--cut' \
+        'h2_bench explain --' '--json --color --strict --full --brief --errors --stream --book --raw --in !--cut' \
         'h2_bench explain examples/clo' 'examples/closed.h2 examples/closed.hex' \
         'h2_bench check examples/ba' 'examples/bad.h2' \
         'h2_bench play --in examples/g' 'examples/get.h2 examples/get.hex' \
         'h2_bench play --book examples/s' 'examples/site.toml examples/stops.h2' \
         'h2_bench debug --prompt ' 'dot line' \
-        'h2_bench table examples/g' '!examples/get.h2' \
-        'h2_bench asm ' '!README.md' \
+        'h2_bench table examples/g' 'examples/get.h2' \
+        'h2_bench asm ' 'README.md' \
         'h2_bench help ' 'play check'
 }
 

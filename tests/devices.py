@@ -185,6 +185,15 @@ def terminals_have_a_prompt(program):
         yield b"0> " in shown and b"at 1" in shown and b"1> " in shown, True
 
 
+def many_refused_lines_are_counted(program):
+    """The first hundred lines that `table` refuses have a sentence each, the others one for all."""
+    ran = subprocess.run(["h2_bench", "table", "100"], executable=program, input=1_000 * b"x\n", capture_output=True, check=False)
+    said = ran.stderr.decode().splitlines()
+    yield ran.stdout == 1_000 * b"fault 27\n", True
+    yield (len(said), said[0]), (101, "standard input, line 1: `x` is no command; one is add NAME VALUE or max N.")
+    yield said[-1], "standard input: 900 more lines were refused."
+
+
 TESTS = [
     a_closed_output_is_status_3,
     a_reader_that_leaves_is_status_3,
@@ -194,6 +203,7 @@ TESTS = [
     a_limit_on_files_is_status_3,
     terminals_have_colours_but_dumb_ones,
     terminals_have_a_prompt,
+    many_refused_lines_are_counted,
 ]
 
 

@@ -3,7 +3,7 @@
 
 A client opens its windows and asks for a body of 1 MiB again and again. A row is bounded where this takes at most 32 MiB more than an answer that is one
 octet. Memory is the peak of resident memory that the kernel counts. `serve` is read from as fast as it writes, over 127.0.0.1. It prints a table in Markdown;
-with WORD the rows that have it in their name. The status is 1 where a program doesn't answer all. tests/floods.sh calls it.
+with WORD the rows that have it in their name. The status is 1 where a program doesn't answer all. tests/floods.py calls it.
 """
 
 import os

@@ -13,9 +13,11 @@
 #   - `play --each`: with status 1 and `fault 0` behind the first places, each of them whole;
 #   - `table`: with status 1 and `fault 0` behind the first lines of its output, each of them whole;
 #   - `debug`: with the one line `fault 0` as the answer to one command other than `show` and `clear`, and all other answers as if that command were not
-#     there;
+#     there; with `--prompt`, or as the answer to each `explain` and `list`;
+#   - `explain`: with status 1 and `fault 0` behind the first lines of its output, each of them whole;
 #   - `serve`: with `fault 0` behind `listening PORT`, or with `connection 1 fault 0`; the client has received the first octets of what it
-#     receives with ample memory.
+#     receives with ample memory. Where it explains, the first lines of that may be there, each of them whole. With `--strict` the status is 1, or the verdict
+#     with ample memory: never 0 for a client that broke a rule.
 # Standard error has sentences of the run with ample memory, those that say that memory is out, and, of a server, that a connection could not be accepted, and nothing
 # else. The last line is `N passed, M failed`, a run each.
 set -eu
@@ -32,38 +34,9 @@ fi
 made=$(mktemp -d)
 trap 'rm -rf "$made"' EXIT
 
-cat > "$made/refuse.c" <<'C'
-extern void *__libc_malloc(unsigned long size);
-extern void *__libc_calloc(unsigned long count, unsigned long size);
-extern void *__libc_realloc(void *old, unsigned long size);
-extern void *__libc_memalign(unsigned long align, unsigned long size);
-extern char *getenv(const char *name);
-extern long atol(const char *text);
-extern long write(int file, const void *octets, unsigned long count);
-extern int *__errno_location(void);
-enum { NO_MEMORY = 12 }; /* ENOMEM */
-static long left; /* the calls up to the one that is refused; 0: none is refused any more */
-__attribute__((constructor)) static void begin(void) {
-    const char *text = getenv("REFUSED_CALL");
-    left = text ? atol(text) : 0;
-}
-static int refuses(void) {
-    if (left == 0 || --left > 0) return 0;
-    *__errno_location() = NO_MEMORY;
-    return write(9, "x", 1) != 0; /* the script reads from this file that a call was refused */
-}
-void *malloc(unsigned long size) { return refuses() ? 0 : __libc_malloc(size); }
-void *calloc(unsigned long count, unsigned long size) { return refuses() ? 0 : __libc_calloc(count, size); }
-void *realloc(void *old, unsigned long size) { return refuses() ? 0 : __libc_realloc(old, size); }
-int posix_memalign(void **at, unsigned long align, unsigned long size) {
-    if (refuses()) return NO_MEMORY;
-    *at = __libc_memalign(align, size);
-    return *at ? 0 : NO_MEMORY;
-}
-C
 # No header and no start files: the C library is the program's.
 kit=$(dirname "$(dirname "$(readlink -f "$(command -v rt)")")")
-"$kit/toolchain/bin/clang" --target=x86_64-unknown-linux-gnu -O1 -shared -fPIC -nostdlib -fuse-ld=lld -o "$made/refuse.so" "$made/refuse.c"
+"$kit/toolchain/bin/clang" --target=x86_64-unknown-linux-gnu -O1 -shared -fPIC -nostdlib -fuse-ld=lld -o "$made/refuse.so" "$top/tests/refuse.c"
 
 # Runs the program on $made/input: its N-th allocation is refused, or none where N is 0. Leaves output, errors, status, and what was refused.
 run() {
@@ -89,6 +62,7 @@ end() {
 }
 
 printf 'fault 0\n' > "$made/fault"
+printf 'fault 0\n.\n' > "$made/fault-dot"
 
 # Whether the output is some first places of the whole, and then the fault.
 is_cut_between_places() {
@@ -108,23 +82,37 @@ is_cut_between_lines() {
     [ -z "$(head -c "$length" "$made/output" | tail -c 1)" ]
 }
 
-# What a session prints where one of its commands is refused memory: a file for each command that takes some.
+# refused_sessions FIRST WORD..: what a session with these words prints where one of its commands is refused memory, a file for each command that takes some. The
+# first command is on line FIRST.
 refused_sessions() {
-    local lines line length
+    local lines line length first=$1 fault=$made/fault
+    shift
+    case " $* " in *' --prompt dot '*) fault=$made/fault-dot ;; esac
     lines=$(wc -l < "$made/input")
     cp "$made/input" "$made/session"
-    for line in $(seq 2 "$lines"); do
+    for line in $(seq "$first" "$lines"); do
         case $(sed -n "${line}p" "$made/session") in show | clear) continue ;; esac
         head -n $((line - 1)) "$made/session" > "$made/input"
-        run 0 debug
+        run 0 "$@"
         length=$(wc -c < "$made/output")
         cp "$made/output" "$made/session-$line"
-        cat "$made/fault" >> "$made/session-$line"
+        cat "$fault" >> "$made/session-$line"
         sed "${line}d" "$made/session" > "$made/input"
-        run 0 debug
+        run 0 "$@"
         tail -c "+$((length + 1))" "$made/output" >> "$made/session-$line"
     done
     cp "$made/session" "$made/input"
+}
+
+# A session for programs that was refused memory for what it keeps of its octets: each `explain` and `list` answers `fault 0`.
+cut_session() {
+    python3 -c '
+import sys
+commands = open(sys.argv[1]).read().splitlines()[1:]
+answers = open(sys.argv[2]).read().split("\n.\n")
+for command, answer in zip(commands, answers):
+    print("fault 0" if command in ("explain", "list") else answer, ".", sep="\n")
+' "$made/input" "$made/whole" > "$made/session-cut"
 }
 
 is_session_with_a_refusal() {
@@ -139,7 +127,7 @@ is_session_with_a_refusal() {
 ends_well() {
     if cmp -s "$made/output" "$made/whole" && [ "$status" = "$whole_status" ]; then
         spared=$((spared + 1))
-    elif [ "$status" = 1 ] && cmp -s "$made/output" "$made/fault"; then
+    elif [ "$status" = 1 ] && { cmp -s "$made/output" "$made/fault" || cmp -s "$made/output" "$made/fault-dot"; }; then
         alone=$((alone + 1))
     elif [ "$kind" = places ] && [ "$status" = 1 ] && is_cut_between_places; then
         behind=$((behind + 1))
@@ -163,7 +151,13 @@ refuse_each() {
     whole_status=$status
     if [ "$whole_status" != 0 ]; then fail 0 "status $status with ample memory"; fi
     rm -f "$made"/session-*
-    if [ "$kind" = session ]; then refused_sessions; fi
+    if [ "$kind" = session ]; then
+        case " $* " in
+        *' --in '*) refused_sessions 1 "$@" ;;
+        *) refused_sessions 2 "$@" ;;
+        esac
+        case " $* " in *' --prompt dot '*) cut_session ;; esac
+    fi
     alone=0 behind=0 spared=0
     local call
     for ((call = 1; ; call++)); do
@@ -181,43 +175,6 @@ refuse_each() {
     if [ "$alone" = 0 ]; then fail 1 "no run ended in 'fault 0': is the malloc of this script loaded?"; fi
 }
 
-cat > "$made/client.py" <<'PYTHON'
-"""client.py PORT PROCESS: sends standard input to a server of this process, ends its side, and prints what it receives."""
-import socket
-import sys
-import time
-
-port, process = int(sys.argv[1]), sys.argv[2]
-
-
-def has_ended():
-    try:
-        with open(f"/proc/{process}/stat", encoding="ascii") as stat:
-            return stat.read().rsplit(")", 1)[1].split()[0] == "Z"
-    except FileNotFoundError:
-        return True
-
-
-while not has_ended():
-    try:
-        peer = socket.create_connection(("127.0.0.1", port), timeout=10)
-        break
-    except ConnectionRefusedError:
-        time.sleep(0.002)
-else:
-    sys.exit(0)
-try:
-    peer.sendall(sys.stdin.buffer.read())
-    peer.shutdown(socket.SHUT_WR)
-except OSError:
-    pass  # the server has ended the connection
-try:
-    while octets := peer.recv(65536):
-        sys.stdout.buffer.write(octets)
-except ConnectionError:
-    pass
-PYTHON
-
 # Serves one connection, whose client sends $made/input as octets; leaves as `run` does, and what the client received.
 serve() {
     local call=$1 server
@@ -227,7 +184,7 @@ serve() {
     port=$((20000 + RANDOM % 20000))
     REFUSED_CALL=$call LD_PRELOAD=$made/refuse.so "$program" serve "$port" 1 "$@" > "$made/output" 2> "$made/errors" 9> "$made/refused" &
     server=$!
-    python3 "$made/client.py" "$port" "$server" < "$made/octets" > "$made/received"
+    python3 "$top/tests/clients/refused.py" "$port" "$server" < "$made/octets" > "$made/received"
     wait "$server" || status=$?
 }
 
@@ -245,23 +202,56 @@ serves_well() {
     esac
 }
 
-# refuse_each_served NAME ANSWER..: all runs of a server with these answers.
+# The lines of the output, without what differs from run to run: the port and the times.
+lines_printed() {
+    sed -E 's/^\+[0-9]+ //; s/^\{"time":[0-9]+,/{/; s/^listening .*/listening/' "$made/output"
+}
+
+# Whether a server that explains ended as it may end where memory was refused.
+explains_well() {
+    local received last
+    received=$(wc -c < "$made/received")
+    head -c "$received" "$made/whole" | cmp -s - "$made/received" || return 1
+    lines_printed > "$made/lines"
+    if cmp -s "$made/lines" "$made/whole-lines" && [ "$status" = "$whole_status" ]; then
+        spared=$((spared + 1))
+        return
+    fi
+    last=$(tail -n 1 "$made/lines")
+    sed -i '$d' "$made/lines"
+    if [ "$last" = 'fault 0' ]; then
+        [ "$status" = 1 ] || return 1
+        # The line of the connection is printed before it.
+        sed -i '${/^connection 1 \(end\|fault\)/d}' "$made/lines"
+    else
+        [ "$last" = 'connection 1 fault 0' ] || return 1
+        [ "$status" = "$whole_status" ] || { [ "$whole_status" != 0 ] && [ "$status" = 1 ]; } || return 1
+    fi
+    head -n "$(wc -l < "$made/lines")" "$made/whole-lines" | cmp -s - "$made/lines" || return 1
+    if [ -s "$made/lines" ]; then behind=$((behind + 1)); else alone=$((alone + 1)); fi
+}
+
+# refuse_each_served HOW NAME WORD..: all runs of a server with these words; HOW says whether one ended as it may end.
 refuse_each_served() {
-    name=$1
-    shift
+    local how=$1
+    name=$2
+    shift 2
     python3 -c 'import sys; sys.stdout.buffer.write(bytes.fromhex(sys.stdin.read()))' < "$made/input" > "$made/octets"
     serve 0 "$@"
     cp "$made/received" "$made/whole"
+    cp "$made/errors" "$made/whole-errors"
+    lines_printed > "$made/whole-lines"
+    whole_status=$status
     alone=0 behind=0 spared=0
-    serves_well || fail 0 "status $status with ample memory"
+    "$how" || fail 0 "status $status with ample memory"
     alone=0 behind=0 spared=0
     local call
     for ((call = 1; ; call++)); do
         serve "$call" "$@"
         [ -s "$made/refused" ] || break
-        if ! serves_well; then
+        if ! "$how"; then
             fail "$call" "status $status, output: $(head -c 300 "$made/output")"
-        elif grep -qv '^\(connection 1: \)\?out of memory\|^port [0-9]* of 127.0.0.1 was listened on, and a connection could not be accepted' "$made/errors"; then
+        elif grep -vxF -f "$made/whole-errors" "$made/errors" | grep -qv '^\(connection 1: \)\?out of memory\|^port [0-9]* of 127.0.0.1 was listened on, and a connection could not be accepted'; then
             fail "$call" "standard error: $(head -c 300 "$made/errors")"
         else
             right=$((right + 1))
@@ -293,7 +283,28 @@ printf 'add a b\nadd c d\nadd e f\nmax 40\nmax 101\n' > "$made/input"
 refuse_each lines 'table' table 100
 (cat examples/get.hex; printf 'step 2\nshow\nbreak type 1\nbreak at 1\nrun\nshow\nback 2\nshow\ngo 3\nclear\nshow\n') > "$made/input"
 refuse_each session 'debug' debug 'GET|/|200|6869'
+(tr -d '\n' < examples/get.hex; printf '\nlist\nstep 2\nexplain\nlist\nshow\nback 1\nexplain\nhelp\n') > "$made/input"
+refuse_each session 'debug for programs' debug --prompt dot 'GET|/|200|6869'
+cat > "$made/case.h2" <<'CASE'
+;# a request and its answer
+;@ --streams 7
+;@ 'GET|/|200|6869'
+PREFACE
+SETTINGS 00 0 -
+HEADERS 05 1 hi2,i6,i4
+;< HEADERS 04 1 hi8
+;< DATA 01 1 x6869
+CASE
+: > "$made/input"
+refuse_each lines 'explain of a case' explain "$made/case.h2"
+printf 'step 2\nshow\nback 1\n' > "$made/input"
+refuse_each session 'debug over a case' debug --in "$made/case.h2"
 cp examples/get.hex "$made/input"
-refuse_each_served 'serve' 'GET|/|200|6869'
+refuse_each_served serves_well 'serve' 'GET|/|200|6869'
+refuse_each_served explains_well 'serve --times' --times 'GET|/|200|6869'
+refuse_each_served explains_well 'serve --json' --json 'GET|/|200|6869'
+# After the request: an increment of 0 on the connection, which no client may send (RFC 9113, 6.9).
+echo 00000408000000000000000000 >> "$made/input"
+refuse_each_served explains_well 'serve --strict' --strict 'GET|/|200|6869'
 
 end

@@ -4,7 +4,7 @@
     schema.py PROGRAM
 
 The lines are those of the examples, of the example of each cause, of random sessions (tests/rebuild.py) and of faults, with long texts cut and whole. The validator has
-what the schema uses: $ref, oneOf, type, enum, const, properties, required, additionalProperties, items, pattern, minimum and maximum.
+what the schema uses: $ref, oneOf, type, enum, const, properties, required, items, pattern, minimum and maximum. It is stricter: a member that the schema does not name is a fault.
 That it refuses is tried too: a line without a member, with one more, and with another value of each kind.
 """
 
@@ -74,7 +74,7 @@ class Schema:
         for name, member in value.items():
             if name in properties:
                 found += self.faults(member, properties[name], f"{at}.{name}")
-            elif schema.get("additionalProperties", True) is False:
+            elif properties:
                 found.append(f"{at}: {name} is unknown")
         return found
 
@@ -108,7 +108,7 @@ def spoiled(line):
     for name in line:
         other = copy.deepcopy(line)
         del other[name]
-        if name in ("changes", "item", "octets", "offset", "sent", "words", "end"):
+        if name in ("item", "octets", "offset", "sent", "words", "end"):
             yield f"without {name}", other
     yield "with one member more", {**line, "must": True}
     yield "with a negative offset", {**line, "offset": -1}

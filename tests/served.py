@@ -6,6 +6,7 @@
 It needs nothing but Python. The last line is `N passed, M failed`; the status is 1 where one failed. `tests/clients.sh` has real clients.
 """
 
+import errno
 import json
 import os
 import re
@@ -16,6 +17,7 @@ import struct
 import subprocess
 import sys
 import tempfile
+import time
 
 sys.dont_write_bytecode = True
 import schema  # noqa: E402
@@ -34,11 +36,11 @@ GOAWAY = script.octets("GOAWAY 00 0 x0000000000000001")
 class Server:
     """The program as it serves at a free port; its output is read line by line."""
 
-    def __init__(self, program, count, *words, port=None, before=None):
+    def __init__(self, program, count, *words, port=None, before=None, folder=None):
         self.port = port or free_port()
         words = ["h2_bench", "serve", str(self.port), str(count), *words]
         self.errors = tempfile.TemporaryFile()
-        self.process = subprocess.Popen(words, executable=program, stdin=subprocess.DEVNULL, stdout=subprocess.PIPE, stderr=self.errors, preexec_fn=before)
+        self.process = subprocess.Popen(words, executable=program, stdin=subprocess.DEVNULL, stdout=subprocess.PIPE, stderr=self.errors, preexec_fn=before, cwd=folder)
 
     def __enter__(self):
         return self
@@ -138,6 +140,52 @@ def answers_are_sent(program):
         one = client(server.port, script.PREFACE + request + script.octets("WINDOW_UPDATE 00 1 w1"), ends=True)
         answer = [script.octets(line) for line in ("HEADERS 04 1 hi8", "DATA 00 1 x68", "DATA 01 1 x69")]
         yield read_all(one), (ACKNOWLEDGED + b"".join(answer), True)
+        yield server.ended(), ("connection 1 end input\n", 0, "")
+
+
+GET = script.octets("HEADERS 05 1 hi2,i6,i4")
+GOT = script.octets("HEADERS 04 1 hi8") + script.octets("DATA 01 1 x6869")
+
+
+def each_client_gets_the_limits_and_the_book(program):
+    """Two clients of one entry: the limits of the words are in the server's SETTINGS (RFC 9113, 6.5.2), for each of them."""
+    opening = script.octets("SETTINGS 00 0 s3=7,4=10,6=65536")
+    with Server(program, 2, "--streams", "7", "--window", "10", "--credit", "10", "GET|/|200|6869") as server:
+        yield server.line(), f"listening {server.port}\n"
+        for number in (1, 2):
+            one = client(server.port, START + GET, ends=True)
+            yield read_all(one), (opening + script.octets("SETTINGS 01 0 -") + GOT, True)
+            yield server.line(), f"connection {number} end input\n"
+        yield server.ended(), ("", 0, "")
+
+
+def a_client_of_many_writes_is_served_to_its_end(program):
+    """A request in twenty writes with pauses, so that each of them is a read of the server."""
+    octets = START + GET
+    size = -(-len(octets) // 20)
+    pieces = [octets[at:at + size] for at in range(0, len(octets), size)]
+    pieces += [PING] * (20 - len(pieces))
+    pongs = script.octets("PING 01 0 x0102030405060708") * sum(piece is PING for piece in pieces)
+    for words in ([], ["--explain"]):
+        with Server(program, 1, *words, "GET|/|200|6869") as server:
+            yield server.line(), f"listening {server.port}\n"
+            one = client(server.port, b"")
+            one.setsockopt(socket.IPPROTO_TCP, socket.TCP_NODELAY, 1)
+            for piece in pieces:
+                one.sendall(piece)
+                time.sleep(0.01)
+            one.shutdown(socket.SHUT_WR)
+            yield read_all(one), (ACKNOWLEDGED + GOT + pongs, True)
+            yield server.ended()[0].splitlines()[-1:], ["connection 1 end input"]
+
+
+def another_address_is_refused(program):
+    """The port is that of 127.0.0.1 alone: no other address of this host is listened on."""
+    with Server(program, 1) as server:
+        yield server.line(), f"listening {server.port}\n"
+        with socket.socket() as one:
+            yield one.connect_ex(("127.0.0.2", server.port)), errno.ECONNREFUSED
+        yield read_all(client(server.port, START, ends=True)), (ACKNOWLEDGED, True)
         yield server.ended(), ("connection 1 end input\n", 0, "")
 
 
@@ -249,8 +297,8 @@ def uncounted(line):
 def an_item_in_pieces_is_explained_once(program):
     """A client sends octet by octet; what is said and sent is that of all octets at once."""
     octets = START + PING + script.octets("WINDOW_UPDATE 00 0 w0") + PING
-    for form in ([], ["--json"], ["--full", "--json"]):
-        with Server(program, 1, "--explain", *form) as server:
+    for form in (["--explain"], ["--json"], ["--full", "--json"], ["--brief"], ["--errors"], ["--stream", "0"]):
+        with Server(program, 1, *form) as server:
             yield server.line(), f"listening {server.port}\n"
             one = client(server.port, b"")
             one.setsockopt(socket.IPPROTO_TCP, socket.TCP_NODELAY, 1)
@@ -258,7 +306,7 @@ def an_item_in_pieces_is_explained_once(program):
                 one.sendall(bytes([octet]))
             one.shutdown(socket.SHUT_WR)
             yield read_all(one), (ANSWERED + GOAWAY, True)
-            lines, _ = explained(program, octets, 1, *form)
+            lines, _ = explained(program, octets, 1, *(word for word in form if word != "--explain"))
             ended, status, _ = server.ended()
             found = ended.splitlines()
             yield found[0], "connection 1 open"
@@ -303,6 +351,81 @@ def a_verdict_is_the_status(program):
             yield [line for line in ended.splitlines() if not line.startswith("connection")], wanted_lines
 
 
+UPLOAD = START + script.octets("SETTINGS 01 0 -") + script.octets('HEADERS 04 1 hi3,i6,i4')
+EARLY = "warning: sent-before-granted, RFC 9113 6.9"
+
+
+def read_to(one, wanted):
+    """Reads what a client gets, until these octets have come."""
+    octets = b""
+    while wanted not in octets:
+        octets += one.recv(65536)
+
+
+def told_of_upload(program, words, send):
+    """The lines of `serve --strict` that begin with a warning, the verdict's line and the status, for a client that `send` sends as."""
+    with Server(program, 1, "--strict", *words) as server:
+        server.line()
+        one = client(server.port, b"")
+        send(one)
+        one.shutdown(socket.SHUT_WR)
+        read_all(one)
+        ended, status, _ = server.ended()
+        lines = ended.splitlines()
+        return [line.split(maxsplit=1)[1] for line in lines if "warning: " in line], lines[-2].split(maxsplit=2)[2], status
+
+
+def data_before_its_credit_is_warned_of(program):
+    """A stream's window is 1000, and 600 octets are returned once they are taken (RFC 9113, 6.9): 1200 at once are too many; 600 after WINDOW_UPDATE are not."""
+    words = ("--window", "1000", "--credit", "600")
+    half, last = script.octets("DATA 00 1 x" + 600 * "61"), script.octets("DATA 01 1 x" + 600 * "61")
+    yield told_of_upload(program, words, lambda one: one.sendall(UPLOAD + half + last)), ([EARLY], "6 items, no error, 1 warning", 5)
+
+    def waits(one):
+        one.sendall(UPLOAD + half)
+        read_to(one, script.octets("WINDOW_UPDATE 00 1 w600"))
+        one.sendall(last)
+
+    yield told_of_upload(program, words, waits), ([], "6 items, no error, no warning", 0)
+    # 401 octets of the window are left where the second read begins; its first octet brings all back. Padding, with its length, counts.
+    for padding, warned in ((99, []), (100, [EARLY])):
+        padded = script.octets(f"DATA 08 1 x{padding:02x}" + 300 * "61" + padding * "00")
+
+        def pads(one, more=script.octets("DATA 00 1 x61") + padded):
+            one.sendall(UPLOAD + script.octets("DATA 00 1 x" + 599 * "61") + PING)
+            read_to(one, script.octets("PING 01 0 x0102030405060708"))
+            one.sendall(more)
+
+        yield told_of_upload(program, words, pads)[0], warned
+
+
+def an_upload_that_reads_nothing_is_warned_of(program):
+    """A client sends 500,000 octets of DATA with the default windows, and reads nothing before (RFC 9113, 6.9): one read has more than 65,535."""
+    data = b"".join(script.octets("DATA 00 1 x" + 16384 * "61") for _ in range(30)) + script.octets("DATA 01 1 -")
+    warnings, verdict, status = told_of_upload(program, (), lambda one: one.sendall(UPLOAD + data))
+    yield (set(warnings), status), ({EARLY}, 5)
+    yield verdict, f"35 items, no error, {len(warnings)} warning{'s' * (len(warnings) > 1)}"
+
+
+def a_book_is_named_from_the_record(program):
+    """A relative path of a book is written as it is from the directory of the record, so the case holds wherever the two are."""
+    with tempfile.TemporaryDirectory() as top:
+        for folder in ("work", "work/it's", "cases", "moved"):
+            os.mkdir(f"{top}/{folder}")
+        with open(f"{top}/work/it's/book.toml", "w", encoding="utf-8") as book:
+            book.write('[[answer]]\nmethod = "GET"\npath = "/"\nstatus = 200\nbody = "6869"\n')
+        octets = START + script.octets("SETTINGS 01 0 -") + script.octets("HEADERS 05 1 hi2,i6,i4")
+        for directory, given, wanted in (("../cases", "it's/book.toml", "../work/it'\\''s/book.toml"), ("it's", "./it's/book.toml", "../it'\\''s/book.toml"),
+                                         (f"{top}/work", "../work/it's/book.toml", "../work/it'\\''s/book.toml"), (".", f"{top}/work/it's/book.toml", f"{top}/work/it'\\''s/book.toml")):
+            with Server(program, 1, "--record", directory, "--book", given, folder=f"{top}/work") as server:
+                server.line()
+                read_all(client(server.port, octets, ends=True))
+                yield server.ended()[1], 0
+            case = max((f"{path}/{name}" for path, _, names in os.walk(top) for name in names if name.endswith(".h2")), key=os.path.getmtime)
+            yield text_of(case).splitlines()[2], f";@ --book '{wanted}'"
+            yield checked(program, case), [f"ok 1 - {case}: connection 1", "1..1"]
+
+
 def a_record_is_a_case(program):
     """What a client sent is kept as hex and as a case that holds, with the words of the server; no file is overwritten."""
     with tempfile.TemporaryDirectory() as directory:
@@ -316,6 +439,7 @@ def a_record_is_a_case(program):
             yield status, 0
         yield sorted(os.listdir(directory)), ["connection-1.hex", "connection-2.h2", "connection-2.hex"]
         yield text_of(f"{directory}/connection-1.hex"), "mine"
+        yield [os.stat(f"{directory}/connection-2.{kind}").st_mode & 0o777 for kind in ("hex", "h2")], [0o600, 0o600]
         yield "".join(text_of(f"{directory}/connection-2.hex").split()), octets.hex()
         words = ["h2_bench", "explain", f"{directory}/connection-2.h2"]
         run = subprocess.run(words, executable=program, stdout=subprocess.PIPE, check=False)
@@ -369,7 +493,7 @@ def a_full_disk_ends_the_record_only(program):
             yield read_all(client(server.port, START, ends=True)), (ACKNOWLEDGED, True)
             ended, status, errors = server.ended()
             yield (ended.splitlines()[-1], status), ("connection 2 end input", 0)
-            yield errors.splitlines()[1:], [f"{directory}: it can't be written to; the record of this connection ends here, and the connection goes on."]
+            yield errors.splitlines()[1:], [f"{directory}/connection-1.hex: the file would be larger than is allowed; the record of this connection ends here, and the connection goes on."]
         for number in (1, 2):
             case = f"{directory}/connection-{number}.h2"
             yield text_of(case)[-1], "\n"
@@ -412,6 +536,9 @@ TESTS = [
     the_goaway_arrives_before_unread_octets,
     clients_that_leave_end_their_own_connection_only,
     answers_are_sent,
+    each_client_gets_the_limits_and_the_book,
+    a_client_of_many_writes_is_served_to_its_end,
+    another_address_is_refused,
     limits_out_of_range_are_refused_behind_the_port,
     no_connection_is_served,
     a_port_in_use_is_refused,
@@ -421,6 +548,9 @@ TESTS = [
     an_item_in_pieces_is_explained_once,
     times_are_in_front,
     a_verdict_is_the_status,
+    data_before_its_credit_is_warned_of,
+    an_upload_that_reads_nothing_is_warned_of,
+    a_book_is_named_from_the_record,
     a_record_is_a_case,
     a_server_that_is_killed_leaves_a_record,
     a_full_disk_ends_the_record_only,

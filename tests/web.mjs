@@ -212,11 +212,25 @@ async function inBrowser(chromium) {
     await of("h2.select(3)");
     check("the fault goes when it is mended", await of("document.getElementById('fault').className") === "" && (await of("document.getElementById('hex').value")).replace(/\s/g, "") === run(["asm"], readFileSync(join(top, "examples/closed.h2"), "utf8")).text.trim());
     check("its cause is shown", (await of("document.getElementById('why').textContent")).includes("data-on-idle"));
+    check("its duties are tags", (await of("[...document.querySelectorAll('#why .tag')].map(it => it.textContent).join('; ')")) === "data-on-idle; server MUST 5.1; client MUST NOT 5.1", await of("document.getElementById('why').textContent"));
     check("it is explained", (await of("document.getElementById('words').textContent")) === run(["explain"], run(["asm"], readFileSync(join(top, "examples/closed.h2"), "utf8")).text).text, await of("document.getElementById('words').textContent"));
     check("the item at hand is marked in the explanation", (await of("document.querySelector('#words .now')?.textContent")).startsWith("#3 @33"));
     check("an error is shown", (await of("document.getElementById('item-tags').textContent")).includes("PROTOCOL_ERROR"));
+    // A narrow window, one of middle width and a wide one, with an error at hand.
+    for (const width of [360, 768, 1366]) {
+      await tell("Emulation.setDeviceMetricsOverride", { width, height: 900, deviceScaleFactor: 1, mobile: width < 500 });
+      check(`${width} pixels suffice`, await of("document.documentElement.scrollWidth") <= width, await of("document.documentElement.scrollWidth"));
+    }
+    check("a wide window has the result beside the input", await of("document.getElementById('hex').getBoundingClientRect().right < document.getElementById('lanes').getBoundingClientRect().left"));
+    await tell("Emulation.setDeviceMetricsOverride", { width: 1300, height: 1500, deviceScaleFactor: 1, mobile: false });
+    // A special case of a rule has its own duties.
+    await visit(`${url}#${new URLSearchParams([["script", "PREFACE\nSETTINGS 00 0 -\nHEADERS 04 1 hi2,i6,i4\nHEADERS 04 3 hi2,i6,i4\n"], ["streams", "1"]])}`);
+    check("a special case has its duties", (await of("[...document.querySelectorAll('#why .tag')].map(it => it.textContent).join('; ')")) === "too-many-streams; server's choice 5.1.2; above a limit 6.5.3", await of("document.getElementById('why').textContent"));
+    const judged = await of("h2.copies['Case for check']()");
+    writeFileSync(join(folder, "bare.h2"), judged.replace(/^;[<!] .*\n/gm, ""));
+    check("a copied case is what --bless writes", judged.includes(";! too-many-streams\n") && run(["check", "--bless", join(folder, "bare.h2")], "").text === judged, judged);
+    await of(`h2.beginWith(h2.stock.find(it => it.name.startsWith("closed"))); h2.select(2)`);
     // The link.
-    await of("h2.select(2)");
     const hash = await of("location.hash");
     await visit(url + hash);
     check("a link has the whole state", await of("h2.run.place") === 2 && (await of("document.getElementById('script').value")) === readFileSync(join(top, "examples/closed.h2"), "utf8"));
@@ -243,16 +257,14 @@ async function inBrowser(chromium) {
     console.log(`an input of ${large.octets} octets and ${large.count} items: ${large.time.toFixed(0)} ms until its view is there`);
     check("a large input is shown within five seconds", large.time < 5000, large.time);
     check("a large input is explained when asked for", large.asked === "Explain all 36,001 items", large.asked);
-    // A narrow window.
-    await of(`h2.beginWith(h2.stock.find(it => it.name.startsWith("upload")))`);
-    await tell("Emulation.setDeviceMetricsOverride", { width: 360, height: 900, deviceScaleFactor: 1, mobile: true });
-    check("360 pixels suffice", await of("document.documentElement.scrollWidth") <= 360, await of("document.documentElement.scrollWidth"));
-    await tell("Emulation.setDeviceMetricsOverride", { width: 1300, height: 1500, deviceScaleFactor: 1, mobile: false });
+    // One of short frames, whose explanation is the longest.
+    const said = await of(`(() => { const frames = ["505249202a20485454502f322e300d0a0d0a534d0d0a0d0a", "000000040000000000"]; for (let n = 1; n < 66667; n++) frames.push("0000030105" + (2 * n - 1).toString(16).padStart(8, "0") + "828684"); h2.typed.source = "file"; h2.typed.file = h2.readHex(frames.join("")).octets; h2.typed.place = null; h2.play(); document.querySelector("#words button").click(); return document.getElementById("words").textContent; })()`);
+    check("a megabyte of short frames is explained, or what to do is said", said.includes("#66668 @") || said.includes("./h2_bench explain"), said);
     // Nothing is fetched: the policy of the page forbids it.
     check("nothing can be sent", await of("fetch('http://127.0.0.1:9/').then(() => 'sent', () => 'refused')") === "refused");
     if (option("--picture")) { // that of docs/PAGE.md
       const script = ["PREFACE", "SETTINGS 00 0 s4=20", 'HEADERS 04 1 hi3,i6,n4="/upload",a1="www.example.com"', "DATA 00 1 x61626364", "HEADERS 05 3 hi2,i6,i4,i62", "PING 00 0 x0102030405060708", "RST_STREAM 00 1 c8", "WINDOW_UPDATE 00 3 w0", "DATA 01 5 x61"];
-      await tell("Emulation.setDeviceMetricsOverride", { width: 1120, height: 1400, deviceScaleFactor: 1, mobile: false });
+      await tell("Emulation.setDeviceMetricsOverride", { width: 1366, height: 1150, deviceScaleFactor: 1, mobile: false });
       await visit(`${url}#${new URLSearchParams([["script", script.join("\n") + "\n"], ["answer", `GET|/|200|${"61".repeat(40)}`], ["answer", "POST|/upload|200|6f6b"], ["item", "8"]])}`);
       const { data } = await tell("Page.captureScreenshot", { format: "png" });
       writeFileSync(option("--picture"), Buffer.from(data, "base64"));

@@ -1,31 +1,26 @@
 #!/usr/bin/env python3
-"""Writes docs/CALLS.md: for each public function of a library crate what it does, the clauses of its contract, and its
-errors, as the sources have them.
+"""Prints, for each public function of a library crate, what it does, the clauses of its contract, and its errors, as the sources have them, as Markdown.
 
-    tools/calls.py             writes the page
-    tools/calls.py --check     compares it; the status is 1 where it differs
+    tools/calls.py [CRATE..]     of these crates, or of all that the program uses
 """
 
-import difflib
 import glob
 import os
 import re
 import sys
 
-PAGE = "docs/CALLS.md"
 # A clause longer than this is shown by its name alone.
 SHORT = 90
 HEAD = """# Calls of the library crates
 
 For each public function: what it does, its errors with what each leaves, and the clauses of its contract. A clause is
 shown whole where it is short; the others are in the source, beside the function. `result` is what the function returns,
-`self.old` and `self.new` are a value before and after the call. [PROOFS.md](PROOFS.md) says how to read a contract, and
-what no contract says. `tools/calls.py` writes this page, and `tests/all` compares it.
+`self.old` and `self.new` are a value before and after the call. docs/PROOFS.md says how to read a contract, and what no
+contract says.
 """
 FUNCTION = re.compile(r"^(\s*)(pub )?(?:const )?fn (\w+)")
 IMPL = re.compile(r"^(?:unsafe )?impl(?:<.*?>)? (\w+)(?:<.*>)?(?: where .*)? \{$")
 TRAIT = re.compile(r"^pub trait (\w+)")
-TYPE = re.compile(r"^pub (?:struct|enum|trait) (\w+)")
 
 
 def read(path):
@@ -46,7 +41,11 @@ def crates():
             if used in uses and used not in reached:
                 reached.add(used)
                 todo.append(used)
-    return [(name, sorted(glob.glob(f"crates/{name}/src/*.rt"))) for name in uses if name in reached]
+    return [(name, sources(name)) for name in uses if name in reached]
+
+
+def sources(crate):
+    return sorted(glob.glob(f"crates/{crate}/src/**/*.rt", recursive=True))
 
 
 def exported(paths):
@@ -54,7 +53,7 @@ def exported(paths):
     root = read(next(path for path in paths if path.endswith("/lib.rt")))
     modules = set(re.findall(r"^pub mod (\w+);", root, re.M))
     names = set()
-    for listed in re.findall(r"^pub use \w+::(?:\{([^}]*)\}|(\w+));", root, re.M):
+    for listed in re.findall(r"^pub use (?:\w+::)+(?:\{([^}]*)\}|(\w+));", root, re.M):
         names |= {name.strip() for name in (listed[0] or listed[1]).split(",")}
     for path in paths:
         if os.path.basename(path)[:-3] in modules | {"lib"}:
@@ -65,7 +64,7 @@ def exported(paths):
 def variants():
     """The variants of each public enum."""
     found = {"AllocError": ["AllocError"], "DeviceFault": ["DeviceFault"]}
-    for path in glob.glob("crates/*/src/*.rt"):
+    for path in glob.glob("crates/*/src/**/*.rt", recursive=True):
         for name, body in re.findall(r"^pub enum (\w+)[^{]*\{\n(.*?)^\}", read(path), re.S | re.M):
             found.setdefault(name, re.findall(r"^    (\w+)", body, re.M))
     return found
@@ -149,9 +148,9 @@ def functions(path, public, names):
             doc = []
 
 
-def page():
-    out, known, count = [HEAD], variants(), 0
-    for crate, paths in crates():
+def page(asked):
+    out, known = [HEAD], variants()
+    for crate, paths in [(name, sources(name)) for name in asked]:
         modules, names = exported(paths)
         rows = []
         for path in paths:
@@ -162,27 +161,21 @@ def page():
                 rows[-1] += errors(text, doc, known)
                 if said:
                     rows.append("  " + "; ".join(shown(clause) for clause in said))
-                count += 1
         if rows:
             about = re.match(r"//! (.*?)(?:\n(?!//! )|\n//! (?=[A-Z])|\n#)", read(f"crates/{crate}/src/lib.rt"), re.S)
             said = first_sentence(re.sub(r"\n//! ", " ", about.group(1)).split("\n")) if about else ""
             out += [f"\n## {crate}\n", said, "", *rows]
-    return "\n".join(out).replace("\n\n\n", "\n\n") + "\n", count
+    return "\n".join(out).replace("\n\n\n", "\n\n") + "\n"
 
 
 def main():
     os.chdir(os.path.join(os.path.dirname(os.path.abspath(__file__)), ".."))
-    made, count = page()
-    if sys.argv[1:] != ["--check"]:
-        with open(PAGE, "w", encoding="utf-8") as file:
-            file.write(made)
-        return 0
-    there = read(PAGE) if os.path.exists(PAGE) else ""
-    if there == made:
-        return 0
-    sys.stdout.writelines(difflib.unified_diff(there.splitlines(True), made.splitlines(True), PAGE, "as the sources are", n=0))
-    print("calls.py: run tools/calls.py")
-    return 1
+    known = [name for name, _ in crates()]
+    asked = sys.argv[1:] or known
+    unknown = [name for name in asked if not os.path.isdir(f"crates/{name}/src")]
+    if unknown:
+        sys.exit(f"calls.py: there is no crate {unknown[0]}")
+    print(page(asked), end="")
 
 
-sys.exit(main())
+main()

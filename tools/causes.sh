@@ -1,35 +1,16 @@
 #!/usr/bin/env bash
-# The examples of causes. First that examples/causes has one script for each cause of h2_spec, and that the text of
-# docs/TABLE.md names each cause once and no other (its table of rules at the end is checked by tools/duties.py); then that `explain` prints of each script what its
-# lines `;>` say, in their order and nothing else, and at the end what the comments after `; The end:` say (that each line `;>` is where it has to be is checked by tests/cases.sh). The last line is
-# `N passed, M failed`, a list of names or a script each.
+# The examples of causes: that `explain` prints of each script of examples/causes what its lines `;>` say, in their order and nothing else, and at the end what the comments
+# after `; The end:` say. (tests/cases.sh checks that each line `;>` is where it has to be, and tools/docs.py that each cause has its script.) The last line is
+# `N passed, M failed`, a script each.
 #
-#   causes.sh [--program FILE]   the scripts too; FILE is the proved program of this repository unless it is named
-#   causes.sh --names            the names alone: nothing is run
+#   causes.sh [--program FILE]   FILE is the proved program of this repository unless it is named
 set -eu
 top=$(cd "$(dirname "$0")/.." && pwd)
 folder=$top/examples/causes
 work=$(mktemp -d)
 trap 'rm -rf "$work"' EXIT
 
-# The names of the causes, as `NAMES` has them.
-sed -n '/^static NAMES/,/^\];/s/^ *"\([a-z-]*\)",.*/\1/p' "$top/crates/h2_spec/src/causes.rt" | sort >"$work/causes"
-if [ ! -s "$work/causes" ]; then
-    echo "causes.sh: no cause was found in crates/h2_spec/src/causes.rt" >&2
-    exit 1
-fi
-
-find "$folder" -name '*.h2' -printf '%f\n' | sed 's/\.h2$//' | sort >"$work/scripts"
-diff "$work/causes" "$work/scripts" || { echo "causes.sh: examples/causes and the causes of h2_spec differ" >&2; exit 1; }
-
-# Other words between backticks that begin with a small letter and have a hyphen are four header fields.
-fields='content-length|keep-alive|proxy-connection|transfer-encoding'
-sed '/^<!-- the table of rules/,$d' "$top/docs/TABLE.md" | grep -o '`[a-z]\+\(-[a-z]\+\)\+`' | tr -d '`' | grep -vxE "$fields" | sort >"$work/table"
-diff "$work/causes" "$work/table" || { echo "causes.sh: docs/TABLE.md and the causes of h2_spec differ" >&2; exit 1; }
-if [ "${1-}" = --names ]; then
-    echo "2 passed, 0 failed"
-    exit 0
-fi
+find "$folder" -name '*.h2' -printf '%f\n' | sed 's/\.h2$//' | sort >"$work/causes"
 if [ "${1-}" = --program ]; then
     program=$2
 else

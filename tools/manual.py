@@ -4,7 +4,8 @@
     tools/manual.py [--check] [--program FILE]     --check compares instead, and says `N passed, M failed`, a file each; FILE is the program built without proof
                                                    (tools/program.py) unless it is named
 
-share/h2_bench.1 is a page for man; share/h2_bench.bash, share/_h2_bench and share/h2_bench.fish complete commands and options in bash, zsh and fish.
+share/h2_bench.1 is a page for man; share/h2_bench.bash, share/_h2_bench and share/h2_bench.fish complete commands and options in bash, zsh and fish; share/help has the
+help and the version as they are printed, for the launcher where no program is there.
 """
 
 import os
@@ -21,9 +22,10 @@ ENVIRONMENT = [
 ]
 EXAMPLES = [
     ("The octets of a script, played with one answer:", "h2_bench asm < get.h2 | h2_bench play 'GET|/|200|6869'"),
+    ("A client's octets of a capture, explained:", "tshark -r cap.pcap -Y 'tcp.stream==0 && tcp.dstport==8080' -T fields -e tcp.payload | h2_bench explain"),
     ("Which rule a client broke, of octets as they are, with a status for a script:", "h2_bench explain --strict --raw capture.bin 'GET|/|200|6869'"),
-    ("One frame changed, and explained again:", "h2_bench dis --in capture.hex | sed 's/^WINDOW_UPDATE.*/WINDOW_UPDATE 00 1 w5/' | h2_bench asm | h2_bench explain"),
-    ("A person at the keyboard goes through it:", "h2_bench debug --in capture.hex"),
+    ("One frame changed, and explained again:", "h2_bench dis capture.hex | sed 's/^WINDOW_UPDATE.*/WINDOW_UPDATE 00 1 w5/' | h2_bench asm | h2_bench explain"),
+    ("A person at the keyboard goes through it:", "h2_bench debug capture.hex"),
     ("A server for one connection of a client, with the answers of a book:", "h2_bench serve --book site.toml 8080 1"),
 ]
 
@@ -45,19 +47,20 @@ class Command:
 
     def __init__(self, program, name, about):
         text = help_of(program, name)
-        self.name, self.about = name, about
+        self.name, self.about, self.text = name, about, text
         self.usage = re.search(r"^Usage: (.*)$", text, re.M)[1]
         self.arguments = rows(text, "Arguments")
         self.options = [row for row in rows(text, "Options") if row[0] != "-h, --help"]
-        self.takes_files = any("FILE" in f"{word} {about}" for word, about in self.arguments)
+        self.takes_files = any("FILE" in f"{word} {about}" for word, about in self.arguments + self.options)
 
 
 class Help:
     """All that the program says of its words."""
 
     def __init__(self, program):
-        text = help_of(program)
+        self.text = text = help_of(program)
         self.about = text.split("\n", 1)[0]
+        self.version = subprocess.run(["h2_bench", "--version"], executable=program, stdout=subprocess.PIPE, text=True, check=True).stdout
         self.commands = [Command(program, name, about) for name, about in rows(text, "Commands") if name != "help"]
         self.legend = text.split("Print help\n", 1)[1].strip("\n")
 
@@ -85,7 +88,7 @@ def page(said):
         lines += [".SS " + roff(command.usage), roff(command.about) + "."]
         for word, about in command.arguments + command.options:
             lines += [".TP", ".B " + roff(word), roff(about)]
-    lines += [".TP", ".B \\-V, \\-\\-version", "In place of a command: prints the version."]
+    lines += [".TP", ".B \\-V, \\-\\-version", "In place of a command, or after one: prints the version, with status 0. \\-\\-help ends with status 2, so that a script sees that nothing was done."]
     lines += [".SH OUTPUT AND EXIT STATUS", ".nf", roff(said.legend), ".fi", ".SH ENVIRONMENT"]
     for word, about in ENVIRONMENT:
         lines += [".TP", ".B " + roff(word), roff(about)]
@@ -199,7 +202,8 @@ def fish(said):
 
 def made(said):
     """The files of share/ by their names."""
-    return {"h2_bench.1": page(said), "h2_bench.bash": bash(said), "_h2_bench": zsh(said), "h2_bench.fish": fish(said)}
+    helps = {"help/h2_bench": said.text, "help/version": said.version, **{f"help/{command.name}": command.text for command in said.commands}}
+    return {"h2_bench.1": page(said), "h2_bench.bash": bash(said), "_h2_bench": zsh(said), "h2_bench.fish": fish(said), **helps}
 
 
 def read(path):
@@ -217,7 +221,7 @@ def main(words):
     program = words[1] if words else subprocess.run([f"{TOP}/tools/program.py", "unproved"], stdout=subprocess.PIPE, text=True, check=True).stdout.strip()
     files = made(Help(os.path.abspath(program)))
     if not checks:
-        os.makedirs(SHARE, exist_ok=True)
+        os.makedirs(f"{SHARE}/help", exist_ok=True)
         for name, text in files.items():
             with open(f"{SHARE}/{name}", "w", encoding="utf-8") as file:
                 file.write(text)

@@ -7,7 +7,7 @@
 set -euo pipefail
 cd "$(dirname "$0")/.."
 name=${1:?a name such as ping-too-often} after=${2:?the cause after which it is listed}
-code=crates/h2_spec/src/causes.rt words=crates/h2_spec/specs/CauseWords.antt codes=crates/h2_spec/specs/Cause.antt
+code=crates/h2_spec/src/causes.rt words=crates/h2_spec/specs/Causes/CauseWords.antt codes=crates/h2_spec/specs/Causes/Cause.antt
 places=crates/h2_spec/proofs/causes/place_of/Answers.antt example=examples/causes/$name.h2
 
 variant_of() { sed -E 's/(^|-)([a-z])/\U\2/g' <<<"$1"; }
@@ -56,12 +56,12 @@ cat <<TEXT
 Written: $code, $words, $codes, $places, $example.
 Each has a sentence to replace (grep -rn '$name:' crates examples), and the code, sections and duties of $after to compare with the RFC.
 Then, in this order:
-  the definition that answers cause.$variant, by this name (crates/h2_spec/specs), and its laws in crates/h2_laws
-  the function that answers Cause::$variant (crates/h2_rules, or crates/h2_frame for a payload)
-  a row of CauseRows.antt (crates/h2_rows/proofs): the frame, and $variant
-  a sentence with values, if there is one (crates/h2_sentence/src/sentence.rt)
+  the definition that answers cause.$variant, by this name (crates/h2_spec/specs), and its laws in crates/h2_spec_laws
+  the function that answers Cause::$variant (crates/h2_conn_rules, or crates/h2_frame for a payload)
+  a row of CauseRows.antt (crates/h2_spec_examples/proofs): the frame, and $variant
+  a sentence with values, if there is one (crates/h2_explain_error/src/sentence.rt)
   the end of $example, and below each line of it as lines ;> what explain prints, at the end as comments: ./h2_bench asm < $example | ./h2_bench explain (read each line of it)
   its place in the text of docs/TABLE.md, as \`$name\`, a case with the line ;! $name (cases), and a line in CHANGELOG.md
   where its code is another one: $codes, and its place in code() of $code
-  rt fmt in crates/h2_spec; tools/duties.py and tools/rules.py write docs/TABLE.md's last table and docs/RULES.md again; tools/causes.sh --names, tools/calls.py, tests/all --quick
+  rt fmt in crates/h2_spec; tools/docs.py writes docs/RULES.md again; tools/docs.py --check shows what is missing; tests/all
 TEXT

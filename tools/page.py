@@ -57,7 +57,9 @@ def stock(top=TOP):
 
 
 def packed(octets):
-    return base64.b64encode(gzip.compress(octets, 9, mtime=0)).decode()
+    made = bytearray(gzip.compress(octets, 9, mtime=0))
+    made[9] = 255  # the system, which some versions of Python name and others do not
+    return base64.b64encode(made).decode()
 
 
 def main():

@@ -2,7 +2,7 @@
 """proof-chain.py [--without CRATE:USED ..]: the crates that the program's first proof waits for, one after another, and what the clock would show.
 
 A crate is proved once those that it uses are. So the longest chain of crates decides the clock, however many processors there are. This lists that chain, with the
-minutes of each crate by its line of docs/BUDGET, then all processor minutes, and the minutes of the clock with 2, 4 and 8 processors, where each proves one crate at
+minutes of each crate by its line of tools/BUDGET, then all processor minutes, and the minutes of the clock with 2, 4 and 8 processors, where each proves one crate at
 a time and takes the one with the longest chain behind it first, as `rt ci` does. The minutes are estimates: 15 s for each crate and 1.8 s for each megabyte, as measured
 on a machine of four processors, and for h2_program what both compilers take. With --without a line of crates.txt is read as if CRATE did not use USED, to see what
 untying the two would gain.
@@ -17,7 +17,7 @@ START, MEGABYTE, COMPILERS = 15 / 60, 1.8 / 60, 200 / 60
 
 
 def megabytes():
-    return {name: int(most) for name, most in re.findall(r"^(\w+) (\d+)$", program.read(f"{program.TOP}/docs/BUDGET"), re.M)}
+    return {name: int(most) for name, most in re.findall(r"^(\w+) (\d+)$", program.read(f"{program.TOP}/tools/BUDGET"), re.M)}
 
 
 def minutes_of(crates):

@@ -1,9 +1,17 @@
 #!/usr/bin/env python3
-"""Proves and builds the program: `h2_bench --prove`.
+"""Proves and builds the program, or the page.
 
-The crates that the program is made of are copied to a temporary folder, without their must-fail edits, and `rt ci` proves them there: as many side by side as there
-are processors and as memory carries. Where the kit keeps what it has proved, a later call and the gate prove only what has changed since. It builds the program
-with both compilers and runs it. The two programs are put into crates/h2_program/out, and beside them the checksum of the sources that were proved.
+    prove.py [--anew]               the program: ./h2_bench --prove
+    prove.py --page OUT [--anew]    the page: tools/web.sh
+
+The crates that it is made of are copied to a temporary folder, without their must-fail edits, and `rt ci` proves them there: as many side by side as there are
+processors and as memory carries. Where the kit keeps what it has proved, a later call and the gate prove only what has changed since; --anew takes nothing of that.
+
+Of the program `rt ci` also makes an executable by both compilers, and runs it. The two are put into crates/h2_program/out, and beside them the checksum of the sources
+that were proved.
+
+Of the page `rt ci` proves the crates below h2_page, which are most of the program's, so after --prove they are taken as they are. It takes no crate for WebAssembly, so
+h2_page is then proved for that target and built as `rt lib` does it, over these libraries. The same sources make the same octets.
 """
 
 import os
@@ -13,77 +21,73 @@ import signal
 import subprocess
 import sys
 import tempfile
-import threading
 import time
 
 import program
-from program import NAME, PROVED, TOP, say
+from program import NAME, PROVED, TOP, Progress, say
+
+PAGE = "h2_page"
+WASM = "wasm64-unknown-unknown"
 
 
 class Failed(Exception):
     """A proof that failed, with what rt said."""
 
 
-def copy_to(room):
-    """Copies the program's crates, and returns how many they are."""
-    lines = program.lines_of()
-    crates = program.needed(lines)
-    os.mkdir(f"{room}/.git")
+def copy_to(room, crates):
+    """Copies these crates to a new folder, as a repository of their own."""
+    os.makedirs(f"{room}/.git")
     for name in crates:
-        shutil.copytree(f"{TOP}/crates/{name}", f"{room}/crates/{name}", ignore=lambda at, _: ["out", "must-fail"] if os.path.dirname(at) == f"{TOP}/crates" else [])
+        copy_crate(name, f"{room}/crates/{name}")
     shutil.copyfile(f"{TOP}/HANDLES", f"{room}/HANDLES")
     with open(f"{room}/crates.txt", "w", encoding="utf-8") as file:
-        file.writelines(f"{line}\n" for name, line in lines.items() if name in crates)
-    return len(crates)
+        file.writelines(f"{line}\n" for name, line in program.lines_of().items() if name in crates)
 
 
-def clock(begun):
-    seconds = int(time.monotonic() - begun)
-    return f"{seconds // 60} min {seconds % 60} s"
+def copy_crate(name, to):
+    shutil.copytree(f"{TOP}/crates/{name}", to, ignore=lambda at, _: ["out", "must-fail"] if os.path.dirname(at) == f"{TOP}/crates" else [])
 
 
-class Progress:
-    """How many crates are proved and how long it has taken: one line that is rewritten on a terminal, else a line for each crate."""
+class Counted(Progress):
+    """How many crates are proved: on a terminal the line that is rewritten, else a line for each crate."""
 
     def __init__(self, crates):
-        self.crates, self.proved, self.last, self.begun, self.ended = crates, 0, "", time.monotonic(), threading.Event()
-        self.is_terminal = sys.stderr.isatty()
-        if self.is_terminal:
-            threading.Thread(target=self.rewrite, daemon=True).start()
+        super().__init__(lambda: f"{self.proved} of {crates} crates proved{self.last}", each=None)
+        self.crates, self.proved, self.last = crates, 0, ""
 
     def count(self, name, how):
-        self.proved, self.last = self.proved + 1, f"; the last: {name}"
+        self.proved, self.last = self.proved + 1, f", {name} as the last"
         if not self.is_terminal:
-            say(f"{name} {how}: {self.proved} of {self.crates} crates, {clock(self.begun)}")
-
-    def rewrite(self):
-        while not self.ended.wait(1):
-            print(f"\r\033[Kh2_bench: {self.proved} of {self.crates} crates proved, {clock(self.begun)}{self.last}", end="", file=sys.stderr, flush=True)
-
-    def end(self):
-        if not self.ended.is_set():
-            self.ended.set()
-            if self.is_terminal:
-                print("\r\033[K", end="", file=sys.stderr, flush=True)
+            say(f"{name} {how}: {self.proved} of {self.crates} crates, {self.clock()}")
 
 
-def prove(room, progress):
-    """Has rt prove all crates of the copy and build the program: each line that ends a crate is counted as it comes."""
+def ran(command, room, each_line=lambda line: None):
+    """Runs a command of the kit, and gives each line of its output to a function as it comes; where it fails, all of them."""
     how = {"stdin": subprocess.DEVNULL, "stdout": subprocess.PIPE, "stderr": subprocess.STDOUT, "errors": "replace", "start_new_session": True}
     how["env"] = {**os.environ, "RT_JOBS": str(program.side_by_side())}
     said = []
-    with subprocess.Popen(["rt", "ci"], cwd=room, **how) as ran:
+    with subprocess.Popen(command, cwd=room, **how) as process:
         try:
-            for line in ran.stdout:
+            for line in process.stdout:
                 said.append(line)
-                ended = re.match(r"rt: (\w+) (proved$|is kept: )", line)
-                if ended:
-                    progress.count(ended[1], "proved" if ended[2] == "proved" else "was proved before")
-            if ran.wait():
+                each_line(line)
+            if process.wait():
                 raise Failed("".join(said))
         finally:
-            if ran.poll() is None:
-                os.killpg(ran.pid, signal.SIGTERM)
+            if process.poll() is None:
+                os.killpg(process.pid, signal.SIGTERM)
+
+
+def prove(room, crates, anew):
+    """Has rt prove these crates in the copy, and build the program where it is one of them: each line that ends a crate is counted as it comes."""
+    with Counted(len(crates)) as progress:
+
+        def count(line):
+            ended = re.match(r"rt: (\w+) (proved$|is kept: )", line)
+            if ended:
+                progress.count(ended[1], "proved" if ended[2] == "proved" else "was proved before")
+
+        ran(["rt", "ci", *["--anew"] * (anew and program.keeps_proofs())], room, count)
 
 
 def install(room, begun):
@@ -99,27 +103,58 @@ def install(room, begun):
         file.write(program.sources_sum(room))
 
 
-def main():
-    for number in (signal.SIGTERM, signal.SIGHUP, signal.SIGINT):
-        signal.signal(number, lambda number, _: sys.exit(128 + number))
-    if sys.argv[1:]:
-        sys.exit("h2_bench: --prove takes no other word")
-    program.kit()
+def page_words(room, crates, archive):
+    """The call of rattle that proves h2_page for WebAssembly, over the libraries that `rt ci` has left in the copy, and builds it."""
+    kit = program.kit()
+    libraries = {name: f"{room}/crates/{name}/out/rlib" for name in crates}
+    words = [f"{kit}/bin/rattle", "build", "--crate-name", PAGE, "src/lib.rt", "-L", f"dependency={kit}/rlibs"]
+    for name in dict.fromkeys(["std", *program.uses(program.lines_of(), PAGE)]):
+        words += ["--extern", f"{name}={libraries.get(name, f'{kit}/rlibs')}/{name}.rlib"]
+    for folder in libraries.values():
+        words += ["-L", f"dependency={folder}"]
+    words += ["--antt-project", f"{kit}/rattle/logic/antt-project.json", "--logic-built", f"{kit}/logic_built", "--jobs", str(program.side_by_side())]
+    return [*words, "--links", f"{PAGE}=", "--crate-type", "staticlib", "--target", WASM, "--toolchain", f"{kit}/toolchain", "--backend", "llvm", "-o", archive]
+
+
+def build_page(room, crates, out):
+    """Proves and builds the code of the page in a copy of h2_page, and puts the page together."""
+    archive, module = f"{room}/lib{PAGE}.a", f"{room}/{PAGE}.wasm"
+    with Progress(lambda: f"proving {PAGE} for WebAssembly and building it"):
+        ran(page_words(f"{room}/below", crates, archive), f"{room}/{PAGE}")
+        ran([f"{program.kit()}/bin/rattle-link", "--target", WASM, "--toolchain", f"{program.kit()}/toolchain", "-o", module, archive], room)
+    subprocess.run([sys.executable, "-B", f"{TOP}/tools/page.py", module, out], check=True)
+
+
+def make(page, anew):
+    """Proves and builds the program, or the page where its path is given."""
+    crates = program.needed(program.lines_of(), PAGE)[:-1] if page else program.needed(program.lines_of())
     with tempfile.TemporaryDirectory(prefix="h2_bench-prove-") as room:
         begun = time.time()
-        crates = copy_to(room)
-        say(f"proving the {crates} crates that the program is made of: up to an hour where none is proved yet")
-        progress = Progress(crates)
-        try:
-            prove(room, progress)
-        except Failed as failed:
-            progress.end()
-            print(failed, end="", file=sys.stderr)
-            sys.exit(f"h2_bench: the program is not proved, after {clock(progress.begun)}")
-        finally:
-            progress.end()
-        install(room, begun)
-        say(f"proved and built in {clock(progress.begun)}")
+        copy_to(f"{room}/below", crates)
+        if page:
+            copy_crate(PAGE, f"{room}/{PAGE}")
+        say(f"proving the {len(crates)} crates that the {'page' if page else 'program'} is made of: half an hour on four processors, an hour on two, where none is proved yet")
+        prove(f"{room}/below", crates, anew)
+        if page:
+            build_page(room, crates, page)
+        else:
+            install(f"{room}/below", begun)
 
 
-main()
+def main(words):
+    for number in (signal.SIGTERM, signal.SIGHUP, signal.SIGINT):
+        signal.signal(number, lambda number, _: sys.exit(128 + number))
+    page = os.path.abspath(words.pop(1)) if words[:1] == ["--page"] and len(words) > 1 else None
+    if [word for word in words if word not in ("--anew", "--page")] or words[:1] == ["--page"] and not page:
+        sys.exit("h2_bench: --prove takes no other word than --anew")
+    program.kit()
+    whole = Progress(None)
+    try:
+        make(page, "--anew" in words)
+    except Failed as failed:
+        print(failed, end="", file=sys.stderr)
+        sys.exit(f"h2_bench: the {'page' if page else 'program'} is not proved, after {whole.clock()}")
+    say(f"proved and built in {whole.clock()}")
+
+
+main(sys.argv[1:])

@@ -1,6 +1,6 @@
 /* nghttp2 FILE PIECE BODY [SENT]: feeds a server's session the octets of a client, in pieces, and answers each
  * request with BODY octets once it has ended. What it sends is written to the file SENT, where one is named.
- * For bench/peers/run.py and tests/floods.sh. */
+ * For bench/peers/run.py and tests/floods.py. */
 #include <nghttp2/nghttp2.h>
 #include <stdio.h>
 #include <stdlib.h>

@@ -26,11 +26,11 @@ PIECE = "8000"
 
 # What `play` does, by the names of functions; the first is the connection's. A function that the compiler put into its caller counts there.
 PARTS = {
-    "connection": r"h2_commands::play::played\b",
-    "text in": r"h2_commands::input::read_all\b",
-    "hex in": r"h2_commands::input::read_hex\b",
-    "hex out": r"h2_device::hex_text::HexTextText::write_to\b",
-    "sentences": r"h2_console::second_look::say_outcome\b",
+    "connection": r"h2_cmd_batch::play::played\b",
+    "text in": r"h2_cmd_batch::input::read_all\b",
+    "hex in": r"h2_cmd_batch::input::read_hex\b",
+    "hex out": r"h2_io::hex_text::HexTextText::write_to\b",
+    "sentences": r"h2_host::second_look::say_outcome\b",
 }
 
 # Name, kind of octets.py, items (or fields of each of 200 requests) of the first and of the second run, streams that are open or wait, entries of the book in

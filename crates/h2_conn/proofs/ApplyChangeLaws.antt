@@ -1,6 +1,6 @@
 -- A change is made: what it results in, and what is known after it.
 use Rattle.std.proofs.Common.{◌≡◌, ℕ, ◌-◌, ◌++◌, List, [], refl, sym, ap, subst, ◌∙◌, arith, append-nil, ℤ, pos, ◌-ℤ◌}
-use Rattle.std.specs.Prelude.{Option, Some, None}
+use Rattle.std.specs.Prelude.{Ok, Option, Result, Some, None}
 use Rattle.h2_spec.specs.declared.connection.ConnectionState.{ConnectionState}
 use Rattle.h2_spec.specs.declared.connection.Phase.{Phase}
 use Rattle.h2_spec.specs.declared.connection.Phase.TheVariants as phase
@@ -8,24 +8,29 @@ use Rattle.h2_spec.specs.declared.flow.LocalSettings.{LocalSettings}
 use Rattle.h2_spec.specs.declared.connection.Purpose.{Purpose}
 use Rattle.h2_spec.specs.declared.connection.Purpose.TheVariants.{Request, Trailers, Closed, TableOnly}
 use Rattle.h2_spec.specs.declared.reactions.Change.{Change}
+use Rattle.h2_spec.specs.declared.reactions.Reaction.{Reaction}
+use Rattle.h2_spec.specs.declared.reactions.Reaction.TheVariants.{Continues}
+use Rattle.h2_spec.specs.declared.reactions.Verdict.{Verdict}
 use Rattle.h2_spec.specs.declared.streams.Stream.{Stream}
 use Rattle.h2_spec.specs.declared.streams.StreamState.TheVariants.{WeReset}
-use Rattle.h2_spec.specs.Answer.{Entry}
+use Rattle.h2_spec.specs.Effect.{effect_verdict}
+use Rattle.h2_spec.specs.Requests.Answer.{Entry}
+use Rattle.h2_spec.specs.Requests.Headers.{Makes, makes}
 use Rattle.h2_spec.specs.Change.{Step, frames_of, made, updated_streams}
-use Rattle.h2_spec.specs.Frame.{Frame, frames_octets}
+use Rattle.h2_spec.specs.Frames.Frame.{Frame, frames_octets}
 use Rattle.h2_spec.specs.SendPending.{all_after_sending, send_pending, sent_frames, window_left}
 use Rattle.h2_spec.specs.State.{Decoding, OpenBlock, State}
 use Rattle.h2_spec.specs.Stream.{Records, is_peer_open}
 use Rattle.h2_spec.specs.Trace.{then_sent}
 use Rattle.h2_streams.specs.Put.{can_become}
 use Rattle.h2_conn.specs.Blocks.{IsDecodedAt, IsOpenAt, IsOpenFor, IsStopped}
-use Rattle.h2_conn.specs.Does.{AreShort, Does}
-use Rattle.h2_send.specs.Sending.{all_frames, core_after, open_window, open_window_as, records_after, sent_count, streams_after}
-use Rattle.h2_rules.specs.Sound.{IsSoundChange, IsSoundState, in_force, updated_records}
-use Rattle.h2_send.proofs.AloneLaws.{after-none, none-spent, sent-none}
-use Rattle.h2_send.proofs.KindLaws.{sent-kinds}
-use Rattle.h2_send.proofs.SentLaws.{sent-sound}
-use Rattle.h2_rules.proofs.SoundLaws.{changed-sound, same-own, updated-streams}
+use Rattle.h2_conn.specs.Does.{AreShort, Does, Settles}
+use Rattle.h2_conn_send.specs.Sending.{NoneSends, all_frames, core_after, open_window, open_window_as, records_after, sent_count, streams_after}
+use Rattle.h2_conn_rules.specs.Sound.{IsSoundChange, IsSoundState, in_force, updated_records}
+use Rattle.h2_conn_send.proofs.AloneLaws.{after-none, left-none, none-spent, sent-none}
+use Rattle.h2_conn_send.proofs.KindLaws.{sent-kinds}
+use Rattle.h2_conn_send.proofs.SentLaws.{sent-sound}
+use Rattle.h2_conn_rules.proofs.SoundLaws.{changed-sound, same-own, updated-streams}
 
 -- what is sound for the records of a state is sound for those that it holds
 pub inside-sound : (book : List Entry) (core : ConnectionState) (r : Records) (c : Change) → IsSoundState book core r →
@@ -130,3 +135,41 @@ did s c r now core out out' held counts sending sent short =
       sent = sent;
       short = short;
     })
+
+-- a change without a frame, where no stream can send after it: nothing is sent
+pub did-quietly : (s : State) (c : Change) (out : List ℕ) → frames_of s.book c ≡ [] → NoneSends (open_window c.core) (updated_streams c.record_update s.streams) →
+    Does (then_sent c.core.phase (made s c)) out (record s { core = c.core; streams = updated_streams c.record_update s.streams }) out
+did-quietly s c out silent none =
+    subst (λ (step : Step). Does step out (record s { core = c.core; streams = now }) out) (sym (made-then s c))
+    (record {
+      state = ap (λ (k : ConnectionState). record s { core = k; streams = now }) (sym count) ∙ ap (λ (ss : List Stream). record s { core = core_after c.core now; streams = ss }) (sym (after-none window now none));
+      sent = sym (ap (λ (fs : List Frame). out ++ frames_octets fs) nothing ∙ append-nil out);
+      short = subst AreShort (sym nothing) tt;
+    })
+  where
+    now : List Stream
+    now = updated_streams c.record_update s.streams
+
+    window : ℕ
+    window = open_window c.core
+
+    nothing : all_frames s.book c s.streams ≡ []
+    nothing = ap (λ (fs : List Frame). fs ++ sent_frames s.book c.core.peer.frame window now) silent ∙ sent-none s.book c.core.peer.frame window now none
+
+    counted : ℕ → ConnectionState
+    counted n = record c.core { send = c.core.send -ℤ pos n }
+
+    count : core_after c.core now ≡ c.core
+    count =
+        let left = left-none window now none in
+        ap counted (let zero : window - window_left window now ≡ 0 = omega (arith, left) in zero) ∙ ap (λ (z : ℤ). let k : ConnectionState = record c.core { send = z } in k) (not-less c.core.send)
+
+module _ {E : Type 0} where
+  -- and the call answers how the item is judged
+  pub settles-quietly : (s now : State) (c : Change) (reaction : Reaction) (verdict : Verdict) (out : List ℕ) → reaction ≡ Continues c → verdict ≡ effect_verdict (Makes s c) → frames_of s.book c ≡ [] →
+      NoneSends (open_window c.core) (updated_streams c.record_update s.streams) → now ≡ record s { core = c.core; streams = updated_streams c.record_update s.streams } →
+      (let result : Result Verdict E = Ok verdict in Settles s out (makes s reaction) result now out)
+  settles-quietly s now c reaction verdict out is judged silent none after =
+      let result : Result Verdict E = Ok verdict in
+      subst (λ (r : Reaction). Settles s out (makes s r) result now out) (sym is)
+      (record { ok = subst (λ (t : State). Does (then_sent c.core.phase (made s c)) out t out) (sym after) (did-quietly s c out silent none); verdict = judged; err = tt })

@@ -7,11 +7,11 @@ use Rattle.h2_spec.specs.declared.reactions.BlockSummary.{BlockSummary}
 use Rattle.h2_spec.specs.declared.streams.StreamState.{StreamState}
 use Rattle.h2_spec.specs.declared.streams.StreamState.TheVariants.{Idle, WeReset}
 use Rattle.h2_spec.specs.declared.streams.Stream.{Stream}
-use Rattle.h2_spec.specs.Answer.{Entry, picked}
-use Rattle.h2_spec.specs.Block.{list_size}
-use Rattle.h2_spec.specs.Field.{Field}
-use Rattle.h2_spec.specs.Headers.{max_list, request_summary, request_outcome}
-use Rattle.h2_spec.specs.Request.{malformed, request_cause, request_fault}
+use Rattle.h2_spec.specs.Requests.Answer.{Entry, picked}
+use Rattle.h2_spec.specs.Hpack.Block.{list_size}
+use Rattle.h2_spec.specs.Hpack.Field.{Field}
+use Rattle.h2_spec.specs.Requests.Headers.{max_list, request_summary, request_outcome}
+use Rattle.h2_spec.specs.Requests.Request.{malformed, request_cause, request_fault}
 use Rattle.h2_spec.specs.Stream.{Records, kind_of, not_live, record_of, recorded, stream_at}
 use Rattle.h2_streams.specs.Put.{CanPut, can_become}
 use Rattle.h2_conn.proofs.RequestOutcomeLaws.{large-turn, malformed-turn}

@@ -7,12 +7,11 @@ use Rattle.h2_spec.specs.declared.connection.Purpose.{Purpose}
 use Rattle.h2_spec.specs.declared.connection.Purpose.TheVariants.{Request, Trailers, Closed, TableOnly}
 use Rattle.h2_spec.specs.declared.causes.Cause.TheVariants.{ConnectionIncrementZero, ConnectionWindowExceeded, ConnectionWindowOverflow, DataAfterEndStream, StreamIncrementZero, StreamWindowOverflow}
 use Rattle.h2_spec.specs.declared.reactions.Change.{Change}
-use Rattle.h2_spec.specs.declared.reactions.ConnectionFrame.TheVariants.{PingAck}
 use Rattle.h2_spec.specs.declared.reactions.Reaction.{Reaction}
 use Rattle.h2_spec.specs.declared.reactions.Reaction.TheVariants.{ConnectionError, Continues}
 use Rattle.h2_spec.specs.declared.reactions.ReceivedData.{ReceivedData}
 use Rattle.h2_spec.specs.declared.ignored.Ignored.{Ignored}
-use Rattle.h2_spec.specs.declared.ignored.Ignored.TheVariants.{DataOnReset, PingAcknowledgement}
+use Rattle.h2_spec.specs.declared.ignored.Ignored.TheVariants.{DataOnReset}
 use Rattle.h2_spec.specs.declared.reactions.StreamOutcome.{StreamOutcome}
 use Rattle.h2_spec.specs.declared.streams.Pick.{Pick}
 use Rattle.h2_spec.specs.declared.streams.StreamState.{StreamState}
@@ -20,14 +19,16 @@ use Rattle.h2_spec.specs.declared.streams.StreamState.TheVariants.{Idle, Skipped
 use Rattle.h2_spec.specs.declared.streams.Stream.{Stream}
 use Rattle.h2_spec.specs.Change.{ignoring, only_counts, outcome_without_frame, still_pending, stream_error, with_outcome, with_send, with_size_update_pending}
 use Rattle.h2_spec.specs.Data.{counted, data_counted, data_outcome, data_refused, data_taken, if_within, owed_as, owed_on_connection}
-use Rattle.h2_spec.specs.Effect.{data_rule, ignore, on_data, on_reset, on_window, reset_outcome, reset_rule, window_rule}
-use Rattle.h2_spec.specs.Field.{Field}
-use Rattle.h2_spec.specs.Headers.{block_ends}
+use Rattle.h2_spec.specs.Effect.{data_rule, ignore, on_data, on_ping, on_reset, on_window, reset_outcome, reset_rule, window_rule}
+use Rattle.h2_spec.specs.Hpack.Field.{Field}
+use Rattle.h2_spec.specs.Requests.Headers.{block_ends}
 use Rattle.h2_spec.specs.ReactionTable.{data_cell, reset_cell, run_cell, window_cell}
 use Rattle.h2_spec.specs.State.{State}
 use Rattle.h2_spec.specs.Window.{given_back, is_above_max}
 use Rattle.h2_spec.specs.WindowUpdate.{connection_window, window_outcome}
 use Rattle.h2_conn.specs.Counts.{IsCounted, LeavesCounts, with_counts}
+use Rattle.h2_conn.specs.Records.{records}
+use Rattle.h2_conn_rules.specs.Sound.{IsSound, in_force}
 
 -- a test between two reactions that do
 by-test : (core : ConnectionState) (t : Bool) (r s : Reaction) → IsCounted core r → IsCounted core s → IsCounted core (if t then r else s)
@@ -38,6 +39,10 @@ by-test core false r s first second = second
 pub counted-by : (core now : ConnectionState) (r s : Reaction) → r ≡ s → now ≡ core → IsCounted now s → IsCounted core r
 counted-by core now r s same is h = subst (λ (k : ConnectionState). IsCounted k r) is (subst (IsCounted now) (sym same) h)
 
+-- what a rule says with a state's counts is sound for the state
+pub sound-by : (s : State) (core : ConnectionState) (r : Reaction) → core ≡ s.core → (s.core.last ≡ core.last → IsSound s.book (records s) (in_force core) r) → IsSound s.book (records s) (in_force s.core) r
+sound-by s core r same sound = subst (λ (k : ConnectionState). IsSound s.book (records s) (in_force k) r) same (sound (sym (ap (λ (k : ConnectionState). k.last) same)))
+
 -- ---- rules that leave all counts
 
 pub leaves-by : (core now : ConnectionState) (r s : Reaction) → r ≡ s → now ≡ core → LeavesCounts now s → LeavesCounts core r
@@ -46,7 +51,7 @@ leaves-by core now r s same is h = subst (λ (k : ConnectionState). LeavesCounts
 pub ignore-leaves : (core : ConnectionState) (reason : Ignored) → LeavesCounts core (ignore core reason)
 ignore-leaves core reason = refl
 
-pub ping-leaves : (core : ConnectionState) (is_answer : Bool) (octets : List ℕ) → LeavesCounts core (if is_answer then ignore core PingAcknowledgement else Continues (record (only_counts core) { connection_frame = PingAck octets }))
+pub ping-leaves : (core : ConnectionState) (is_answer : Bool) (octets : List ℕ) → LeavesCounts core (on_ping core is_answer octets)
 ping-leaves core true octets = refl
 ping-leaves core false octets = refl
 

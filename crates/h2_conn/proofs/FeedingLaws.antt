@@ -4,9 +4,9 @@ use Rattle.std.proofs.Math.Seq.{drop-append-add, take-add}
 use Rattle.std.proofs.lemmas.List.{append-nil, take-append-drop}
 use Rattle.h2_spec.specs.declared.connection.Phase.{Phase}
 use Rattle.h2_spec.specs.declared.connection.Phase.TheVariants as phase
-use Rattle.h2_spec.specs.Debug.{state_at}
-use Rattle.h2_spec.specs.Frame.{Next, NoItem, Got, frames_octets}
-use Rattle.h2_spec.specs.Parse.{Front, Stop, One}
+use Rattle.h2_spec.specs.Texts.Debug.{state_at}
+use Rattle.h2_spec.specs.Frames.Frame.{Next, NoItem, Got, frames_octets}
+use Rattle.h2_spec.specs.Frames.Parse.{Front, Stop, One}
 use Rattle.h2_spec.specs.State.{State}
 use Rattle.h2_spec.specs.Trace.{Event, Run, event_on, left_by, next_event, next_in, next_item, sent_octets, trace}
 use Rattle.h2_frame.specs.Items.{found, item_in, missing, missing_in, with_more}

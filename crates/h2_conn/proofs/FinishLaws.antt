@@ -8,12 +8,12 @@ use Rattle.h2_spec.specs.declared.reactions.Change.{Change}
 use Rattle.h2_spec.specs.declared.reactions.RecordUpdate.{RecordUpdate}
 use Rattle.h2_spec.specs.declared.reactions.RecordUpdate.TheVariants.{Unchanged, Put, Shift, Receive}
 use Rattle.h2_spec.specs.declared.streams.Stream.{Stream}
-use Rattle.h2_spec.specs.Answer.{Entry}
+use Rattle.h2_spec.specs.Requests.Answer.{Entry}
 use Rattle.h2_spec.specs.Change.{Step, made, updated_streams}
-use Rattle.h2_spec.specs.DynamicTable.{Table}
-use Rattle.h2_spec.specs.Field.{Field}
-use Rattle.h2_spec.specs.Frame.{frames_octets}
-use Rattle.h2_spec.specs.Headers.{block_ends}
+use Rattle.h2_spec.specs.Hpack.DynamicTable.{Table}
+use Rattle.h2_spec.specs.Hpack.Field.{Field}
+use Rattle.h2_spec.specs.Frames.Frame.{frames_octets}
+use Rattle.h2_spec.specs.Requests.Headers.{block_ends}
 use Rattle.h2_spec.specs.State.{OpenBlock, State}
 use Rattle.h2_spec.specs.Stream.{Records}
 use Rattle.h2_spec.specs.Trace.{then_sent}
@@ -21,12 +21,12 @@ use Rattle.h2_conn.specs.Blocks.{IsOpenFor}
 use Rattle.h2_conn.specs.Counts.{with_counts}
 use Rattle.h2_conn.specs.Does.{AreShort, Does}
 use Rattle.h2_conn.specs.Records.{records}
-use Rattle.h2_send.specs.Sending.{core_after, records_after, streams_after}
-use Rattle.h2_rules.specs.Open.{state_of}
-use Rattle.h2_rules.specs.Sound.{InForce, IsSoundChange, IsSoundRecordUpdate, in_force, updated_records}
+use Rattle.h2_conn_send.specs.Sending.{core_after, records_after, streams_after}
+use Rattle.h2_conn_rules.specs.Open.{state_of}
+use Rattle.h2_conn_rules.specs.Sound.{InForce, IsSoundChange, IsSoundRecordUpdate, in_force, updated_records}
 use Rattle.h2_conn.proofs.ApplyChangeLaws.{made-then, open-after}
 use Rattle.h2_conn.proofs.CountsLaws.{block-counted}
-use Rattle.h2_rules.proofs.SoundLaws.{same-own, updated-streams}
+use Rattle.h2_conn_rules.proofs.SoundLaws.{same-own, updated-streams}
 
 -- the state after a change and sending, by its parts
 abbrev after-step : State → Change → State

@@ -3,8 +3,8 @@ use Rattle.std.proofs.Common.{◌≡◌, ◌∙◌, ◌<◌, ◌^◌, ℕ, Bool,
 use Rattle.h2_frame.specs.Items.{item_in}
 use Rattle.h2_spec.specs.declared.connection.Phase.{Phase}
 use Rattle.h2_spec.specs.declared.connection.Phase.TheVariants as phase
-use Rattle.h2_spec.specs.Frame.{Item, Next, NoItem, Got, next}
-use Rattle.h2_spec.specs.Parse.{Stop, One}
+use Rattle.h2_spec.specs.Frames.Frame.{Item, Next, NoItem, Got, next}
+use Rattle.h2_spec.specs.Frames.Parse.{Stop, One}
 use Rattle.h2_spec.specs.State.{State}
 use Rattle.h2_spec.specs.Trace.{Event, event_on, next_event, next_item, step}
 use Rattle.h2_spec.specs.Trace as trace

@@ -27,18 +27,18 @@ use Rattle.h2_spec.specs.declared.reactions.StreamOutcome.{StreamOutcome}
 use Rattle.h2_spec.specs.declared.streams.StreamState.{StreamState}
 use Rattle.h2_spec.specs.declared.streams.StreamState.TheVariants.{Idle, Skipped, BothOpen, HalfRemote, HalfLocal, Ended, PeerReset, WeReset}
 use Rattle.h2_spec.specs.declared.streams.Stream.{Stream}
-use Rattle.h2_spec.specs.Answer.{Entry}
-use Rattle.h2_spec.specs.Block.{Decoded, Outcome, Unfinished, Faulty, list_size}
+use Rattle.h2_spec.specs.Requests.Answer.{Entry}
+use Rattle.h2_spec.specs.Hpack.Block.{Decoded, Outcome, Unfinished, Faulty, list_size}
 use Rattle.h2_spec.specs.Change.{after, follows_initial_window, ignoring, made, moved_by, only_counts, received, received_one, shifted, shifted_one, stream_error, updated_streams, with_outcome, with_recv, with_send}
 use Rattle.h2_spec.specs.Checks.{refusal}
 use Rattle.h2_spec.specs.Data.{counted, owed_on_connection, owed_as, if_within, data_taken, data_refused, data_counted, data_outcome}
-use Rattle.h2_spec.specs.DynamicTable.{Table}
+use Rattle.h2_spec.specs.Hpack.DynamicTable.{Table}
 use Rattle.h2_spec.specs.Effect.{block_stream, body_length, checked_effect, concluded, data_rule, effect, frame_effect, incoming, item_effect, ignore, on_data, on_headers, on_reset, on_window, part_effect, reset_outcome, reset_rule, window_rule}
-use Rattle.h2_spec.specs.Field.{Field}
-use Rattle.h2_spec.specs.Frame.{Item, Preface, BadPreface, WholeFrame, Oversize}
-use Rattle.h2_spec.specs.FrameType.{ACK, END_HEADERS, has}
-use Rattle.h2_spec.specs.Headers.{FrameEffect, Breaks, Makes, block_ends, block_opens, continued, continuation, decoded_with, fragment, fragment_decoded, fragment_read, fresh_block, fresh_decoding, makes, max_block, request_summary}
-use Rattle.h2_spec.specs.Payload.{HeadersPart, Part, OfData, OfHeaders, OfPriority, OfRstStream, OfSettings, OfSettingsAck, OfPushPromise, OfPing, OfGoaway, OfWindowUpdate, OfContinuation, OfUnknown, part_of}
+use Rattle.h2_spec.specs.Hpack.Field.{Field}
+use Rattle.h2_spec.specs.Frames.Frame.{Item, Preface, BadPreface, WholeFrame, Oversize}
+use Rattle.h2_spec.specs.Frames.FrameType.{ACK, END_HEADERS, has}
+use Rattle.h2_spec.specs.Requests.Headers.{FrameEffect, Breaks, Makes, block_ends, block_opens, continued, continuation, decoded_with, fragment, fragment_decoded, fragment_read, fresh_block, fresh_decoding, makes, max_block, request_summary}
+use Rattle.h2_spec.specs.Frames.Payload.{HeadersPart, Part, OfData, OfHeaders, OfPriority, OfRstStream, OfSettings, OfSettingsAck, OfPushPromise, OfPing, OfGoaway, OfWindowUpdate, OfContinuation, OfUnknown, part_of}
 use Rattle.h2_spec.specs.ReactionTable.{Error, Rule, data_cell, headers_cell, reset_cell, run_cell, window_cell}
 use Rattle.h2_spec.specs.SendPending.{after_sending, all_after_sending, allowance, send_pending}
 use Rattle.h2_spec.specs.SettingsFrame.{comes_into_force, settings_applied, settings_rule, settings_taken}
@@ -47,17 +47,17 @@ use Rattle.h2_spec.specs.Stream.{AreRising, Records, id_of, is_live, kind_of, li
 use Rattle.h2_spec.specs.Trace.{step, then_sent}
 use Rattle.h2_spec.specs.Window.{is_above_max, given_back, sendable}
 use Rattle.h2_spec.specs.WindowUpdate.{connection_window, window_outcome}
-use Rattle.h2_laws.proofs.grants.Agreement.{IsRecorded}
-use Rattle.h2_laws.proofs.grants.Records.{at-found, at-id}
-use Rattle.h2_laws.proofs.grants.Turns.{Proper, data_turn-proper, error-proper, reset_turn-proper, request_turn-proper, trailers_turn-proper, window_turn-proper}
-use Rattle.h2_rules.specs.Sound.{AreSound, InForce, IsSoundState, in_force, is_recorded}
+use Rattle.h2_spec_laws.proofs.grants.Agreement.{IsRecorded}
+use Rattle.h2_spec_laws.proofs.grants.Records.{at-found, at-id}
+use Rattle.h2_spec_laws.proofs.grants.Turns.{Proper, data_turn-proper, error-proper, reset_turn-proper, request_turn-proper, trailers_turn-proper, window_turn-proper}
+use Rattle.h2_conn_rules.specs.Sound.{AreSound, InForce, IsSoundState, in_force, is_recorded}
 use Rattle.h2_streams.specs.Kept.{Rise}
 use Rattle.h2_streams.specs.Rebuilt.{is_live_or, is_this, rebuilt}
 use Rattle.h2_streams.proofs.RebuiltLaws.{IsContinued, continues-of, filter-same, rebuilt-is, rise-front}
 use Rattle.h2_conn.specs.Blocks.{IsOpenAt, IsOpenFor}
 use Rattle.h2_conn.specs.Follows.{Follows, Keeps, can_change, ends_in_reset, is_reset_by, resets_in}
-use Rattle.h2_send.proofs.AboveLaws.{id-after_sending, found_within}
-use Rattle.h2_rules.proofs.SoundLaws.{peer-open-live}
+use Rattle.h2_conn_send.proofs.AboveLaws.{id-after_sending, found_within}
+use Rattle.h2_conn_rules.proofs.SoundLaws.{peer-open-live}
 
 -- ---- one record in a list
 

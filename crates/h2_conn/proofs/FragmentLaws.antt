@@ -3,8 +3,8 @@ use Rattle.std.proofs.Common.{◌≡◌, ◌≢◌, ℕ, Bool, true, false, cond
 use Rattle.std.specs.Prelude.{◌==◌}
 use Rattle.std.proofs.lemmas.Option.{none-some}
 use Rattle.h2_fields.specs.Blocks.{faulted}
-use Rattle.h2_instruction.specs.declared.fault.BlockFault.{BlockFault}
-use Rattle.h2_instruction.specs.declared.fault.BlockFault.TheVariants as fault
+use Rattle.h2_hpack_instruction.specs.declared.fault.BlockFault.{BlockFault}
+use Rattle.h2_hpack_instruction.specs.declared.fault.BlockFault.TheVariants as fault
 use Rattle.h2_spec.specs.declared.connection.BlockView.{BlockView}
 use Rattle.h2_spec.specs.declared.connection.Config.{Config}
 use Rattle.h2_spec.specs.declared.connection.ConnectionState.{ConnectionState}
@@ -13,15 +13,15 @@ use Rattle.h2_spec.specs.declared.causes.Cause.{Cause}
 use Rattle.h2_spec.specs.declared.causes.Cause.TheVariants.{BlockTooLarge, BlockTruncated, SizeUpdateMissing}
 use Rattle.h2_spec.specs.declared.reactions.Change.{Change}
 use Rattle.h2_spec.specs.declared.streams.Stream.{Stream}
-use Rattle.h2_instruction.specs.Faults.{fault_of}
-use Rattle.h2_spec.specs.Answer.{Entry}
-use Rattle.h2_spec.specs.Block.{Fault, ZeroIndex, Index, Integer, Huffman, LateUpdate, LargeUpdate, MissingUpdate, Decoded, Faulty, Outcome, Unfinished, decoded, list_size}
-use Rattle.h2_spec.specs.DynamicTable.{Table}
-use Rattle.h2_spec.specs.Headers as headers
-use Rattle.h2_spec.specs.Headers.{FrameEffect, fragment_decoded, fragment_read, fault_cause}
+use Rattle.h2_hpack_instruction.specs.Faults.{fault_of}
+use Rattle.h2_spec.specs.Requests.Answer.{Entry}
+use Rattle.h2_spec.specs.Hpack.Block.{Fault, ZeroIndex, Index, Integer, Huffman, LateUpdate, LargeUpdate, MissingUpdate, Decoded, Faulty, Outcome, Unfinished, decoded, list_size}
+use Rattle.h2_spec.specs.Hpack.DynamicTable.{Table}
+use Rattle.h2_spec.specs.Requests.Headers as headers
+use Rattle.h2_spec.specs.Requests.Headers.{FrameEffect, fragment_decoded, fragment_read, fault_cause}
 use Rattle.h2_spec.specs.State as state
-use Rattle.h2_rules.specs.Block.{cause_by, refused_end}
-use Rattle.h2_rules.specs.Open.{state_of}
+use Rattle.h2_conn_rules.specs.Block.{cause_by, refused_end}
+use Rattle.h2_conn_rules.specs.Open.{state_of}
 use Rattle.h2_conn.specs.OpenBlocks.{bad_end}
 use Rattle.h2_conn.specs.Fragments.{HasFault, after_fragment, before_fragment}
 

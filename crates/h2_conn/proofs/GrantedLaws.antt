@@ -1,11 +1,11 @@
 -- The law of grants, of the octets that a run sends.
 use Rattle.std.proofs.Common.{◌≡◌, ℕ, List, ◌++◌, refl, sym, subst, Result, Ok, Err, IfOk, OnOk}
 use Rattle.h2_spec.specs.declared.connection.Config.{Config}
-use Rattle.h2_spec.specs.Answer.{Entry}
+use Rattle.h2_spec.specs.Requests.Answer.{Entry}
 use Rattle.h2_spec.specs.Opening.{opening_octets}
 use Rattle.h2_spec.specs.State.{opening}
 use Rattle.h2_spec.specs.Trace.{sent_octets, trace}
-use Rattle.h2_laws.proofs.grants.Law.{grants-kept}
+use Rattle.h2_spec_laws.proofs.grants.Law.{grants-kept}
 use Rattle.h2_conn.specs.Granted.{SendsWithinGrants}
 
 pub within-grants : (book : List Entry) (config : Config) (octets out out' : List ℕ)

@@ -6,11 +6,11 @@ use Rattle.h2_spec.specs.declared.connection.Phase.{Phase}
 use Rattle.h2_spec.specs.declared.causes.Cause.{Cause}
 use Rattle.h2_spec.specs.declared.causes.Cause.TheVariants.{BlockInterrupted}
 use Rattle.h2_spec.specs.declared.frames.Head.{Head}
-use Rattle.h2_spec.specs.Cause.{first_of}
+use Rattle.h2_spec.specs.Causes.Cause.{first_of}
 use Rattle.h2_spec.specs.Checks.{early, interrupts, misplaced, refusal}
 use Rattle.h2_spec.specs.Effect.{block_stream}
-use Rattle.h2_spec.specs.FrameType.{frame_type}
-use Rattle.h2_spec.specs.Payload.{Part, OfContinuation, part_as, part_of}
+use Rattle.h2_spec.specs.Frames.FrameType.{frame_type}
+use Rattle.h2_spec.specs.Frames.Payload.{Part, OfContinuation, part_as, part_of}
 use Rattle.h2_spec.specs.State.{OpenBlock}
 use Rattle.h2_frame.specs.Parts.{part_seen}
 use Rattle.h2_frame.specs.declared.payload.Part as code

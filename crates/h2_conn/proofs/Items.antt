@@ -6,9 +6,9 @@ use Rattle.std.specs.Prelude.{slice_range, nat_lt}
 use Rattle.h2_spec.specs.declared.connection.Phase.{Phase}
 use Rattle.h2_spec.specs.declared.connection.Phase.TheVariants as phase
 use Rattle.h2_spec.specs.declared.frames.Head.{Head}
-use Rattle.h2_spec.specs.Frame.{Item, Preface, BadPreface, WholeFrame, Oversize, Next, NoItem, Got, next, preface, frame_item, head_of}
+use Rattle.h2_spec.specs.Frames.Frame.{Item, Preface, BadPreface, WholeFrame, Oversize, Next, NoItem, Got, next, preface, frame_item, head_of}
 use Rattle.h2_spec.specs.State.{State}
-use Rattle.h2_spec.specs.Parse.{Stop, One}
+use Rattle.h2_spec.specs.Frames.Parse.{Stop, One}
 use Rattle.h2_spec.specs.Trace.{Event, event_on, next_event, next_item, step}
 use Rattle.h2_spec.specs.Trace as trace
 use Rattle.h2_frame.specs.Items.{found, item_in, rest_after, rest_behind}

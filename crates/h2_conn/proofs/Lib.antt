@@ -18,4 +18,6 @@ mod RequestOutcomeLaws
 mod RestLaws
 pub mod Runs
 pub mod Shortest
+mod ShownLaws
 mod TentativeLaws
+mod WindowLaws

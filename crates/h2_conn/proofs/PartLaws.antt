@@ -6,8 +6,8 @@ use Rattle.h2_spec.specs.declared.causes.Cause.{Cause}
 use Rattle.h2_spec.specs.declared.causes.Cause.TheVariants.{DataLength, DataPadding, PriorityLength, PingLength}
 use Rattle.h2_spec.specs.declared.frames.FrameType.{FrameType}
 use Rattle.h2_spec.specs.declared.frames.FrameType.TheVariants.{Data, Headers, Priority, RstStream, Settings, PushPromise, Ping, Goaway, WindowUpdate, Continuation, Unknown}
-use Rattle.h2_spec.specs.FrameType.{PADDED, ACK, has}
-use Rattle.h2_spec.specs.Payload.{Part, DataPart, OfData, OfHeaders, OfRstStream, OfGoaway, OfWindowUpdate, OfPing, OfPriority, part_as, with_part, settings_or_ack, data_part, headers_part, settings_part, window_part, goaway_part, reset_part, octets_if, pad_or_0, pad_length}
+use Rattle.h2_spec.specs.Frames.FrameType.{PADDED, ACK, has}
+use Rattle.h2_spec.specs.Frames.Payload.{Part, DataPart, OfData, OfHeaders, OfRstStream, OfGoaway, OfWindowUpdate, OfPing, OfPriority, part_as, with_part, settings_or_ack, data_part, headers_part, settings_part, window_part, goaway_part, reset_part, octets_if, pad_or_0, pad_length}
 
 abbrev Holds : Result Part Cause → DataPart → Type 0
 Holds r d = r ≡ Ok (OfData d)

@@ -22,16 +22,16 @@ use Rattle.h2_spec.specs.declared.ignored.Ignored.{Ignored}
 use Rattle.h2_spec.specs.declared.ignored.Ignored.TheVariants.{PingAcknowledgement, SecondAcknowledgement}
 use Rattle.h2_spec.specs.declared.reactions.StreamOutcome.{StreamOutcome}
 use Rattle.h2_spec.specs.declared.streams.Stream.{Stream}
-use Rattle.h2_spec.specs.Block.{Decoded, Unfinished, Faulty, list_size}
+use Rattle.h2_spec.specs.Hpack.Block.{Decoded, Unfinished, Faulty, list_size}
 use Rattle.h2_spec.specs.Change.{Step, ignoring, only_counts, stream_error, with_outcome}
 use Rattle.h2_spec.specs.Checks.{refusal}
 use Rattle.h2_spec.specs.Data.{counted, data_counted, data_refused, data_taken, data_outcome, if_within, owed_as, owed_on_connection}
 use Rattle.h2_spec.specs.Effect.{block_stream, body_length, incoming, checked_effect, concluded, data_rule, effect, frame_effect, ignore, on_data, on_headers, on_reset, on_window, part_effect, reset_rule, window_rule}
-use Rattle.h2_spec.specs.Field.{Field}
-use Rattle.h2_spec.specs.Frame.{Item, Preface, BadPreface, WholeFrame, Oversize}
-use Rattle.h2_spec.specs.FrameType.{ACK, END_HEADERS, has}
-use Rattle.h2_spec.specs.Headers.{FrameEffect, Breaks, Makes, block_ends, block_opens, continuation, continued, decoded_with, fault_cause, fragment, fragment_decoded, fragment_read, fresh_block, fresh_decoding, makes, max_block}
-use Rattle.h2_spec.specs.Payload.{HeadersPart, Part, OfData, OfHeaders, OfPriority, OfRstStream, OfSettings, OfSettingsAck, OfPushPromise, OfPing, OfGoaway, OfWindowUpdate, OfContinuation, OfUnknown, part_of}
+use Rattle.h2_spec.specs.Hpack.Field.{Field}
+use Rattle.h2_spec.specs.Frames.Frame.{Item, Preface, BadPreface, WholeFrame, Oversize}
+use Rattle.h2_spec.specs.Frames.FrameType.{ACK, END_HEADERS, has}
+use Rattle.h2_spec.specs.Requests.Headers.{FrameEffect, Breaks, Makes, block_ends, block_opens, continuation, continued, decoded_with, fault_cause, fragment, fragment_decoded, fragment_read, fresh_block, fresh_decoding, makes, max_block}
+use Rattle.h2_spec.specs.Frames.Payload.{HeadersPart, Part, OfData, OfHeaders, OfPriority, OfRstStream, OfSettings, OfSettingsAck, OfPushPromise, OfPing, OfGoaway, OfWindowUpdate, OfContinuation, OfUnknown, part_of}
 use Rattle.h2_spec.specs.SendPending.{send_pending}
 use Rattle.h2_spec.specs.SettingsFrame.{acknowledged, comes_into_force, settings_applied, settings_rule, settings_taken}
 use Rattle.h2_spec.specs.State.{Decoding, OpenBlock, State, configured}

@@ -7,10 +7,10 @@ use Rattle.h2_spec.specs.declared.frames.Head.{Head}
 use Rattle.h2_spec.specs.declared.reactions.ReceivedData.{ReceivedData}
 use Rattle.h2_spec.specs.Checks.{refusal}
 use Rattle.h2_spec.specs.Effect.{block_stream, body_length, checked_effect, concluded, effect, on_data, part_effect}
-use Rattle.h2_spec.specs.Frame.{WholeFrame}
-use Rattle.h2_spec.specs.FrameType.{DATA, END_STREAM, PADDED, has}
-use Rattle.h2_spec.specs.Headers.{makes}
-use Rattle.h2_spec.specs.Payload.{OfData, Part, data_part, part_as, part_of}
+use Rattle.h2_spec.specs.Frames.Frame.{WholeFrame}
+use Rattle.h2_spec.specs.Frames.FrameType.{DATA, END_STREAM, PADDED, has}
+use Rattle.h2_spec.specs.Requests.Headers.{makes}
+use Rattle.h2_spec.specs.Frames.Payload.{OfData, Part, data_part, part_as, part_of}
 use Rattle.h2_spec.specs.State.{State}
 use Rattle.h2_spec.specs.Stream.{stream_at}
 use Rattle.h2_frame.specs.Rest.{Rest}

@@ -8,12 +8,12 @@ use Rattle.h2_spec.specs.declared.connection.ConnectionState.{ConnectionState}
 use Rattle.h2_spec.specs.declared.reactions.BlockSummary.{BlockSummary}
 use Rattle.h2_spec.specs.declared.reactions.StreamOutcome.{StreamOutcome}
 use Rattle.h2_spec.specs.declared.streams.Stream.{Stream}
-use Rattle.h2_spec.specs.Cause.{first_of}
+use Rattle.h2_spec.specs.Causes.Cause.{first_of}
 use Rattle.h2_spec.specs.Change.{stream_error, unless_broken}
-use Rattle.h2_spec.specs.Headers.{max_list, missing, request_outcome, trailers_outcome}
+use Rattle.h2_spec.specs.Requests.Headers.{max_list, missing, request_outcome, trailers_outcome}
 use Rattle.h2_spec.proofs.Computed.{and-left, and-right}
-use Rattle.h2_rules.specs.Plain.{is_well_formed, opened}
-use Rattle.h2_rules.proofs.SoundLaws.{no-cause}
+use Rattle.h2_conn_rules.specs.Plain.{is_well_formed, opened}
+use Rattle.h2_conn_rules.proofs.SoundLaws.{no-cause}
 
 -- of malformed fields only the size of their list is looked at, and nothing of the answer
 pub malformed-turn : (config : Config) (live body body' : ℕ) (early early' : Bool) (core : ConnectionState) (id : ℕ) (ends : Bool) (f f' : BlockSummary) (cause : Cause) → f.size ≡ f'.size → f.malformed ≡ Some cause → f'.malformed ≡ Some cause →

@@ -3,7 +3,7 @@ use Rattle.std.proofs.Common.{◌≡◌, ℕ, Bool, true, false, List, [], refl}
 use Rattle.h2_frame.specs.Rest.{Rest}
 use Rattle.h2_spec.specs.declared.connection.Phase.{Phase}
 use Rattle.h2_spec.specs.declared.connection.Phase.TheVariants.{Preface, Settings, Running, Ended}
-use Rattle.h2_spec.specs.Frame.{NoItem}
+use Rattle.h2_spec.specs.Frames.Frame.{NoItem}
 use Rattle.h2_spec.specs.State.{State}
 use Rattle.h2_spec.specs.Trace.{left_by, next_in, next_item}
 use Rattle.h2_conn.specs.Connection.{IsAtRest, connection, is_ended}

@@ -3,7 +3,7 @@ use Rattle.std.proofs.Common.{◌≡◌, ◌≤◌, List, length, take, ap, subs
 use Rattle.h2_spec.specs.declared.streams.Stream.{Stream}
 use Rattle.h2_spec.specs.State.{State}
 use Rattle.h2_spec.specs.Stream.{AreRising, Records}
-use Rattle.h2_rules.specs.Sound.{IsSoundState}
+use Rattle.h2_conn_rules.specs.Sound.{IsSoundState}
 use Rattle.h2_streams.specs.Kept.{Rise}
 use Rattle.h2_streams.specs.Rebuilt.{AreKnown, AreOthersClosed, rebuilt}
 use Rattle.h2_streams.proofs.PlaceLaws.{rise}

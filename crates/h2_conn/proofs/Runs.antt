@@ -1,18 +1,18 @@
 -- Runs of items, one item after another and one piece of octets after another.
 use Rattle.std.proofs.Common.{◌≡◌, ◌∙◌, ℕ, zero, suc, Bool, true, false, List, [], ◌∷◌, ◌++◌, length, drop, ◌≤◌, ◌+◌, take, arith, length-drop, refl, sym, ap, append_assoc, true≢false, Result, Ok, Err, OnErr}
 use Rattle.std.proofs.lemmas.List.{append-nil}
-use Rattle.h2_spec.specs.Debug.{state_at}
-use Rattle.h2_spec.specs.Frame.{frames_octets}
+use Rattle.h2_spec.specs.Texts.Debug.{state_at}
+use Rattle.h2_spec.specs.Frames.Frame.{frames_octets}
 use Rattle.h2_spec.specs.State.{State}
-use Rattle.h2_spec.specs.Parse.{Front, Stop, One, Parsed, parse_all, parse_first, after_one}
+use Rattle.h2_spec.specs.Frames.Parse.{Front, Stop, One, Parsed, parse_all, parse_first, after_one}
 use Rattle.h2_spec.specs.declared.connection.Config.{Config}
 use Rattle.h2_spec.specs.declared.connection.Phase.{Phase}
 use Rattle.h2_spec.specs.declared.connection.Phase.TheVariants as phase
-use Rattle.h2_spec.specs.Answer.{Entry}
-use Rattle.h2_spec.specs.Frame.{Next, NoItem, Got, next}
+use Rattle.h2_spec.specs.Requests.Answer.{Entry}
+use Rattle.h2_spec.specs.Frames.Frame.{Next, NoItem, Got, next}
 use Rattle.h2_spec.specs.State.{opening}
 use Rattle.h2_spec.specs.Trace.{Event, Run, event_on, left_by, next_event, next_item, sent_octets, trace}
-use Rattle.h2_spec.specs.View.{view}
+use Rattle.h2_spec.specs.Texts.View.{view}
 use Rattle.h2_spec.proofs.ParseLaws.{parse_all-step}
 use Rattle.h2_spec.proofs.TraceLaws.{event-uses}
 use Rattle.h2_conn.specs.Connection.{connection, going, halted, is_ended}

@@ -7,8 +7,8 @@ use Rattle.std.proofs.lemmas.Option.{slice_get_within, slice_get-get_or}
 use Rattle.h2_spec.specs.declared.connection.Phase.{Phase}
 use Rattle.h2_spec.specs.declared.connection.Phase.TheVariants as phase
 use Rattle.h2_spec.specs.declared.frames.Head.{Head}
-use Rattle.h2_spec.specs.Frame.{Item, Preface, BadPreface, WholeFrame, Oversize, Next, NoItem, Got, next, preface_item, preface, frame_item, head_of}
-use Rattle.h2_spec.specs.Parse.{Front, Stop, One}
+use Rattle.h2_spec.specs.Frames.Frame.{Item, Preface, BadPreface, WholeFrame, Oversize, Next, NoItem, Got, next, preface_item, preface, frame_item, head_of}
+use Rattle.h2_spec.specs.Frames.Parse.{Front, Stop, One}
 use Rattle.h2_spec.specs.State.{State}
 use Rattle.h2_spec.specs.Trace.{Event, event_on, left_by, next_event, next_in, next_item}
 use Rattle.h2_spec.proofs.ParseLaws as laws
@@ -18,7 +18,7 @@ use Rattle.h2_conn.specs.Connection.{going, is_ended}
 use Rattle.h2_conn.specs.Runs.{Takes, TakesOne, Waits}
 use Rattle.h2_conn.proofs.Items.{none-after}
 use Rattle.h2_conn.proofs.Plays.{empty-stop, left-none}
-use Rattle.h2_text.proofs.Views.{take-next}
+use Rattle.h2_conn_view.proofs.Views.{take-next}
 use Rattle.h2_conn.proofs.Runs.{left-ended, left-going, stop-none}
 
 -- octets that agree with others, as far as these reach

@@ -5,12 +5,12 @@ use Rattle.std.proofs.lemmas.List.{append-nil}
 use Rattle.std.proofs.Math.Seq.{take-append_seam}
 use Rattle.h2_fields.specs.Blocks.{faulted}
 use Rattle.h2_fields.specs.Applied.{Grows, IsStopped}
-use Rattle.h2_instruction.specs.declared.fault.BlockFault.{BlockFault}
-use Rattle.h2_instruction.specs.declared.fault.BlockFault.TheVariants as fault
+use Rattle.h2_hpack_instruction.specs.declared.fault.BlockFault.{BlockFault}
+use Rattle.h2_hpack_instruction.specs.declared.fault.BlockFault.TheVariants as fault
 use Rattle.h2_fields.specs.declared.collected.Savepoint.{Savepoint}
-use Rattle.h2_spec.specs.Block.{Decoded, FieldsSoFar, Progress, Unfinished, decoded, list_size, progress_with}
-use Rattle.h2_spec.specs.DynamicTable.{Table}
-use Rattle.h2_spec.specs.Field.{Field}
+use Rattle.h2_spec.specs.Hpack.Block.{Decoded, FieldsSoFar, Progress, Unfinished, decoded, list_size, progress_with}
+use Rattle.h2_spec.specs.Hpack.DynamicTable.{Table}
+use Rattle.h2_spec.specs.Hpack.Field.{Field}
 use Rattle.h2_spec.specs.State.{Decoding}
 use Rattle.h2_spec.specs.declared.connection.Purpose.{Purpose}
 use Rattle.h2_conn.specs.Fragments.{HasFault, IsUntouched, Tentative, after_fragment, before_fragment, before_of}
@@ -106,3 +106,12 @@ pub faulty-answered : (r : Result (Unit {0}) BlockFault) (limit : ℕ) (before a
     IfErr r (λ f. f ≢ fault.NoMemory → HasFault f (decoded limit (before_fragment before d) (d.rest ++ octets)))
 faulty-answered (Ok u) limit before after old now rest octets purpose d view stopped = tt
 faulty-answered (Err f) limit before after old now rest octets purpose d view stopped = λ other. is-faulty limit before old (progress_with after now) rest octets purpose d f view stopped other
+
+-- its fields are those in front of the fault
+pub read-answered : (r : Result (Unit {0}) BlockFault) (limit : ℕ) (before after : Table) (old now : FieldsSoFar) (rest octets : List ℕ) (purpose : Purpose) (d : Decoding) →
+    record { purpose = purpose; fields = old.fields; due = old.due; rest = rest } ≡ d →
+    IfErr r (λ f. IsStopped limit (progress_with before old) (rest ++ octets) (progress_with after now) f) →
+    IfErr r (λ f. f ≢ fault.NoMemory → (decoded limit (before_fragment before d) (d.rest ++ octets)).progress.fields ≡ now.fields)
+read-answered (Ok u) limit before after old now rest octets purpose d view stopped = tt
+read-answered (Err f) limit before after old now rest octets purpose d view stopped = λ other.
+    ap (λ (x : Decoded). x.progress.fields) (same-decoded limit before old rest octets purpose d view) ∙ ap (λ (p : Progress). p.fields) (stopped.exact other).0

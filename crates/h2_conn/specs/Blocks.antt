@@ -1,14 +1,15 @@
 -- Field blocks that are not at their end.
-use Rattle.std.specs.Prelude.{◌≡◌, ℕ, Bool, Option, Some, None, Result, Ok, Err}
+use Rattle.std.specs.Prelude.{◌≡◌, ℕ, Bool, true, false, Option, Some, None, Result, Ok, Err}
 use Rattle.h2_spec.specs.declared.causes.Cause.{Cause}
 use Rattle.h2_spec.specs.declared.connection.BlockView.{BlockView}
 use Rattle.h2_spec.specs.declared.reactions.Change.{Change}
-use Rattle.h2_spec.specs.DynamicTable.{LimitedTable, Table}
-use Rattle.h2_spec.specs.Headers as headers
+use Rattle.h2_spec.specs.Hpack.DynamicTable.{LimitedTable, Table}
+use Rattle.h2_spec.specs.Requests.Headers as headers
 use Rattle.h2_spec.specs.State.{Decoding, OpenBlock, State}
 use Rattle.h2_spec.specs.Stream.{Records}
+use Rattle.h2_conn.specs.Fragments.{Tentative, after_of}
 use Rattle.h2_conn.specs.OpenBlocks.{block_after, decoding_in}
-pub use Rattle.h2_rules.specs.Open.{IsOpenAt}
+pub use Rattle.h2_conn_rules.specs.Open.{IsOpenAt}
 use Rattle.h2_table.specs.Edits.{EditOf, edited}
 
 -- ---- the stream of an open block
@@ -37,6 +38,14 @@ with_table s edit = record s { table = edited s.table.entries edit }
 abbrev pub effect_read : State → Decoding → Bool → Result BlockView Cause → headers.FrameEffect
 effect_read s d end_headers (Err cause) = headers.Breaks cause
 effect_read s d end_headers (Ok shown) = headers.fragment_read s shown d end_headers
+
+-- a fragment was decoded, and its block goes on: with the header table that this edit makes of the state's own
+abbrev pub going_on : State → EditOf → BlockView → Decoding → Tentative → headers.FrameEffect
+going_on s edit shown d t = headers.fragment_read (with_table s edit) shown (after_of d t) false
+
+-- a fragment was decoded that is the last of its block
+abbrev pub at_end : State → EditOf → BlockView → Decoding → Tentative → headers.FrameEffect
+at_end s edit shown d t = headers.fragment_read (with_table s edit) shown (after_of d t) true
 
 -- a change, with this block and the header table that this edit makes of the state's own
 abbrev pub makes_open : State → EditOf → Option BlockView → Decoding → Change → headers.FrameEffect

@@ -4,11 +4,11 @@ use Rattle.std.specs.List.{filter}
 use Rattle.h2_spec.specs.declared.connection.Config.{Config}
 use Rattle.h2_spec.specs.declared.connection.ConnectionState.{ConnectionState}
 use Rattle.h2_spec.specs.declared.streams.Stream.{Stream}
-use Rattle.h2_spec.specs.Answer.{Entry}
-use Rattle.h2_spec.specs.DynamicTable.{Table}
+use Rattle.h2_spec.specs.Requests.Answer.{Entry}
+use Rattle.h2_spec.specs.Hpack.DynamicTable.{Table}
 use Rattle.h2_spec.specs.State.{OpenBlock, State}
 use Rattle.h2_spec.specs.Stream.{AreRising, Records}
-use Rattle.h2_rules.specs.Sound.{IsSoundState}
+use Rattle.h2_conn_rules.specs.Sound.{IsSoundState}
 use Rattle.h2_conn.specs.Blocks.{IsOpenFor}
 use Rattle.h2_conn.specs.Follows.{Follows, can_change}
 

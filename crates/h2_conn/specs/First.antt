@@ -1,7 +1,7 @@
 -- Taking the first item of octets in hand (RFC 9113, 3.4).
 use Rattle.std.specs.Prelude.{◌≡◌, ℕ, ◌++◌, List, Option, Some, None}
-use Rattle.h2_spec.specs.Frame.{frames_octets}
-use Rattle.h2_spec.specs.Parse.{Stop, One}
+use Rattle.h2_spec.specs.Frames.Frame.{frames_octets}
+use Rattle.h2_spec.specs.Frames.Parse.{Stop, One}
 use Rattle.h2_spec.specs.State.{State}
 use Rattle.h2_spec.specs.Trace.{Event, next_event}
 use Rattle.h2_conn.specs.Does.{AreShort}

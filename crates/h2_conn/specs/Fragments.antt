@@ -1,10 +1,10 @@
 -- A fragment that is decoded over an edit of the table, and not taken over yet.
-use Rattle.std.specs.Prelude.{◌≡◌, ℕ, List, Some, length, take}
+use Rattle.std.specs.Prelude.{◌≡◌, ℕ, ◌++◌, List, Some, length, take}
 use Rattle.h2_fields.specs.declared.collected.Savepoint.{Savepoint}
 use Rattle.h2_fields.specs.Blocks.{faulted}
-use Rattle.h2_instruction.specs.declared.fault.BlockFault.{BlockFault}
-use Rattle.h2_spec.specs.Block.{Decoded, Progress, Unfinished, list_size}
-use Rattle.h2_spec.specs.DynamicTable.{Table}
+use Rattle.h2_hpack_instruction.specs.declared.fault.BlockFault.{BlockFault}
+use Rattle.h2_spec.specs.Hpack.Block.{Decoded, Progress, Unfinished, decoded, list_size}
+use Rattle.h2_spec.specs.Hpack.DynamicTable.{Table}
 use Rattle.h2_spec.specs.State.{Decoding}
 
 -- what takes a block that is decoded with a fragment more back or on: the end of the fields before the fragment, the
@@ -38,6 +38,10 @@ before_fragment table d = record { fields = d.fields; table = table; due = d.due
 -- and after it, up to the beginning of an instruction
 abbrev pub after_fragment : Table → Decoding → Decoded
 after_fragment table d = record { progress = record { fields = d.fields; table = table; due = d.due }; outcome = Unfinished d.rest }
+
+-- what the octets of a fragment, after those that are left before it, are decoded to
+abbrev pub decoded_on : ℕ → Table → Decoding → Tentative → List ℕ → Decoded
+decoded_on limit table d t octets = decoded limit (before_fragment table (before_of d t)) (t.before ++ octets)
 
 -- it has this fault
 abbrev pub HasFault : BlockFault → Decoded → Type 0

@@ -1,11 +1,11 @@
 -- What a new connection sends keeps to what its peer grants.
 use Rattle.std.specs.Prelude.{◌≡◌, ℕ, ◌≤◌, ◌++◌, List}
 use Rattle.h2_spec.specs.declared.connection.Config.{Config}
-use Rattle.h2_spec.specs.Answer.{Entry}
+use Rattle.h2_spec.specs.Requests.Answer.{Entry}
 use Rattle.h2_spec.specs.Opening.{opening_octets}
 use Rattle.h2_spec.specs.State.{opening}
 use Rattle.h2_spec.specs.Trace.{Event, sent_octets, trace}
-use Rattle.h2_laws.specs.Grants.{Keeps, start}
+use Rattle.h2_spec_laws.specs.Grants.{Keeps, start}
 
 -- out has gained the opening SETTINGS and the frames of the items of the octets; and these, item by item and on each
 -- stream, keep to what the peer

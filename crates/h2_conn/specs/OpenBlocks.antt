@@ -6,13 +6,13 @@ use Rattle.h2_spec.specs.declared.connection.Config.{Config}
 use Rattle.h2_spec.specs.declared.connection.Purpose.{Purpose}
 use Rattle.h2_spec.specs.declared.connection.Purpose.TheVariants.{Request, Trailers, Closed, TableOnly}
 use Rattle.h2_spec.specs.declared.streams.Stream.{Stream}
-use Rattle.h2_spec.specs.Answer.{Entry}
-use Rattle.h2_spec.specs.Field.{Field}
-use Rattle.h2_spec.specs.Headers.{request_summary}
+use Rattle.h2_spec.specs.Requests.Answer.{Entry}
+use Rattle.h2_spec.specs.Hpack.Field.{Field}
+use Rattle.h2_spec.specs.Requests.Headers.{request_summary}
 use Rattle.h2_spec.specs.State.{Decoding, OpenBlock}
 use Rattle.h2_spec.specs.Stream.{live_count}
-use Rattle.h2_rules.specs.Block.{refused_end}
-use Rattle.h2_rules.specs.Plain.{is_well_formed}
+use Rattle.h2_conn_rules.specs.Block.{refused_end}
+use Rattle.h2_conn_rules.specs.Plain.{is_well_formed}
 
 -- why a block can't end here, if it can't (RFC 9113, 4.3)
 abbrev pub bad_end : Decoding → Option Cause

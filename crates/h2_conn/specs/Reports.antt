@@ -3,8 +3,8 @@ use Rattle.std.specs.Prelude.{ℕ, Option, Some, None, option_map}
 use Rattle.h2_spec.specs.declared.frames.ItemHead.{ItemHead}
 use Rattle.h2_spec.specs.declared.frames.ItemHead.TheVariants as head
 use Rattle.h2_spec.specs.Effect.{cause_of}
-use Rattle.h2_spec.specs.Frame.{Item, Preface, BadPreface, WholeFrame, Oversize, Next, NoItem, Got}
-use Rattle.h2_spec.specs.Ignored.{ignored_of}
+use Rattle.h2_spec.specs.Frames.Frame.{Item, Preface, BadPreface, WholeFrame, Oversize, Next, NoItem, Got}
+use Rattle.h2_spec.specs.Causes.Ignored.{ignored_of}
 use Rattle.h2_spec.specs.State.{State}
 use Rattle.h2_conn.specs.declared.report.TakenItem.{TakenItem}
 

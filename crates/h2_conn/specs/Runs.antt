@@ -1,14 +1,14 @@
 -- What feeding octets to a connection results in (RFC 9113, 3.4).
 use Rattle.std.specs.Prelude.{◌≡◌, ℕ, ◌≤◌, ◌++◌, ◌-◌, Bool, true, false, List, [], length, take, drop}
 use Rattle.h2_spec.specs.declared.connection.Config.{Config}
-use Rattle.h2_spec.specs.Answer.{Entry}
-use Rattle.h2_spec.specs.Debug.{state_at}
-use Rattle.h2_spec.specs.Frame.{frames_octets}
-use Rattle.h2_spec.specs.Parse.{Stop, One, parse_all}
+use Rattle.h2_spec.specs.Requests.Answer.{Entry}
+use Rattle.h2_spec.specs.Texts.Debug.{state_at}
+use Rattle.h2_spec.specs.Frames.Frame.{frames_octets}
+use Rattle.h2_spec.specs.Frames.Parse.{Stop, One, parse_all}
 use Rattle.h2_spec.specs.Opening.{opening_octets}
 use Rattle.h2_spec.specs.State.{State, opening}
 use Rattle.h2_spec.specs.Trace.{Event, Run, left_by, next_event, sent_octets, trace}
-use Rattle.h2_spec.specs.View.{View, view}
+use Rattle.h2_spec.specs.Texts.View.{View, view}
 use Rattle.h2_conn.specs.declared.one.One as code
 use Rattle.h2_conn.specs.Connection.{Connection, going, halted}
 use Rattle.h2_conn.specs.Does.{AreShort}

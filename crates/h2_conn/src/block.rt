@@ -1,16 +1,17 @@
 //! Fragments of field blocks, from HEADERS and CONTINUATION (RFC 9113, 4.3, 6.2 and 6.10). Definition: `fragment` of
-//! h2_spec's `specs/Headers.antt`.
+//! h2_spec's `specs/Requests/Headers.antt`.
 
 ghost use Rattle.std.specs.Prelude.{◌≡◌, Bool, IfOk};
-ghost use Rattle.h2_spec.specs.Headers as rule;
+ghost use Rattle.h2_spec.specs.Requests.Headers as rule;
 ghost use Rattle.h2_table.specs.Edits.{IsEdit};
 ghost use Rattle.h2_conn.specs.Blocks.{effect_read, limited, with_table};
 ghost use Rattle.h2_conn.specs.Fragments.{IsSized, IsUntouched, after_of, before_of};
+ghost use Rattle.h2_conn.specs.Shown.{fields_with};
 
 use crate::decoding::Decoding;
 use crate::state::State;
 use crate::tentative::Tentative;
-use h2_rules::block::{fault_cause, is_block_too_large};
+use h2_conn_rules::block::{fault_cause, is_block_too_large};
 use h2_spec::causes::Cause;
 use h2_spec::connection::BlockView;
 use h2_table::Edit;
@@ -39,7 +40,10 @@ impl<'b, A: Allocator + Copy> State<'b, A> {
         ensures purpose { decoding.new.purpose ≡ decoding.old.purpose }
         ensures stream { IfOk result (λ read. IfOk read (λ view. view.stream ≡ shown.stream)) }
         ensures belongs { IfOk result (λ read. IsEdit (limited self.now.core.own.table self.now.table) edit.new) }
-        ensures effect { IfOk result (λ read. (end_headers : Bool) → effect_read (with_table self.now edit.new) (after_of decoding.new tentative.new) end_headers read ≡ rule.fragment self.now shown (before_of decoding.old tentative.old) octets.now end_headers) }
+        ensures fields { IfOk result (λ read. decoding.new.fields ≡ fields_with self.now shown (before_of decoding.old tentative.old) octets.now) }
+        ensures effect { IfOk result (λ read. (end_headers : Bool)
+            → effect_read (with_table self.now edit.new) (after_of decoding.new tentative.new) end_headers read
+            ≡ rule.fragment self.now shown (before_of decoding.old tentative.old) octets.now end_headers) }
     {
         let count = shown.octets as usize + octets.len();
         if is_block_too_large(count) {

@@ -1,5 +1,5 @@
 //! What a field block results in at its end (RFC 9113, 4.3, 5.1 and 8.1). Definition: `block_ends` of h2_spec's
-//! `specs/Headers.antt`.
+//! `specs/Requests/Headers.antt`.
 
 ghost use Rattle.std.specs.Prelude.{◌≡◌, true, false, length, nat_lt, Option, None, Some, IfSome, is_some};
 ghost use Rattle.h2_spec.specs.declared.connection.Config.{Config};
@@ -7,36 +7,36 @@ ghost use Rattle.h2_spec.specs.declared.connection.Purpose.TheVariants.{Closed, 
 ghost use Rattle.h2_spec.specs.declared.causes.Cause.{Cause};
 ghost use Rattle.h2_spec.specs.declared.causes.Cause.TheVariants.{HeadersAfterEndStream};
 ghost use Rattle.h2_spec.specs.declared.streams.Pick.TheVariants.{NotFound};
-ghost use Rattle.h2_spec.specs.Answer.{picked};
-ghost use Rattle.h2_spec.specs.Block.{list_size};
+ghost use Rattle.h2_spec.specs.Requests.Answer.{picked};
+ghost use Rattle.h2_spec.specs.Hpack.Block.{list_size};
 ghost use Rattle.h2_spec.specs.Change as changes;
-ghost use Rattle.h2_spec.specs.DynamicTable.{Table};
-ghost use Rattle.h2_spec.specs.Headers as rule;
-ghost use Rattle.h2_spec.specs.Request.{malformed, request_fault, trailers_fault};
+ghost use Rattle.h2_spec.specs.Hpack.DynamicTable.{Table};
+ghost use Rattle.h2_spec.specs.Requests.Headers as rule;
+ghost use Rattle.h2_spec.specs.Requests.Request.{malformed, request_fault, trailers_fault};
 ghost use Rattle.h2_spec.specs.State.{OpenBlock};
 ghost use Rattle.h2_spec.specs.Stream.{Records};
 ghost use Rattle.h2_conn.specs.OpenBlocks.{is_opening};
-ghost use Rattle.h2_entries.specs.Lent.{IsPickOf};
-ghost use Rattle.h2_rules.specs.Open.{IsOpenAt, state_of};
-ghost use Rattle.h2_rules.specs.Plain.{opened};
-ghost use Rattle.h2_rules.specs.Sound.{HasBody, IsSoundChange, IsSoundConnectionState, IsSoundState, IsSoundStream, in_force, is_recorded};
+ghost use Rattle.h2_request_book.specs.Lent.{IsPickOf};
+ghost use Rattle.h2_conn_rules.specs.Open.{IsOpenAt, state_of};
+ghost use Rattle.h2_conn_rules.specs.Plain.{opened};
+ghost use Rattle.h2_conn_rules.specs.Sound.{HasBody, IsSoundChange, IsSoundConnectionState, IsSoundState, IsSoundStream, in_force, is_recorded};
 
-use h2_entries::book::Book;
-use h2_fields::collected::Collected;
-use h2_rules::block::goes_on;
-use h2_rules::change::{only_counts, stream_error, with_outcome};
-use h2_rules::headers::{
+use h2_conn_rules::block::goes_on;
+use h2_conn_rules::change::{only_counts, stream_error, with_outcome};
+use h2_conn_rules::headers::{
     is_full, is_too_large, is_well_formed, opened, request_outcome, trailers_outcome,
 };
+use h2_fields::collected::Collected;
+use h2_request_book::book::Book;
+use h2_request_well_formed::causes::{request_cause, trailers_cause};
+use h2_request_well_formed::fields::Fields;
+use h2_request_well_formed::reason::Malformed;
+use h2_request_well_formed::well_formed::{check_fields, check_trailer_fields};
 use h2_spec::causes::Cause;
 use h2_spec::connection::{BlockView, Config, ConnectionState, Purpose};
 use h2_spec::reactions::{BlockSummary, Change, StreamOutcome};
 use h2_spec::streams::Pick;
 use h2_streams::Streams;
-use h2_well_formed::causes::{request_cause, trailers_cause};
-use h2_well_formed::fields::Fields;
-use h2_well_formed::reason::Malformed;
-use h2_well_formed::well_formed::{check_fields, check_trailer_fields};
 use std::alloc::Allocator;
 
 /// What the fields of a request result in.
@@ -46,7 +46,8 @@ use std::alloc::Allocator;
 fn request_summary<A: Allocator>(book: &Book<A>, fields: &Collected<A>) -> BlockSummary
     ensures size { result.size ≡ list_size fields.now.fields }
     ensures malformed { nat_lt rule.max_list result.size ≡ false → result.malformed ≡ request_fault fields.now.fields }
-    ensures well_formed { nat_lt rule.max_list result.size ≡ false → malformed fields.now.fields ≡ None → result ≡ rule.request_summary book.now fields.now.fields }
+    ensures well_formed { nat_lt rule.max_list result.size ≡ false → malformed fields.now.fields ≡ None
+        → result ≡ rule.request_summary book.now fields.now.fields }
     ensures pick { IsPickOf book.now result.pick }
 {
     let size = fields.list_size();
@@ -117,7 +118,8 @@ fn request_ends<A: Allocator + Copy>(
 ) -> Change
     requires sound { IsSoundState book.now core streams.now }
     requires open { IsOpenAt streams.now shown.now.stream Request }
-    ensures rule { (b : Option OpenBlock) (table : Table) → result ≡ rule.request_ends (state_of book.now config core b table streams.now.streams) shown.now.stream shown.now.ends fields.now.fields }
+    ensures rule { (b : Option OpenBlock) (table : Table)
+        → result ≡ rule.request_ends (state_of book.now config core b table streams.now.streams) shown.now.stream shown.now.ends fields.now.fields }
     ensures sound { IsSoundChange book.now streams.now (in_force core) result }
 {
     let summary = request_summary(book, fields);
@@ -139,7 +141,8 @@ fn request_opens<A: Allocator>(
 ) -> Change
     requires core { IsSoundConnectionState core }
     requires pick { IsPickOf book.now summary.pick }
-    ensures rule { let a = picked book.now summary.pick in result ≡ changes.with_outcome (changes.only_counts (record core { last = id })) (opened (length a.body) a.early core id ends summary) }
+    ensures rule { let a = picked book.now summary.pick in
+        result ≡ changes.with_outcome (changes.only_counts (record core { last = id })) (opened (length a.body) a.early core id ends summary) }
     ensures sound { (r : Records) → IsOpenAt r id Request → IsSoundChange book.now r (in_force core) result }
 {
     let change = only_counts(ConnectionState { last: id, ..core });
@@ -165,7 +168,8 @@ pub fn opening<A: Allocator + Copy>(
     requires sound { IsSoundState book.now core streams.now }
     requires open { IsOpenAt streams.now shown.now.stream purpose }
     ensures opens { is_some result ≡ is_opening book.now config streams.now.streams shown.now.ends fields.now.fields purpose }
-    ensures rule { (b : Option OpenBlock) (table : Table) → IfSome result (λ change. change ≡ rule.block_ends (state_of book.now config core b table streams.now.streams) shown.now.stream shown.now.ends fields.now.fields purpose) }
+    ensures rule { (b : Option OpenBlock) (table : Table) → IfSome result (λ change.
+        change ≡ rule.block_ends (state_of book.now config core b table streams.now.streams) shown.now.stream shown.now.ends fields.now.fields purpose) }
     ensures sound { IfSome result (λ change. IsSoundChange book.now streams.now (in_force core) change) }
 {
     match purpose {
@@ -194,7 +198,8 @@ fn trailers_end<A: Allocator + Copy>(
 ) -> Change
     requires sound { IsSoundState book.now core streams.now }
     requires open { IsOpenAt streams.now shown.now.stream Trailers }
-    ensures rule { (config : Config) (b : Option OpenBlock) (table : Table) → result ≡ rule.trailers_end (state_of book.now config core b table streams.now.streams) shown.now.stream shown.now.ends fields.now.fields }
+    ensures rule { (config : Config) (b : Option OpenBlock) (table : Table)
+        → result ≡ rule.trailers_end (state_of book.now config core b table streams.now.streams) shown.now.stream shown.now.ends fields.now.fields }
     ensures sound { IsSoundChange book.now streams.now (in_force core) result }
 {
     let stream = streams.stream_at(shown.stream);
@@ -251,7 +256,8 @@ pub fn block_ends<A: Allocator + Copy>(
 ) -> Change
     requires sound { IsSoundState book.now core streams.now }
     requires open { IsOpenAt streams.now shown.now.stream purpose }
-    ensures rule { (b : Option OpenBlock) (table : Table) → result ≡ rule.block_ends (state_of book.now config core b table streams.now.streams) shown.now.stream shown.now.ends fields.now.fields purpose }
+    ensures rule { (b : Option OpenBlock) (table : Table)
+        → result ≡ rule.block_ends (state_of book.now config core b table streams.now.streams) shown.now.stream shown.now.ends fields.now.fields purpose }
     ensures sound { IsSoundChange book.now streams.now (in_force core) result }
 {
     match purpose {

@@ -13,7 +13,7 @@ use crate::conn::Conn;
 use crate::kept_block::{KeptBlock, keep_open, restore_open};
 use crate::open_block::OpenBlock;
 use crate::state::State;
-use h2_entries::book::Book;
+use h2_request_book::book::Book;
 use h2_spec::connection::{Config, ConnectionState, Purpose};
 use h2_streams::KeptStreams;
 use h2_table::KeptTable;
@@ -36,7 +36,7 @@ pub struct Checkpoint<'b, A: Allocator> {
 impl<'b, A: Allocator> Model for Checkpoint<'b, A> {
     ghost use Rattle.std.specs.Prelude.{◌≡◌};
     ghost use Rattle.h2_spec.specs.State.{configured};
-    ghost use Rattle.h2_rules.specs.Sound.{AreInRange};
+    ghost use Rattle.h2_conn_rules.specs.Sound.{AreInRange};
     ghost use Rattle.h2_conn.specs.Checkpoint.{CheckpointView};
 
     ghost Value = { CheckpointView };

@@ -4,13 +4,13 @@
 
 ghost use Rattle.std.specs.Prelude.{◌≡◌, ◌++◌, ◌∷◌, ◌<◌, ◌^◌, [], true, false, IfOk, IfErr, IsOk, OnOk, OnErr, Some, option_map};
 ghost use Rattle.std.specs.String.{string_bytes};
-ghost use Rattle.h2_spec.specs.Errors.{code_number};
-ghost use Rattle.h2_spec.specs.Frame.{NoItem};
+ghost use Rattle.h2_spec.specs.Causes.Errors.{code_number};
+ghost use Rattle.h2_spec.specs.Frames.Frame.{NoItem};
 ghost use Rattle.h2_spec.specs.Opening.{opening_octets};
-ghost use Rattle.h2_spec.specs.Show.{show};
+ghost use Rattle.h2_spec.specs.Texts.Show.{show};
 ghost use Rattle.h2_spec.specs.State as states;
 ghost use Rattle.h2_spec.specs.State.{ended_code, opening};
-ghost use Rattle.h2_spec.specs.View.{view};
+ghost use Rattle.h2_spec.specs.Texts.View.{view};
 ghost use Rattle.h2_conn.specs.Connection.{going, halted, is_ended};
 ghost use Rattle.h2_spec.specs.State.{is_allowed};
 ghost use Rattle.h2_conn.specs.declared.fault.ConnFault.TheVariants.{Failed, NoMemory};
@@ -20,6 +20,7 @@ ghost use Rattle.h2_conn.specs.Checkpoint.{Precedes, checkpoint_of};
 ghost use Rattle.h2_conn.specs.Follows.{Follows};
 ghost use Rattle.h2_conn.specs.Reports.{reported, used_by};
 ghost use Rattle.h2_conn.specs.Runs.{Feeds, FeedsOne, Halts};
+ghost use Rattle.h2_conn.specs.Shown.{Shows, fields_at_hand, next_fields};
 ghost use Rattle.h2_spec.specs.Trace.{next_item};
 
 use crate::checkpoint::Checkpoint;
@@ -27,14 +28,16 @@ use crate::fault::ConnFault;
 use crate::feeding::{take_one, take_piece};
 use crate::first::empty_splitter;
 use crate::one::One;
+use crate::open_block::fields_at_hand;
 use crate::report::{TakenItem, report_first_in_order};
 use crate::scratch::Scratch;
 use crate::state::State;
 use crate::view::View;
-use h2_device::{DeviceFault, Output, Text, string_of};
-use h2_entries::book::Book;
+use h2_conn_send::write_opening;
+use h2_fields::collected::Collected;
 use h2_frame::{Outgoing, Splitter};
-use h2_send::write_opening;
+use h2_io::{DeviceFault, Output, Text, string_of};
+use h2_request_book::book::Book;
 use h2_spec::connection::{Config, Phase};
 use std::alloc::{AllocError, Allocator};
 use std::marker::Model;
@@ -230,6 +233,42 @@ impl<'b, A: Allocator + Copy> Conn<'b, A> {
             self.splitter.expect_preface(false);
         }
         Ok(taken)
+    }
+
+    /// As `take_and_report`, with memory of the caller: the fields that the item shows of its block are then what `fields`
+    /// lends.
+    ///
+    /// # Errors
+    ///
+    /// `AllocError` where memory is refused: nothing of the item is done, and the same item can be taken again.
+    pub fn take_and_lend<O: Outgoing<'b, A>>(
+        &mut self,
+        octets: &[u8],
+        memory: &mut Scratch<A>,
+        out: &mut O,
+    ) -> Result<Option<TakenItem>, AllocError>
+        requires ready { self.old ≡ going self.old.state [] }
+        ensures ok { IfOk result (λ taken. TakesIfAny self.old.state octets.now (O.octets out.old) self.new.state (O.octets out.new) (used_by taken)) }
+        ensures report { IfOk result (λ taken. taken ≡ reported self.old.state (next_item self.old.state octets.now)) }
+        ensures fields { OnOk result (Shows (next_fields self.old.state (next_item self.old.state octets.now))
+            (fields_at_hand self.new.state.block memory.new.decoding.fields)) }
+        ensures ready { self.new ≡ going self.new.state [] }
+        ensures follows { OnOk result (Follows self.old.state self.new.state) }
+        ensures unchanged { OnErr result ((self.new ≡ self.old) × (O.octets out.new ≡ O.octets out.old)) }
+    {
+        let taken = report_first_in_order(&mut self.state, memory, octets, out)?;
+        if taken.is_some() {
+            self.splitter.expect_preface(false);
+        }
+        Ok(taken)
+    }
+
+    /// The fields that the item shows of its block which was taken last, with this memory; what no item shows means
+    /// nothing.
+    pub fn fields<'f>(&'f self, memory: &'f Scratch<A>) -> &'f Collected<A>
+        ensures { result.now.fields ≡ fields_at_hand self.now.state.block memory.now.decoding.fields }
+    {
+        fields_at_hand(&self.state.block, &memory.decoding)
     }
 
     /// A copy of the connection, in memory of its own; the book is lent to both, and where one was refused memory, the

@@ -1,7 +1,7 @@
 //! How far a field block is decoded (RFC 9113, 4.3). Definition: `Decoding` of h2_spec's `specs/State.antt`.
 
 ghost use Rattle.std.specs.Prelude.{◌≡◌, [], IfOk};
-ghost use Rattle.h2_spec.specs.Block.{list_size};
+ghost use Rattle.h2_spec.specs.Hpack.Block.{list_size};
 
 use h2_fields::collected::Collected;
 use h2_fields::rest::Rest;

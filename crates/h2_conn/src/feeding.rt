@@ -87,6 +87,8 @@ fn offer<'b, A: Allocator + Copy, O: Outgoing<'b, A>>(
     advance(splitter, state, scratch, out)
 }
 
+// Only an item that two pieces share is held. The splitter says how many octets it lacks, and no more are
+// pushed.
 /// Takes the item that is held with the octets that it lacks, and no octets after it; where these are not all there,
 /// all octets are held. Where memory is refused nothing of the item is done.
 fn complete<'b, A: Allocator + Copy, O: Outgoing<'b, A>>(
@@ -98,7 +100,8 @@ fn complete<'b, A: Allocator + Copy, O: Outgoing<'b, A>>(
 ) -> Result<One, AllocError>
     requires rest { IsAtRest false state.old splitter.old }
     requires goes { is_ended state.old.core.phase ≡ false }
-    ensures ok { IfOk result (FeedsOne (going state.old (left_by state.old.core.phase splitter.old.octets)) piece.now (O.octets out.old) (going state.new (left_by state.new.core.phase splitter.new.octets)) (O.octets out.new)) }
+    ensures ok { IfOk result (FeedsOne (going state.old (left_by state.old.core.phase splitter.old.octets)) piece.now (O.octets out.old)
+        (going state.new (left_by state.new.core.phase splitter.new.octets)) (O.octets out.new)) }
     ensures rest { OnOk result (IsAtRest false state.new splitter.new) }
     ensures empty { IfOk result (λ one. one.item ≡ true → splitter.new.octets ≡ []) }
     ensures within { IfOk result (λ one. one.used ≤ length piece.now) }
@@ -135,7 +138,8 @@ fn take_in_hand<'b, A: Allocator + Copy, O: Outgoing<'b, A>>(
     requires rest { IsAtRest false state.old splitter.old }
     requires goes { is_ended state.old.core.phase ≡ false }
     requires empty { splitter.old.octets ≡ [] }
-    ensures ok { IfOk result (FeedsOne (going state.old []) piece.now (O.octets out.old) (going state.new (left_by state.new.core.phase splitter.new.octets)) (O.octets out.new)) }
+    ensures ok { IfOk result (FeedsOne (going state.old []) piece.now (O.octets out.old)
+        (going state.new (left_by state.new.core.phase splitter.new.octets)) (O.octets out.new)) }
     ensures rest { OnOk result (IsAtRest false state.new splitter.new) }
     ensures err { OnErr result ((state.new ≡ state.old) × (O.octets out.new ≡ O.octets out.old)) }
 {
@@ -165,7 +169,8 @@ pub(crate) fn take_one<'b, A: Allocator + Copy, O: Outgoing<'b, A>>(
     out: &mut O,
 ) -> Result<One, AllocError>
     requires { IsAtRest false state.old splitter.old }
-    ensures ok { IfOk result (FeedsOne (going state.old (left_by state.old.core.phase splitter.old.octets)) piece.now (O.octets out.old) (going state.new (left_by state.new.core.phase splitter.new.octets)) (O.octets out.new)) }
+    ensures ok { IfOk result (FeedsOne (going state.old (left_by state.old.core.phase splitter.old.octets)) piece.now (O.octets out.old)
+        (going state.new (left_by state.new.core.phase splitter.new.octets)) (O.octets out.new)) }
     ensures rest { OnOk result (IsAtRest false state.new splitter.new) }
     ensures err { OnErr result ((state.new ≡ state.old) × (O.octets out.new ≡ O.octets out.old)) }
     ensures over { is_ended state.old.core.phase ≡ true → IsOk result }
@@ -194,7 +199,8 @@ fn take_rest<'b, A: Allocator + Copy, O: Outgoing<'b, A>>(
 ) -> Result<usize, AllocError>
     requires fits { Fits splitter.old state.old.core.phase }
     requires empty { splitter.old.octets ≡ [] }
-    ensures ok { IfOk result (Feeds (going state.old []) octets.now (O.octets out.old) (going state.new (left_by state.new.core.phase splitter.new.octets)) (O.octets out.new)) }
+    ensures ok { IfOk result (Feeds (going state.old []) octets.now (O.octets out.old)
+        (going state.new (left_by state.new.core.phase splitter.new.octets)) (O.octets out.new)) }
     ensures rest { OnOk result (IsAtRest false state.new splitter.new) }
     ensures few { IfOk result (λ count. count ≤ length octets.now) }
     ensures err { OnErr result (Halts (going state.old []) octets.now (O.octets out.old) (halted state.new) (O.octets out.new)) }
@@ -219,9 +225,11 @@ pub(crate) fn take_piece<'b, A: Allocator + Copy, O: Outgoing<'b, A>>(
     out: &mut O,
 ) -> Result<usize, AllocError>
     requires { IsAtRest false state.old splitter.old }
-    ensures ok { IfOk result (Feeds (going state.old (left_by state.old.core.phase splitter.old.octets)) piece.now (O.octets out.old) (going state.new (left_by state.new.core.phase splitter.new.octets)) (O.octets out.new)) }
+    ensures ok { IfOk result (Feeds (going state.old (left_by state.old.core.phase splitter.old.octets)) piece.now (O.octets out.old)
+        (going state.new (left_by state.new.core.phase splitter.new.octets)) (O.octets out.new)) }
     ensures rest { OnOk result (IsAtRest false state.new splitter.new) }
-    ensures err { OnErr result (Halts (going state.old (left_by state.old.core.phase splitter.old.octets)) piece.now (O.octets out.old) (halted state.new) (O.octets out.new)) }
+    ensures err { OnErr result (Halts (going state.old (left_by state.old.core.phase splitter.old.octets)) piece.now (O.octets out.old)
+        (halted state.new) (O.octets out.new)) }
     ensures over { is_ended state.old.core.phase ≡ true → IsOk result }
 {
     if is_ended(state.phase()) {

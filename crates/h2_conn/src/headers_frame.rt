@@ -1,24 +1,24 @@
 //! HEADERS and CONTINUATION on a connection: a block is opened or goes on, and what it results in is made (RFC 9113,
-//! 6.2 and 6.10). Definitions: `on_headers` of h2_spec's `specs/Effect.antt`, `continuation` of `specs/Headers.antt`.
+//! 6.2 and 6.10). Definitions: `on_headers` of h2_spec's `specs/Effect.antt`, `continuation` of
+//! `specs/Requests/Headers.antt`.
 
 ghost use Rattle.std.specs.Prelude.{◌≡◌, ◌<◌, ◌^◌, false, true, length, option_map, None, Some, IfNone, IfOk, IfSome, OnOk, OnErr};
 ghost use Rattle.h2_frame.specs.Parts.{headers_seen};
-ghost use Rattle.h2_spec.specs.Change.{broken};
-ghost use Rattle.h2_spec.specs.Effect as rule;
-ghost use Rattle.h2_spec.specs.FrameType as frames;
-ghost use Rattle.h2_spec.specs.Headers as headers;
+ghost use Rattle.h2_spec.specs.Requests.Headers as headers;
+ghost use Rattle.h2_spec.specs.Requests.Headers.{Breaks};
 ghost use Rattle.h2_spec.specs.State.{is_due};
 ghost use Rattle.h2_spec.specs.Stream.{stream_at};
 ghost use Rattle.h2_spec.specs.ReactionTable.{headers_cell};
-ghost use Rattle.h2_spec.specs.declared.causes.Cause.TheVariants.{ContinuationOutsideBlock};
 ghost use Rattle.h2_conn.specs.OpenBlocks.{bad_end, block_after};
-ghost use Rattle.h2_conn.specs.Blocks.{IsOpenAt, IsOpenFor, IsStopped, decoding_of, limited, makes_open, with_table};
+ghost use Rattle.h2_conn.specs.Blocks.{IsOpenAt, IsOpenFor, IsStopped, at_end, decoding_of, going_on, limited, makes_open};
 ghost use Rattle.h2_conn.specs.Counts.{with_counts};
-ghost use Rattle.h2_conn.specs.Does.{Does, stepped, stopped};
+ghost use Rattle.h2_conn.specs.Does.{Settles, stopped};
+ghost use Rattle.h2_spec.specs.Effect as rule;
 ghost use Rattle.h2_conn.specs.Fragments.{IsSized, after_of, before_of};
 ghost use Rattle.h2_conn.specs.Records.{records};
-ghost use Rattle.h2_rules.specs.Block.{cell_of};
-ghost use Rattle.h2_rules.specs.Sound.{IsSoundChange, in_force, updated_records};
+ghost use Rattle.h2_conn.specs.Shown.{Shows, fields_at_hand, fields_continued, fields_of_headers, fields_with};
+ghost use Rattle.h2_conn_rules.specs.Block.{cell_of};
+ghost use Rattle.h2_conn_rules.specs.Sound.{IsSoundChange, in_force, updated_records};
 ghost use Rattle.h2_table.specs.Edits.{IsEdit};
 
 use crate::block_end::{block_ends, opening};
@@ -27,8 +27,8 @@ use crate::open_block::{fresh_block, leave_open};
 use crate::scratch::Scratch;
 use crate::state::State;
 use crate::tentative::Tentative;
+use h2_conn_rules::block::{goes_on, headers_purpose};
 use h2_frame::{HeadersPart, Outgoing};
-use h2_rules::block::{goes_on, headers_purpose};
 use h2_spec::causes::Cause;
 use h2_spec::connection::{BlockView, Purpose};
 use h2_spec::frames::{END_HEADERS, Head};
@@ -58,9 +58,10 @@ impl<'b, A: Allocator + Copy> State<'b, A> {
         requires sound { IsSoundChange self.old.book (records self.old) (in_force self.old.core) change.now }
         requires known { IsOpenFor (updated_records change.now.record_update (records self.old)) (block_after shown (after_of decoding.old tentative)) }
         requires same { change.now.core ≡ with_counts self.old.core change.now.core }
-        ensures ok { OnOk result (Does (stepped (rule.concluded self.old (makes_open self.old edit.old shown (after_of decoding.old tentative) change.now))) (O.octets out.old) self.new (O.octets out.new)) }
-        ensures verdict { IfOk result (λ verdict. verdict ≡ rule.effect_verdict (makes_open self.old edit.old shown (after_of decoding.old tentative) change.now)) }
-        ensures err { OnErr result ((decoding.new ≡ before_of decoding.old tentative) × (self.new ≡ self.old) × (O.octets out.new ≡ O.octets out.old)) }
+        ensures settles { Settles self.old (O.octets out.old) (makes_open self.old edit.old shown (after_of decoding.old tentative) change.now)
+            result self.new (O.octets out.new) }
+        ensures fields { OnOk result (fields_at_hand self.new.block decoding.new.fields ≡ decoding.old.fields) }
+        ensures decoding { OnErr result (decoding.new ≡ before_of decoding.old tentative) }
     {
         match self.apply_in_place(change, out) {
             Ok(verdict) => {
@@ -85,9 +86,9 @@ impl<'b, A: Allocator + Copy> State<'b, A> {
         out: &mut O,
     ) -> Result<Verdict, AllocError>
         requires sized { IsSized decoding.old tentative }
-        ensures ok { OnOk result (Does (broken self.old cause) (O.octets out.old) self.new (O.octets out.new)) }
-        ensures verdict { IfOk result (λ verdict. verdict ≡ record { cause = Some cause; ignored = None }) }
-        ensures err { OnErr result ((decoding.new ≡ before_of decoding.old tentative) × (self.new ≡ self.old) × (O.octets out.new ≡ O.octets out.old)) }
+        ensures settles { Settles self.old (O.octets out.old) (Breaks cause) result self.new (O.octets out.new) }
+        ensures fields { OnOk result (fields_at_hand self.new.block decoding.new.fields ≡ decoding.old.fields) }
+        ensures decoding { OnErr result (decoding.new ≡ before_of decoding.old tentative) }
     {
         match self.fail(cause, out) {
             Ok(verdict) => Ok(verdict),
@@ -98,6 +99,8 @@ impl<'b, A: Allocator + Copy> State<'b, A> {
         }
     }
 
+    // A function apart from `ends`: each local is zeroed where its function begins, some 150 instructions a
+    // fragment.
     /// A fragment was decoded after which its block goes on; or nothing is done, as `finish` says.
     #[inline(always)]
     fn goes_on<O: Outgoing<'b, A>>(
@@ -112,9 +115,9 @@ impl<'b, A: Allocator + Copy> State<'b, A> {
         requires sized { IsSized decoding.old tentative }
         requires belongs { IsEdit (limited self.old.core.own.table self.old.table) edit.old }
         requires open { IsOpenAt (records self.old) shown.stream decoding.old.purpose }
-        ensures ok { OnOk result (Does (stepped (rule.concluded self.old (headers.fragment_read (with_table self.old edit.old) shown (after_of decoding.old tentative) false))) (O.octets out.old) self.new (O.octets out.new)) }
-        ensures verdict { IfOk result (λ verdict. verdict ≡ rule.effect_verdict (headers.fragment_read (with_table self.old edit.old) shown (after_of decoding.old tentative) false)) }
-        ensures err { OnErr result ((decoding.new ≡ before_of decoding.old tentative) × (self.new ≡ self.old) × (O.octets out.new ≡ O.octets out.old)) }
+        ensures settles { Settles self.old (O.octets out.old) (going_on self.old edit.old shown decoding.old tentative) result self.new (O.octets out.new) }
+        ensures fields { OnOk result (fields_at_hand self.new.block decoding.new.fields ≡ decoding.old.fields) }
+        ensures decoding { OnErr result (decoding.new ≡ before_of decoding.old tentative) }
     {
         let change = goes_on(self.core(), decoding.purpose);
         self.finish(Some(shown), &change, decoding, tentative, edit, out)
@@ -135,9 +138,9 @@ impl<'b, A: Allocator + Copy> State<'b, A> {
         requires sized { IsSized decoding.old tentative }
         requires belongs { IsEdit (limited self.old.core.own.table self.old.table) edit.old }
         requires open { IsOpenAt (records self.old) shown.stream decoding.old.purpose }
-        ensures ok { OnOk result (Does (stepped (rule.concluded self.old (headers.fragment_read (with_table self.old edit.old) shown (after_of decoding.old tentative) true))) (O.octets out.old) self.new (O.octets out.new)) }
-        ensures verdict { IfOk result (λ verdict. verdict ≡ rule.effect_verdict (headers.fragment_read (with_table self.old edit.old) shown (after_of decoding.old tentative) true)) }
-        ensures err { OnErr result ((decoding.new ≡ before_of decoding.old tentative) × (self.new ≡ self.old) × (O.octets out.new ≡ O.octets out.old)) }
+        ensures settles { Settles self.old (O.octets out.old) (at_end self.old edit.old shown decoding.old tentative) result self.new (O.octets out.new) }
+        ensures fields { OnOk result (fields_at_hand self.new.block decoding.new.fields ≡ decoding.old.fields) }
+        ensures decoding { OnErr result (decoding.new ≡ before_of decoding.old tentative) }
     {
         match decoding.bad_end(&tentative) {
             Some(cause) => self.refuse(cause, decoding, tentative, out),
@@ -175,9 +178,9 @@ impl<'b, A: Allocator + Copy> State<'b, A> {
         requires belongs { IsEdit (limited self.old.core.own.table self.old.table) edit.old }
         requires open { IsOpenAt (records self.old) shown.stream decoding.old.purpose }
         requires whole { bad_end (after_of decoding.old tentative) ≡ None }
-        ensures ok { OnOk result (Does (stepped (rule.concluded self.old (headers.fragment_read (with_table self.old edit.old) shown (after_of decoding.old tentative) true))) (O.octets out.old) self.new (O.octets out.new)) }
-        ensures verdict { IfOk result (λ verdict. verdict ≡ rule.effect_verdict (headers.fragment_read (with_table self.old edit.old) shown (after_of decoding.old tentative) true)) }
-        ensures err { OnErr result ((decoding.new ≡ before_of decoding.old tentative) × (self.new ≡ self.old) × (O.octets out.new ≡ O.octets out.old)) }
+        ensures settles { Settles self.old (O.octets out.old) (at_end self.old edit.old shown decoding.old tentative) result self.new (O.octets out.new) }
+        ensures fields { OnOk result (fields_at_hand self.new.block decoding.new.fields ≡ decoding.old.fields) }
+        ensures decoding { OnErr result (decoding.new ≡ before_of decoding.old tentative) }
     {
         let change = block_ends(
             self.book,
@@ -236,9 +239,10 @@ impl<'b, A: Allocator + Copy> State<'b, A> {
     ) -> Result<Verdict, AllocError>
         requires stopped { IsStopped self.old.block }
         requires known { IsOpenAt (records self.old) shown.stream decoding.old.purpose }
-        ensures ok { OnOk result (Does (stepped (rule.concluded self.old (headers.fragment self.old shown decoding.old octets.now end_headers))) (O.octets out.old) self.new (O.octets out.new)) }
-        ensures verdict { IfOk result (λ verdict. verdict ≡ rule.effect_verdict (headers.fragment self.old shown decoding.old octets.now end_headers)) }
-        ensures err { OnErr result ((decoding.new ≡ decoding.old) × (self.new ≡ self.old) × (O.octets out.new ≡ O.octets out.old)) }
+        ensures settles { Settles self.old (O.octets out.old) (headers.fragment self.old shown decoding.old octets.now end_headers)
+            result self.new (O.octets out.new) }
+        ensures fields { OnOk result (fields_at_hand self.new.block decoding.new.fields ≡ fields_with self.old shown decoding.old octets.now) }
+        ensures decoding { OnErr result (decoding.new ≡ decoding.old) }
     {
         let mut tentative = decoding.unchanged();
         match self.fragment(edit, &mut tentative, shown, decoding, octets) {
@@ -257,15 +261,6 @@ impl<'b, A: Allocator + Copy> State<'b, A> {
         }
     }
 
-    /// CONTINUATION where no block is open (RFC 9113, 6.10).
-    fn not_open<O: Outgoing<'b, A>>(&mut self, out: &mut O) -> Result<Verdict, AllocError>
-        ensures ok { OnOk result (Does (broken self.old ContinuationOutsideBlock) (O.octets out.old) self.new (O.octets out.new)) }
-        ensures verdict { IfOk result (λ verdict. verdict ≡ record { cause = Some ContinuationOutsideBlock; ignored = None }) }
-        ensures err { OnErr result ((self.new ≡ self.old) × (O.octets out.new ≡ O.octets out.old)) }
-    {
-        self.fail(Cause::ContinuationOutsideBlock, out)
-    }
-
     /// CONTINUATION: the open block goes on; an error where there is none.
     #[inline(never)]
     pub fn on_continuation<O: Outgoing<'b, A>>(
@@ -275,12 +270,11 @@ impl<'b, A: Allocator + Copy> State<'b, A> {
         scratch: &mut Scratch<A>,
         out: &mut O,
     ) -> Result<Verdict, AllocError>
-        ensures ok { OnOk result (Does (stepped (rule.concluded self.old (headers.continuation self.old self.old.block octets.now (frames.has head.now.flags frames.END_HEADERS)))) (O.octets out.old) self.new (O.octets out.new)) }
-        ensures verdict { IfOk result (λ verdict. verdict ≡ rule.effect_verdict (headers.continuation self.old self.old.block octets.now (frames.has head.now.flags frames.END_HEADERS))) }
-        ensures err { OnErr result ((self.new ≡ self.old) × (O.octets out.new ≡ O.octets out.old)) }
+        ensures settles { Settles self.old (O.octets out.old) (rule.on_continuation self.old head.now octets.now) result self.new (O.octets out.new) }
+        ensures fields { OnOk result (Shows (fields_continued self.old self.old.block octets.now) (fields_at_hand self.new.block scratch.new.decoding.fields)) }
     {
         match self.take_decoding(&mut scratch.decoding) {
-            None => self.not_open(out),
+            None => self.fail(Cause::ContinuationOutsideBlock, out),
             Some(shown) => {
                 let end_headers = head.has(END_HEADERS);
                 let result = self.on_fragment(
@@ -319,9 +313,9 @@ impl<'b, A: Allocator + Copy> State<'b, A> {
         out: &mut O,
     ) -> Result<Verdict, AllocError>
         requires stopped { IsStopped self.old.block }
-        ensures ok { OnOk result (Does (stepped (rule.concluded self.old (rule.on_headers self.old head.now (headers_seen part.entry) (headers_cell head.now.stream (stream_at self.old.core.last self.old.streams head.now.stream).kind)))) (O.octets out.old) self.new (O.octets out.new)) }
-        ensures verdict { IfOk result (λ verdict. verdict ≡ rule.effect_verdict (rule.on_headers self.old head.now (headers_seen part.entry) (headers_cell head.now.stream (stream_at self.old.core.last self.old.streams head.now.stream).kind))) }
-        ensures err { OnErr result ((self.new ≡ self.old) × (O.octets out.new ≡ O.octets out.old)) }
+        ensures settles { Settles self.old (O.octets out.old) (rule.headers_at self.old head.now (headers_seen part.entry)) result self.new (O.octets out.new) }
+        ensures fields { OnOk result (Shows (fields_of_headers self.old head.now (headers_seen part.entry))
+            (fields_at_hand self.new.block scratch.new.decoding.fields)) }
     {
         match self.purpose_at(head.stream) {
             Err(cause) => self.fail(cause, out),

@@ -1,10 +1,10 @@
 //! What can be asked of a connection without a copy of all that is shown of it. Definitions: h2_spec's
-//! `specs/State.antt` and `specs/View.antt`.
+//! `specs/State.antt` and `specs/Texts/View.antt`.
 
 ghost use Rattle.std.specs.Prelude.{◌≡◌, length};
-ghost use Rattle.h2_spec.specs.DynamicTable.{total_size};
-ghost use Rattle.h2_spec.specs.Stream.{stream_at};
-ghost use Rattle.h2_spec.specs.View.{shown_block};
+ghost use Rattle.h2_spec.specs.Hpack.DynamicTable.{total_size};
+ghost use Rattle.h2_spec.specs.Stream.{next_waiting, stream_at};
+ghost use Rattle.h2_spec.specs.Texts.View.{shown_block};
 
 use crate::conn::Conn;
 use crate::view::shown_block;
@@ -39,6 +39,14 @@ impl<'b, A: Allocator + Copy> Conn<'b, A> {
         ensures { result ≡ stream_at self.now.state.core.last self.now.state.streams id }
     {
         self.inside().stream_at(id)
+    }
+
+    /// The first stream that has octets of its answer to send, if there is one: it waits for a window of the client's (RFC
+    /// 9113, 6.9).
+    pub fn first_waiting(&self) -> Option<u32>
+        ensures { result ≡ next_waiting 0 self.now.state.streams }
+    {
+        self.inside().streams.next_waiting(0)
     }
 
     /// How many entries the header table has.

@@ -2,10 +2,12 @@
 //! `specs/State.antt`.
 
 ghost use Rattle.std.specs.Prelude.{◌≡◌, None, Some, IfOk, option_map};
-ghost use Rattle.h2_spec.specs.Headers as rule;
+ghost use Rattle.h2_spec.specs.Requests.Headers as rule;
 ghost use Rattle.h2_conn.specs.OpenBlocks.{block_after, decoding_in};
+ghost use Rattle.h2_conn.specs.Shown.{fields_at_hand, fields_in};
 
 use crate::decoding::Decoding;
+use h2_fields::collected::Collected;
 use h2_spec::connection::{BlockView, Purpose};
 use h2_spec::frames::{END_STREAM, Head};
 use std::alloc::{AllocError, Allocator};
@@ -54,6 +56,8 @@ impl<A: Allocator + Copy> OpenBlock<A> {
         self.goes_on = false;
     }
 
+    // Changes places with memory of the caller. As an `Option` the decoding was moved out and in, 750
+    // instructions a CONTINUATION.
     /// How far the block is decoded, taken out into `decoding`, and the block as it is shown; nothing where it is decoded
     /// no more. Where it has many fields, copies made from now on share them.
     pub fn take_out(&mut self, decoding: &mut Decoding<A>) -> Option<BlockView>
@@ -99,6 +103,17 @@ impl<A: Allocator> OpenBlock<A> {
         self.shown
     }
 
+    /// The fields of the block, while it is decoded further; else those that are left in memory.
+    fn fields_or<'f>(&'f self, memory: &'f Decoding<A>) -> &'f Collected<A>
+        ensures { result.now.fields ≡ fields_in self.now.decoding memory.now.fields }
+    {
+        if self.goes_on {
+            &self.decoding.collected
+        } else {
+            &memory.collected
+        }
+    }
+
     /// What the block is for, while it is decoded further.
     pub fn purpose(&self) -> Option<Purpose>
         ensures { result ≡ option_map (λ decoding. decoding.purpose) self.now.decoding }
@@ -126,7 +141,8 @@ pub fn leave_open<A: Allocator + Copy>(
     shown: Option<BlockView>,
     decoding: &mut Decoding<A>,
 )
-    ensures { block.new ≡ block_after shown decoding.old }
+    ensures open { block.new ≡ block_after shown decoding.old }
+    ensures fields { fields_at_hand block.new decoding.new.fields ≡ decoding.old.fields }
 {
     match shown {
         None => match block {
@@ -137,6 +153,19 @@ pub fn leave_open<A: Allocator + Copy>(
             None => begin(block, shown, decoding),
             Some(open) => open.go_on(shown, decoding),
         },
+    }
+}
+
+/// The fields of the block that goes on; where none does, those that are left in memory.
+pub fn fields_at_hand<'f, A: Allocator>(
+    block: &'f Option<OpenBlock<A>>,
+    memory: &'f Decoding<A>,
+) -> &'f Collected<A>
+    ensures { result.now.fields ≡ fields_at_hand block.now memory.now.fields }
+{
+    match block {
+        Some(open) => open.fields_or(memory),
+        None => &memory.collected,
     }
 }
 

@@ -4,7 +4,7 @@
 
 ghost use Rattle.std.specs.Prelude.{◌≡◌, true, ◌+◌, ◌≤◌, [], length, take, IfErr, IfOk, OnOk, OnErr};
 ghost use Rattle.h2_spec.specs.State.{opening};
-ghost use Rattle.h2_spec.specs.View.{view};
+ghost use Rattle.h2_spec.specs.Texts.View.{view};
 ghost use Rattle.h2_conn.specs.Connection.{going};
 ghost use Rattle.h2_spec.specs.State.{is_allowed};
 ghost use Rattle.h2_conn.specs.Faults.{refusal_for};
@@ -15,9 +15,9 @@ ghost use Rattle.h2_conn.specs.declared.fault.ConnFault.TheVariants.{NoMemory};
 use crate::conn::Conn;
 use crate::fault::ConnFault;
 use crate::view::View;
-use h2_entries::book::Book;
+use h2_conn_send::octets_at;
 use h2_frame::Outgoing;
-use h2_send::octets_at;
+use h2_request_book::book::Book;
 use h2_spec::connection::Config;
 use h2_spec::octets::octets_from;
 use std::alloc::Allocator;

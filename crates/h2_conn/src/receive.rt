@@ -1,26 +1,24 @@
 //! The acknowledgement of the server's settings, with which they come into force (RFC 9113, 6.5.3). Definition:
 //! `acknowledged` of h2_spec's `specs/SettingsFrame.antt`.
 
-ghost use Rattle.std.specs.Prelude.{◌≡◌, ◌<◌, ◌^◌, length, None, IfOk, OnOk, OnErr};
-ghost use Rattle.h2_spec.specs.Change as changes;
-ghost use Rattle.h2_spec.specs.Effect as rule;
-ghost use Rattle.h2_spec.specs.Headers.{makes};
+ghost use Rattle.h2_spec.specs.Requests.Headers.{Makes, makes};
 ghost use Rattle.h2_spec.specs.SettingsFrame as settings;
 ghost use Rattle.h2_spec.specs.State.{configured};
-ghost use Rattle.h2_spec.specs.Trace.{then_sent};
 ghost use Rattle.h2_conn.specs.Blocks.{IsStopped};
-ghost use Rattle.h2_conn.specs.Does.{Does, stepped};
+ghost use Rattle.h2_conn.specs.Does.{Settles};
+ghost use Rattle.h2_spec.specs.Effect as rule;
 
 use crate::state::State;
+use h2_conn_rules::change::{ignoring, only_counts, verdict_of};
+use h2_conn_rules::settings::comes_into_force;
+use h2_conn_send::{send_and_update, with_sent};
 use h2_frame::Outgoing;
-use h2_rules::change::{ignoring, only_counts, verdict_of};
-use h2_rules::settings::comes_into_force;
-use h2_send::{send_and_update, with_sent};
 use h2_spec::ignored::Ignored;
 use h2_spec::reactions::Verdict;
 use std::alloc::{AllocError, Allocator};
 
 impl<'b, A: Allocator + Copy> State<'b, A> {
+    // Order: places for a higher limit, which need memory; what every change does; then the limit itself.
     /// The peer has acknowledged the server's settings: the first time they come into force, later it is ignored.
     #[inline(never)]
     pub fn on_acknowledged<O: Outgoing<'b, A>>(
@@ -28,9 +26,7 @@ impl<'b, A: Allocator + Copy> State<'b, A> {
         out: &mut O,
     ) -> Result<Verdict, AllocError>
         requires stopped { IsStopped self.old.block }
-        ensures ok { OnOk result (Does (stepped (rule.concluded self.old (makes self.old (settings.acknowledged self.old.config self.old.core)))) (O.octets out.old) self.new (O.octets out.new)) }
-        ensures verdict { IfOk result (λ verdict. verdict ≡ rule.effect_verdict (makes self.old (settings.acknowledged self.old.config self.old.core))) }
-        ensures err { OnErr result ((self.new ≡ self.old) × (O.octets out.new ≡ O.octets out.old)) }
+        ensures { Settles self.old (O.octets out.old) (makes self.old (rule.on_settings_ack self.old)) result self.new (O.octets out.new) }
     {
         if self.core.acked {
             let change = ignoring(Ignored::SecondAcknowledgement, only_counts(self.core));
@@ -40,6 +36,8 @@ impl<'b, A: Allocator + Copy> State<'b, A> {
         }
     }
 
+    // Window and unreturned octets make up the initial window in force on every live stream, so the move
+    // can't fail.
     /// The server's settings come into force: the limit of the header table, the receive windows of live streams, and
     /// the longest frame. The header table keeps its entries and its maximum (RFC 7541, 4.2).
     ///
@@ -48,9 +46,8 @@ impl<'b, A: Allocator + Copy> State<'b, A> {
     /// `AllocError` where memory was refused for the entries that a higher limit lets the table hold: nothing is done.
     fn come_into_force<O: Outgoing<'b, A>>(&mut self, out: &mut O) -> Result<Verdict, AllocError>
         requires stopped { IsStopped self.old.block }
-        ensures ok { OnOk result (Does (then_sent self.old.core.phase (changes.made self.old (settings.comes_into_force self.old.core (configured self.old.config)))) (O.octets out.old) self.new (O.octets out.new)) }
-        ensures verdict { IfOk result (λ verdict. verdict ≡ record { cause = None; ignored = None }) }
-        ensures err { OnErr result ((self.new ≡ self.old) × (O.octets out.new ≡ O.octets out.old)) }
+        ensures { let change = settings.comes_into_force self.old.core (configured self.old.config) in
+            Settles self.old (O.octets out.old) (Makes self.old change) result self.new (O.octets out.new) }
     {
         let own = self.config.configured();
         let change = comes_into_force(self.core, own);

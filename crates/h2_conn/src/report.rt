@@ -8,6 +8,7 @@ ghost use Rattle.h2_spec.specs.Trace.{next_item};
 ghost use Rattle.h2_conn.specs.First.{TakesIfAny};
 ghost use Rattle.h2_conn.specs.Follows.{Follows};
 ghost use Rattle.h2_conn.specs.Reports.{item_head, reported, used_by};
+ghost use Rattle.h2_conn.specs.Shown.{Shows, fields_at_hand, next_fields};
 
 use crate::conn::is_ended;
 use crate::first::awaits_preface;
@@ -54,6 +55,7 @@ fn report_first<'b, A: Allocator + Copy, O: Outgoing<'b, A>>(
 ) -> Result<Option<TakenItem>, AllocError>
     ensures ok { IfOk result (λ taken. TakesIfAny state.old octets.now (O.octets out.old) state.new (O.octets out.new) (used_by taken)) }
     ensures report { IfOk result (λ taken. taken ≡ reported state.old (next_item state.old octets.now)) }
+    ensures fields { OnOk result (Shows (next_fields state.old (next_item state.old octets.now)) (fields_at_hand state.new.block scratch.new.decoding.fields)) }
     ensures err { OnErr result ((state.new ≡ state.old) × (O.octets out.new ≡ O.octets out.old)) }
 {
     let phase = state.phase();
@@ -76,7 +78,7 @@ fn report_first<'b, A: Allocator + Copy, O: Outgoing<'b, A>>(
     }
 }
 
-/// The same, where it matters what the item leaves of the records of streams.
+/// As `report_first`, and proves that records of streams only move forward (`Follows`), which checkpoints need.
 pub(crate) fn report_first_in_order<'b, A: Allocator + Copy, O: Outgoing<'b, A>>(
     state: &mut State<'b, A>,
     scratch: &mut Scratch<A>,
@@ -86,6 +88,7 @@ pub(crate) fn report_first_in_order<'b, A: Allocator + Copy, O: Outgoing<'b, A>>
     ensures ok { IfOk result (λ taken. TakesIfAny state.old octets.now (O.octets out.old) state.new (O.octets out.new) (used_by taken)) }
     ensures report { IfOk result (λ taken. taken ≡ reported state.old (next_item state.old octets.now)) }
     ensures follows { OnOk result (Follows state.old state.new) }
+    ensures fields { OnOk result (Shows (next_fields state.old (next_item state.old octets.now)) (fields_at_hand state.new.block scratch.new.decoding.fields)) }
     ensures err { OnErr result ((state.new ≡ state.old) × (O.octets out.new ≡ O.octets out.old)) }
 {
     let _rising = state.streams.last();

@@ -6,6 +6,7 @@ use h2_spec::connection::Purpose;
 use h2_table::Edit;
 use std::alloc::Allocator;
 
+// Beside the state and lent with it: inside the state, each HEADERS moved both out and in.
 /// Memory for fragments of field blocks. What is in it between two items means nothing.
 #[derive(Drop)]
 pub struct Scratch<A: Allocator> {
@@ -17,7 +18,7 @@ pub struct Scratch<A: Allocator> {
 
 impl<A: Allocator + Copy> Scratch<A> {
     /// Takes no memory.
-    pub(crate) fn new(alloc: A) -> Self {
+    pub fn new(alloc: A) -> Self {
         Scratch {
             edit: Edit::new(alloc),
             decoding: Decoding::fresh(alloc, Purpose::Request, false),

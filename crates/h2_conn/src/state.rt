@@ -2,13 +2,16 @@
 //! `specs/State.antt`.
 
 ghost use Rattle.std.specs.Prelude.{◌≡◌, IfOk};
-ghost use Rattle.h2_rules.specs.Sound.{AreInRange};
+ghost use Rattle.h2_conn.specs.Records.{records};
+ghost use Rattle.h2_conn_rules.specs.Sound.{AreInRange, HasBody, IsSoundState, IsSoundStream, in_force};
 ghost use Rattle.h2_spec.specs.State.{configured, opening, opening_core};
+ghost use Rattle.h2_spec.specs.Stream.{stream_at};
 
 use crate::open_block::{OpenBlock, copy_of};
-use h2_entries::book::Book;
+use h2_request_book::book::Book;
 use h2_spec::connection::{Config, ConnectionState, Phase};
 use h2_spec::flow::{Credit, LocalSettings, Settings, Window};
+use h2_spec::streams::Stream;
 use h2_streams::Streams;
 use h2_table::DynTable;
 use std::alloc::{AllocError, Allocator};
@@ -35,7 +38,7 @@ impl<'b, A: Allocator> Model for State<'b, A> {
     ghost use Rattle.h2_spec.specs.State as state;
     ghost use Rattle.h2_spec.specs.State.{configured};
     ghost use Rattle.h2_conn.specs.Blocks.{IsOpenFor};
-    ghost use Rattle.h2_rules.specs.Sound.{AreInRange, IsSoundState};
+    ghost use Rattle.h2_conn_rules.specs.Sound.{AreInRange, IsSoundState};
 
     ghost Value = { state.State };
 
@@ -111,5 +114,35 @@ impl<'b, A: Allocator + Copy> State<'b, A> {
             table,
             streams,
         })
+    }
+}
+
+impl<'b, A: Allocator + Copy> State<'b, A> {
+    /// The counts.
+    pub fn core(&self) -> ConnectionState
+        ensures counts { result ≡ self.now.core }
+        ensures sound { IsSoundState self.now.book result (records self.now) }
+    {
+        self.core
+    }
+
+    /// Looks a stream's record up, so that what comes next finds it at once.
+    #[inline(always)]
+    pub fn look_up(&mut self, id: u32)
+        ensures { self.new ≡ self.old }
+    {
+        self.streams.look_up(id);
+    }
+
+    /// A stream's record, or what represents it where it has none.
+    #[inline(always)]
+    pub fn stream_at(&self, id: u32) -> Stream
+        ensures value { result ≡ stream_at self.now.core.last self.now.streams id }
+        ensures id { result.id ≡ id }
+        ensures found { result ≡ stream_at self.now.core.last self.now.streams result.id }
+        ensures sound { IsSoundStream (in_force self.now.core) result }
+        ensures waits { HasBody self.now.book result }
+    {
+        self.streams.stream_at(id)
     }
 }

@@ -1,20 +1,19 @@
 //! A fragment of a field block that is decoded but not taken over: the block can still go back to how far it was
-//! before. Definitions: `decoded` of h2_spec's `specs/Block.antt`, and `specs/Blocks.antt` and `specs/Fragments.antt`
+//! before. Definitions: `decoded` of h2_spec's `specs/Hpack/Block.antt`, and `specs/Blocks.antt` and `specs/Fragments.antt`
 //! here.
 
-ghost use Rattle.std.specs.Prelude.{◌≡◌, ◌≢◌, ◌++◌, length, IfErr, OnOk};
-ghost use Rattle.h2_spec.specs.Block as block;
-ghost use Rattle.h2_instruction.specs.declared.fault.BlockFault.TheVariants.{NoMemory};
+ghost use Rattle.std.specs.Prelude.{◌≡◌, ◌≢◌, IfErr, OnOk};
+ghost use Rattle.h2_hpack_instruction.specs.declared.fault.BlockFault.TheVariants.{NoMemory};
 ghost use Rattle.h2_table.specs.Edits.{IsEdit, edited};
 ghost use Rattle.h2_conn.specs.OpenBlocks.{bad_end};
-ghost use Rattle.h2_conn.specs.Fragments.{HasFault, IsSized, IsUntouched, after_fragment, after_of, before_fragment, before_of};
+ghost use Rattle.h2_conn.specs.Fragments.{HasFault, IsSized, IsUntouched, after_fragment, after_of, before_of, decoded_on};
 
 use crate::decoding::Decoding;
+use h2_conn_rules::block::refused_end;
 use h2_fields::collected::Savepoint;
 use h2_fields::fragment::decode_piece;
 use h2_fields::rest::{Rest, RestChange};
-use h2_instruction::fault::BlockFault;
-use h2_rules::block::refused_end;
+use h2_hpack_instruction::fault::BlockFault;
 use h2_spec::causes::Cause;
 use h2_table::{DynTable, Edit};
 use std::alloc::Allocator;
@@ -73,8 +72,12 @@ impl<A: Allocator + Copy> Decoding<A> {
         ensures sized { IsSized self.new tentative.new }
         ensures purpose { self.new.purpose ≡ self.old.purpose }
         ensures belongs { IsEdit table.now edit.new }
-        ensures decoded { OnOk result (block.decoded table.now.limit (before_fragment table.now.table (before_of self.old tentative.old)) (tentative.old.before ++ octets.now) ≡ after_fragment (edited table.now.table.entries edit.new) (after_of self.new tentative.new)) }
-        ensures faulty { IfErr result (λ fault. fault ≢ NoMemory → HasFault fault (block.decoded table.now.limit (before_fragment table.now.table (before_of self.old tentative.old)) (tentative.old.before ++ octets.now))) }
+        ensures decoded { OnOk result (decoded_on table.now.limit table.now.table self.old tentative.old octets.now
+            ≡ after_fragment (edited table.now.table.entries edit.new) (after_of self.new tentative.new)) }
+        ensures faulty { IfErr result (λ fault. fault ≢ NoMemory
+            → HasFault fault (decoded_on table.now.limit table.now.table self.old tentative.old octets.now)) }
+        ensures read { IfErr result (λ fault. fault ≢ NoMemory
+            → (decoded_on table.now.limit table.now.table self.old tentative.old octets.now).progress.fields ≡ self.new.fields) }
     {
         decode_piece(
             &mut self.collected,

@@ -1,13 +1,13 @@
-//! What is shown of a connection's state. Definition: h2_spec's `specs/View.antt`.
+//! What is shown of a connection's state. Definition: h2_spec's `specs/Texts/View.antt`.
 
 ghost use Rattle.std.specs.Prelude.{◌≡◌};
-ghost use Rattle.h2_spec.specs.View.{shown_block, view};
+ghost use Rattle.h2_spec.specs.Texts.View.{shown_block, view};
 
 use crate::open_block::OpenBlock;
 use crate::state::State;
+use h2_conn_view::view::Shown;
+pub use h2_conn_view::view::View;
 use h2_spec::connection::BlockView;
-use h2_text::view::Shown;
-pub use h2_text::view::View;
 use std::alloc::Allocator;
 
 /// What is shown of an open block.
@@ -22,7 +22,7 @@ pub(crate) fn shown_block<A: Allocator>(block: &Option<OpenBlock<A>>) -> Option<
 
 impl<'b, A: Allocator> State<'b, A> {
     /// What is shown of the state, lent.
-    #[tactic(auto, unfolding(h2_spec::specs::View::view))]
+    #[tactic(auto, unfolding(h2_spec::specs::Texts::View::view))]
     pub fn shown(&self) -> Shown<'_, A>
         ensures { result ≡ view self.now }
     {

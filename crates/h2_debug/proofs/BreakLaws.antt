@@ -7,9 +7,9 @@ use Rattle.std.specs.Prelude.{nat_lt, slice_get, slice_range}
 use Rattle.h2_spec.specs.declared.connection.Phase.{Phase}
 use Rattle.h2_spec.specs.declared.connection.Phase.TheVariants as phase
 use Rattle.h2_spec.specs.declared.frames.Head.{Head}
-use Rattle.h2_spec.specs.Debug.{Break, head_is, matches, stop, stop_from}
-use Rattle.h2_spec.specs.Frame.{Frame, Item, Preface, BadPreface, WholeFrame, Oversize, Next, NoItem, Got, frame_item, frame_octets, frames_octets, head_at, head_of, next, preface, preface_item}
-use Rattle.h2_spec.specs.Parse.{One}
+use Rattle.h2_spec.specs.Texts.Debug.{Break, head_is, matches, stop, stop_from}
+use Rattle.h2_spec.specs.Frames.Frame.{Frame, Item, Preface, BadPreface, WholeFrame, Oversize, Next, NoItem, Got, frame_item, frame_octets, frames_octets, head_at, head_of, next, preface, preface_item}
+use Rattle.h2_spec.specs.Frames.Parse.{One}
 use Rattle.h2_spec.specs.State.{State}
 use Rattle.h2_spec.specs.Trace.{Event, event_on, next_event, next_in, next_item}
 use Rattle.h2_conn.specs.Connection.{awaits_preface}

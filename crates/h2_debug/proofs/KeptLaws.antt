@@ -4,27 +4,27 @@ use Rattle.std.specs.Prelude.{slice_get, min, max, nat_le, ◌&&◌}
 use Rattle.std.specs.Option.{is_some}
 use Rattle.std.proofs.Math.Nat.{div-mul-le_self, lt-div-mul-add, mul-div-le}
 use Rattle.std.proofs.lemmas.Bool.{cases_lt, cond_both, le-leb, leb-false, leb-true}
-use Rattle.h2_spec.specs.Debug.{stop, stop_from}
-use Rattle.h2_spec.specs.Parse.{Front, Stop, One, Parsed, parse_all, parse_first, parse_upto}
+use Rattle.h2_spec.specs.Texts.Debug.{stop, stop_from}
+use Rattle.h2_spec.specs.Frames.Parse.{Front, Stop, One, Parsed, parse_all, parse_first, parse_upto}
 use Rattle.h2_spec.specs.Trace.{Event, next_event, trace}
 use Rattle.h2_debug.proofs.PlaceLaws.{place-anew, place-took}
 use Rattle.h2_debug.specs.Debugging.{Debugging, IsKept, farthest_or, nearest_kept, reached_among, replay_count, replay_start}
 use Rattle.h2_conn.specs.Connection.{Connection, going}
 use Rattle.h2_conn.specs.Checkpoint.{IsConsistent, Precedes}
 use Rattle.h2_conn.specs.Follows.{Follows}
-use Rattle.h2_debug.specs.Places.{Source, Placed, Kept, Advances, IsAt, IsKeptOf, IsReached, AreKept, at, end, kept_of, start}
+use Rattle.h2_debug.specs.Places.{Source, Placed, KeptPlace, Advances, IsAt, IsKeptOf, IsReached, AreKept, at, end, kept_of, start}
 
-kept-one : (r : Source) (i : ℕ) (k : Kept) (ks : List Kept) → AreKept r i ks → IsKeptOf r k → k.position ≡ (i + length ks) * 64 → AreKept r i (ks ++ k ∷ [])
+kept-one : (r : Source) (i : ℕ) (k : KeptPlace) (ks : List KeptPlace) → AreKept r i ks → IsKeptOf r k → k.position ≡ (i + length ks) * 64 → AreKept r i (ks ++ k ∷ [])
 kept-one r i k [] a x e = (x, omega (arith, e), tt)
 kept-one r i k (y ∷ ys) a x e = (a.0, a.1, kept-one r (i + 1) k ys a.2 x (omega (arith, e)))
 
-pub kept-at : (r : Source) (i j : ℕ) (k : Kept) (ks : List Kept) → AreKept r i ks → slice_get ks j ≡ Some k → IsKeptOf r k × (k.position ≡ (i + j) * 64)
+pub kept-at : (r : Source) (i j : ℕ) (k : KeptPlace) (ks : List KeptPlace) → AreKept r i ks → slice_get ks j ≡ Some k → IsKeptOf r k × (k.position ≡ (i + j) * 64)
 kept-at r i j k [] a h = cc
 kept-at r i zero k (y ∷ ys) a h = let same : y ≡ k = cc in rw (← same) (a.0, omega (arith, a.1))
 kept-at r i (suc j) k (y ∷ ys) a h = let more = kept-at r (i + 1) j k ys a.2 h in (more.0, omega (arith, more.1))
 
 -- a place at the next multiple of 64 is kept
-pub kept-due : (r : Source) (p : Placed) (ks : List Kept) → AreKept r 0 ks → IsAt r p → IsConsistent p.connection.state → p.position ≤ length ks * 64 → p.position / 64 ≡ length ks → AreKept r 0 (ks ++ kept_of p ∷ [])
+pub kept-due : (r : Source) (p : Placed) (ks : List KeptPlace) → AreKept r 0 ks → IsAt r p → IsConsistent p.connection.state → p.position ≤ length ks * 64 → p.position / 64 ≡ length ks → AreKept r 0 (ks ++ kept_of p ∷ [])
 kept-due r p ks a x c below due = kept-one r 0 (kept_of p) ks a (record { place = p; here = x; consistent = c; same = refl }) (omega (arith, below, due, mul-div-le p.position 64))
 
 -- a place holds no octets that wait
@@ -39,13 +39,13 @@ place-follows r p far x y le =
     rw (here, there) (y.follows p.position le)
 
 -- what is kept of a place before another can be made again from that one
-pub kept-precedes : (r : Source) (k : Kept) (far : Placed) → IsKeptOf r k → IsAt r far → k.position ≤ far.position → Precedes k.checkpoint far.connection.state
+pub kept-precedes : (r : Source) (k : KeptPlace) (far : Placed) → IsKeptOf r k → IsAt r far → k.position ≤ far.position → Precedes k.checkpoint far.connection.state
 kept-precedes r k far x y le =
-    let same : k.position ≡ x.place.position = ap (λ (j : Kept). j.position) x.same in
+    let same : k.position ≡ x.place.position = ap (λ (j : KeptPlace). j.position) x.same in
     record {
       state = x.place.connection.state;
       consistent = x.consistent;
-      taken = ap (λ (j : Kept). j.checkpoint) x.same;
+      taken = ap (λ (j : KeptPlace). j.checkpoint) x.same;
       follows = place-follows r x.place far x.here y (omega (arith, le, same));
     }
 
@@ -69,7 +69,7 @@ end-few r = few-upto next_event (length r.octets) (start r) r.octets
 -- ---- a debugger moves
 
 -- a place and what is kept of it
-pub place-restored : (k : Kept) (p : Placed) (c : Connection) → k ≡ kept_of p → c ≡ p.connection → record { connection = c; position = k.position; used = k.used; ran = 0; reasons = k.reasons; sent = k.sent } ≡ record p { ran = 0 }
+pub place-restored : (k : KeptPlace) (p : Placed) (c : Connection) → k ≡ kept_of p → c ≡ p.connection → record { connection = c; position = k.position; used = k.used; ran = 0; reasons = k.reasons; sent = k.sent } ≡ record p { ran = 0 }
 place-restored k p c e h = rw (e, h) refl
 
 pub kept-start : (r : Source) (p : Placed) → IsAt r p → p.position ≡ 0 → IsKept r p p [] 0 0
@@ -89,7 +89,7 @@ both-true a b = rw (a, b) refl
 
 -- where the present place is not between, the greatest multiple of 64 that is not above a position is one of a place
 -- that is kept
-pub near-kept : (r : Source) (now far : Placed) (kept : List Kept) (reached replayed target : ℕ) → IsKept r now far kept reached replayed
+pub near-kept : (r : Source) (now far : Placed) (kept : List KeptPlace) (reached replayed target : ℕ) → IsKept r now far kept reached replayed
     → (nat_le now.position target && nat_le (min target reached / 64 * 64) now.position) ≡ false → min target reached / 64 < length kept
 near-kept r now far kept reached replayed target k apart = go (cases_lt (min target reached / 64) (length kept))
   where
@@ -103,7 +103,7 @@ near-kept r now far kept reached replayed target k apart = go (cases_lt (min tar
         absurd (true≢false (sym (both-true a b) ∙ apart))
 
 -- the debugger arrives at a place that a move has led to, after what was kept of the one that it leaves
-pub kept-arrived : (r : Source) (now far p far' : Placed) (ks ks' : List Kept) (reached replayed : ℕ) → IsKept r now far ks reached replayed → IsReached r p ks' → now.position < length ks' * 64 → length ks ≤ length ks'
+pub kept-arrived : (r : Source) (now far p far' : Placed) (ks ks' : List KeptPlace) (reached replayed : ℕ) → IsKept r now far ks reached replayed → IsReached r p ks' → now.position < length ks' * 64 → length ks ≤ length ks'
     → (reached < p.position → far' ≡ p) → (p.position ≤ reached → far' ≡ far) → IsKept r p far' ks' (max p.position reached) replayed
 kept-arrived r now far p far' ks ks' reached replayed k x left more ahead behind = by (cases_lt reached p.position)
   where
@@ -134,7 +134,7 @@ kept-arrived r now far p far' ks ks' reached replayed k x left more ahead behind
         })
 
 -- what is kept of more places leaves the debugger where it is
-pub kept-more : (r : Source) (now far : Placed) (ks ks' : List Kept) (reached replayed : ℕ) → IsKept r now far ks reached replayed → AreKept r 0 ks' → length ks ≤ length ks' → IsKept r now far ks' reached replayed
+pub kept-more : (r : Source) (now far : Placed) (ks ks' : List KeptPlace) (reached replayed : ℕ) → IsKept r now far ks reached replayed → AreKept r 0 ks' → length ks ≤ length ks' → IsKept r now far ks' reached replayed
 kept-more r now far ks ks' reached replayed k a more = record {
   now = k.now;
   far_is = k.far_is;
@@ -157,7 +157,7 @@ farthest-some None p q h = absurd (true≢false (sym h))
 farthest-some (Some far) p q h = refl
 
 -- the debugger takes one item where it is
-pub kept-stepped : (r : Source) (now p : Placed) (o : Option Placed) (ks ks' : List Kept) (reached replayed : ℕ) → IsKept r now (farthest_or o now) ks reached replayed → IsReached r p ks' → p.position ≡ now.position + 1
+pub kept-stepped : (r : Source) (now p : Placed) (o : Option Placed) (ks ks' : List KeptPlace) (reached replayed : ℕ) → IsKept r now (farthest_or o now) ks reached replayed → IsReached r p ks' → p.position ≡ now.position + 1
     → length ks ≤ length ks' → IsKept r p (farthest_or (cond (nat_lt reached p.position) None o) p) ks' (max p.position reached) replayed
 kept-stepped r now p o ks ks' reached replayed k x next more = by (nat_lt reached p.position) refl o k
   where
@@ -173,12 +173,12 @@ kept-stepped r now p o ks ks' reached replayed k x next more = by (nat_lt reache
         absurd (omega (arith, before, next, k.far_is.as_far))
 
 -- the same, where an item was to come
-pub kept-took : (r : Source) (now p : Placed) (o : Option Placed) (ks ks' : List Kept) (reached replayed : ℕ) (b : Bool) → IsKept r now (farthest_or o now) ks reached replayed → IsReached r p ks' → Advances r now p b → now.position < end r
+pub kept-took : (r : Source) (now p : Placed) (o : Option Placed) (ks ks' : List KeptPlace) (reached replayed : ℕ) (b : Bool) → IsKept r now (farthest_or o now) ks reached replayed → IsReached r p ks' → Advances r now p b → now.position < end r
     → length ks ≤ length ks' → IsKept r p (farthest_or (cond (nat_lt reached p.position) None o) p) ks' (max p.position reached) replayed
 kept-took r now p o ks ks' reached replayed b k x took more le = kept-stepped r now p o ks ks' reached replayed k x (place-took r now p b took more).next le
 
 -- how many items a move ran again is counted
-pub kept-counted : (r : Source) (now far : Placed) (ks : List Kept) (reached replayed count : ℕ) → IsKept r now far ks reached replayed → count ≤ 63 → IsKept r now far ks reached count
+pub kept-counted : (r : Source) (now far : Placed) (ks : List KeptPlace) (reached replayed count : ℕ) → IsKept r now far ks reached replayed → count ≤ 63 → IsKept r now far ks reached count
 kept-counted r now far ks reached replayed count k few = record {
   now = k.now;
   far_is = k.far_is;
@@ -210,7 +210,7 @@ replay-few target d =
     high = lt-div-mul-add {a = min target d.reached} {b = 64} (omega arith)
 
 -- the items that a debugger takes are counted anew, and none were run again
-pub kept-anew : (r : Source) (now : Placed) (o : Option Placed) (ks : List Kept) (reached replayed : ℕ) → IsKept r now (farthest_or o now) ks reached replayed
+pub kept-anew : (r : Source) (now : Placed) (o : Option Placed) (ks : List KeptPlace) (reached replayed : ℕ) → IsKept r now (farthest_or o now) ks reached replayed
     → IsKept r (record now { ran = 0 }) (farthest_or o (record now { ran = 0 })) ks reached 0
 kept-anew r now None ks reached replayed k = record {
   now = place-anew r now k.now;
@@ -301,7 +301,7 @@ stop-none p es le = let last = stop-from-none (p + 1) (drop p es) in omega (arit
 
 -- ---- a place that is made again from what was kept of it and the farthest one
 
-module _ (r : Source) (now far : Placed) (ks : List Kept) (reached replayed target : ℕ) (k : Kept) (is : IsKept r now far ks reached replayed) (there : slice_get ks (min target reached / 64) ≡ Some k) where
+module _ (r : Source) (now far : Placed) (ks : List KeptPlace) (reached replayed target : ℕ) (k : KeptPlace) (is : IsKept r now far ks reached replayed) (there : slice_get ks (min target reached / 64) ≡ Some k) where
   found : IsKeptOf r k × (k.position ≡ (0 + min target reached / 64) * 64)
   found = kept-at r 0 (min target reached / 64) k ks is.kept_is there
 
@@ -318,6 +318,6 @@ module _ (r : Source) (now far : Placed) (ks : List Kept) (reached replayed targ
       → IsAt r q × (q.position ≡ min target reached / 64 * 64) × (q.ran ≡ 0)
   restore-at q same =
       let p = found.0.place in
-      let kept : k.position ≡ p.position = ap (λ (j : Kept). j.position) found.0.same in
+      let kept : k.position ≡ p.position = ap (λ (j : KeptPlace). j.position) found.0.same in
       let follows = place-follows r p far found.0.here is.far_is.here (omega (arith, behind, kept)) in
       rw (same p found.0.same (place-goes r p found.0.here) follows) (place-anew r p found.0.here, omega (arith, kept, found.1), refl)

@@ -2,3 +2,11 @@ pub mod BreakLaws
 pub mod KeptLaws
 pub mod Obeying
 pub mod PlaceLaws
+pub mod Ahead
+pub mod Appending
+pub mod Beginning
+pub mod Following
+pub mod Giving
+pub mod Lines
+pub mod Short
+pub mod Taking

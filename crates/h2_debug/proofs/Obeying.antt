@@ -2,7 +2,7 @@
 use Rattle.std.proofs.Common.{◌≡◌, ◌∙◌, ◌+◌, ◌-◌, ◌<◌, ◌==◌, ℕ, zero, suc, Bool, true, false, true≢false, Result, Ok, Err, IfErr, IfOk, OnErr, OnOk, ap, eq-eqb, eqb-true, inl, inr, refl, sym, arith}
 use Rattle.std.specs.Prelude.{◌&&◌, nat_lt, min, Some}
 use Rattle.std.proofs.lemmas.Bool.{cond_both, lt-ltb, ltb-true, ne_eqb}
-use Rattle.h2_spec.specs.Debug.{stop}
+use Rattle.h2_spec.specs.Texts.Debug.{stop}
 use Rattle.h2_debug.specs.Debugging.{Debugging, moved, moved_counting}
 use Rattle.h2_debug.specs.Faults.{end_fault, start_fault}
 use Rattle.h2_debug.specs.Places.{end, events}

@@ -3,10 +3,10 @@ use Rattle.std.proofs.Common.{◌≡◌, ◌∙◌, ◌⊎◌, inl, inr, ℕ, ze
 use Rattle.std.proofs.lemmas.Bool.{cases_lt, ne_eqb}
 use Rattle.std.proofs.lemmas.List.{append-nil, drop-drop}
 use Rattle.std.specs.Prelude.{nat_lt}
-use Rattle.h2_spec.specs.Debug.{state_at, sent_at}
-use Rattle.h2_spec.specs.Frame.{Frame, frames_octets, head_at, Next, NoItem, Got}
+use Rattle.h2_spec.specs.Texts.Debug.{state_at, sent_at}
+use Rattle.h2_spec.specs.Frames.Frame.{Frame, frames_octets, head_at, Next, NoItem, Got}
 use Rattle.h2_spec.specs.Opening.{opening_octets}
-use Rattle.h2_spec.specs.Parse.{Front, Stop, One, Parsed, parse_all, parse_first}
+use Rattle.h2_spec.specs.Frames.Parse.{Front, Stop, One, Parsed, parse_all, parse_first}
 use Rattle.h2_spec.specs.State.{State}
 use Rattle.h2_spec.specs.Trace.{Event, event_on, next_event, next_in, next_item, step, trace}
 use Rattle.h2_spec.proofs.ParseLaws.{Uses, parse_all-step}

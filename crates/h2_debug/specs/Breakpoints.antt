@@ -1,5 +1,5 @@
 -- Breakpoints as the definitions have them.
-use Rattle.h2_spec.specs.Debug as spec
+use Rattle.h2_spec.specs.Texts.Debug as spec
 use Rattle.h2_debug.specs.declared.breakpoints.Break.{Break}
 use Rattle.h2_debug.specs.declared.breakpoints.Break.TheVariants as code
 

@@ -1,9 +1,9 @@
 -- The commands of `debug`, and the lines that spell them.
 use Rattle.std.specs.Prelude.{ℕ, List, length, take, drop, if◌then◌else◌, codes, Option, Some, None, option_map}
 use Rattle.std.specs.Str.{bytes_eq}
-use Rattle.h2_spec.specs.Assemble.{number_at}
-use Rattle.h2_spec.specs.Script.{max_u32}
-use Rattle.h2_spec.specs.Debug.{Break, AtPosition, OnType, OnStream, OnSent}
+use Rattle.h2_spec.specs.Texts.Assemble.{number_at}
+use Rattle.h2_spec.specs.Texts.Script.{max_u32}
+use Rattle.h2_spec.specs.Texts.Debug.{Break, AtPosition, OnType, OnStream, OnSent}
 
 -- what a line asks for
 pub data Command : Type 0 where

@@ -1,7 +1,7 @@
 -- What a debugger represents, and what its moves result in.
 use Rattle.std.specs.Prelude.{◌≡◌, ℕ, zero, suc, ◌+◌, ◌-◌, ◌*◌, ◌/◌, ◌≤◌, ◌&&◌, nat_le, min, max, if◌then◌else◌, List, length, Option, Some, None}
-use Rattle.h2_spec.specs.Debug.{Break}
-use Rattle.h2_debug.specs.Places.{AreKept, IsAt, Kept, Placed, Source, end}
+use Rattle.h2_spec.specs.Texts.Debug.{Break}
+use Rattle.h2_debug.specs.Places.{AreKept, IsAt, KeptPlace, Placed, Source, end}
 
 -- a run, the breakpoints, the present position, the greatest one that was reached, how many items were run to the
 -- present position since the last `back` or `go` began, or since the start, and how many of its items that `back` or
@@ -55,7 +55,7 @@ pub record IsFarthest (r : Source) (far : Placed) (reached : ℕ) : Type 0 where
 
 -- the present place, the farthest one, and what is kept: of one place at each multiple of 64 up to the greatest position
 -- that was reached, but for that position while it is the present one
-pub record IsKept (r : Source) (place far : Placed) (kept : List Kept) (reached replayed : ℕ) : Type 0 where
+pub record IsKept (r : Source) (place far : Placed) (kept : List KeptPlace) (reached replayed : ℕ) : Type 0 where
   pub now : IsAt r place
   pub far_is : IsFarthest r far reached
   pub kept_is : AreKept r 0 kept

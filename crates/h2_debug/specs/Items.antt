@@ -1,7 +1,7 @@
 -- An item by what a debugger has of it: the octets that it begins, and the octets sent for it.
 use Rattle.std.specs.Prelude.{◌≡◌, ℕ, ◌==◌, Bool, true, false, List, if◌then◌else◌, Option, Some, None}
 use Rattle.h2_spec.specs.declared.frames.Head.{Head}
-use Rattle.h2_spec.specs.Frame.{Item, Preface, BadPreface, WholeFrame, Oversize, Next, NoItem, Got, frames_octets, head_at}
+use Rattle.h2_spec.specs.Frames.Frame.{Item, Preface, BadPreface, WholeFrame, Oversize, Next, NoItem, Got, frames_octets, head_at}
 use Rattle.h2_spec.specs.Trace.{Event}
 use Rattle.h2_conn.specs.Does.{AreShort}
 

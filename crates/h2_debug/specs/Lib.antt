@@ -9,3 +9,10 @@ pub mod Reasons
 pub mod Replies
 pub mod Stops
 pub mod Words
+pub mod SessionFaults
+pub mod Lines
+pub mod Loading
+pub mod Reading
+pub mod Responses
+pub mod Session
+pub mod Takes

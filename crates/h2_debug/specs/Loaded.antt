@@ -1,6 +1,6 @@
 -- A debugger before its first command.
 use Rattle.std.specs.Prelude.{ℕ, List, []}
-use Rattle.h2_spec.specs.Answer.{Entry}
+use Rattle.h2_spec.specs.Requests.Answer.{Entry}
 use Rattle.h2_spec.specs.declared.connection.Config.{Config}
 use Rattle.h2_debug.specs.Debugging.{Debugging}
 

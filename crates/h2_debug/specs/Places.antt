@@ -3,9 +3,9 @@ use Rattle.std.specs.Prelude.{◌≡◌, ℕ, ◌+◌, ◌*◌, ◌<◌, ◌≤�
 use Rattle.h2_spec.specs.declared.causes.Cause.{Cause}
 use Rattle.h2_spec.specs.declared.connection.Config.{Config}
 use Rattle.h2_spec.specs.declared.ignored.Ignored.{Ignored}
-use Rattle.h2_spec.specs.Answer.{Entry}
-use Rattle.h2_spec.specs.Debug.{state_at, sent_at}
-use Rattle.h2_spec.specs.Frame.{Frame, frames_octets}
+use Rattle.h2_spec.specs.Requests.Answer.{Entry}
+use Rattle.h2_spec.specs.Texts.Debug.{state_at, sent_at}
+use Rattle.h2_spec.specs.Frames.Frame.{Frame, frames_octets}
 use Rattle.h2_spec.specs.Opening.{opening_settings}
 use Rattle.h2_spec.specs.State.{State, opening}
 use Rattle.h2_spec.specs.Trace.{Event, trace}
@@ -96,7 +96,7 @@ Advances r before after false = HasNoItem r before after
 
 -- a checkpoint of a connection, how many items and how many octets it took, why the last item was an error or was ignored,
 -- and what was sent for it
-pub record Kept : Type 0 where
+pub record KeptPlace : Type 0 where
   pub checkpoint : CheckpointView
   pub position : ℕ
   pub used : ℕ
@@ -104,24 +104,24 @@ pub record Kept : Type 0 where
   pub sent : List ℕ
 
 -- what is kept of a place
-abbrev pub kept_of : Placed → Kept
+abbrev pub kept_of : Placed → KeptPlace
 kept_of p = record { checkpoint = checkpoint_of p.connection.state; position = p.position; used = p.used; reasons = p.reasons; sent = p.sent }
 
 -- what is kept of a place of a run
-pub record IsKeptOf (r : Source) (k : Kept) : Type 0 where
+pub record IsKeptOf (r : Source) (k : KeptPlace) : Type 0 where
   pub place : Placed
   pub here : IsAt r place
   pub consistent : IsConsistent place.connection.state
   pub same : k ≡ kept_of place
 
 -- what is kept of places at multiples of 64 in a row, the first at this multiple
-abbrev pub AreKept : Source → ℕ → List Kept → Type 0
+abbrev pub AreKept : Source → ℕ → List KeptPlace → Type 0
 AreKept r i [] = Unit {0}
 AreKept r i (k ∷ ks) = IsKeptOf r k × (k.position ≡ i * 64) × AreKept r (i + 1) ks
 
 -- a place that was reached, and what is kept: of one place at each multiple of 64 below it, perhaps of it and of some
 -- above
-pub record IsReached (r : Source) (p : Placed) (kept : List Kept) : Type 0 where
+pub record IsReached (r : Source) (p : Placed) (kept : List KeptPlace) : Type 0 where
   pub place : IsAt r p
   pub kept_is : AreKept r 0 kept
   pub below : p.position ≤ length kept * 64

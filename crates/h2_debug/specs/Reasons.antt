@@ -1,8 +1,8 @@
 -- Why the items of a run were errors, or were ignored (RFC 9113, 5.4).
 use Rattle.std.specs.Prelude.{ℕ, zero, suc, List, [], ◌∷◌, None}
 use Rattle.h2_spec.specs.Effect.{cause_of}
-use Rattle.h2_spec.specs.Frame.{Item}
-use Rattle.h2_spec.specs.Ignored.{ignored_of}
+use Rattle.h2_spec.specs.Frames.Frame.{Item}
+use Rattle.h2_spec.specs.Causes.Ignored.{ignored_of}
 use Rattle.h2_spec.specs.State.{State}
 use Rattle.h2_spec.specs.Trace.{Event}
 use Rattle.h2_conn.specs.declared.report.TakenItem.{TakenItem}

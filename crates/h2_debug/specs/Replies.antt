@@ -1,15 +1,15 @@
 -- What a command does to a debugger, and what is printed for it.
 use Rattle.std.specs.Prelude.{◌≡◌, ◌⊎◌, ℕ, ◌+◌, ◌-◌, ◌++◌, ◌==◌, ◌&&◌, not, Bool, true, false, nat_lt, min, if◌then◌else◌, List, [], ◌∷◌, codes, decimal, Option, Some, None, is_some, Result, Ok, Err}
-use Rattle.h2_spec.specs.Debug.{stop}
-use Rattle.h2_spec.specs.Show.{joined, octets_text, show}
-use Rattle.h2_spec.specs.View.{view}
+use Rattle.h2_spec.specs.Texts.Debug.{stop}
+use Rattle.h2_spec.specs.Texts.Show.{joined, octets_text, show}
+use Rattle.h2_spec.specs.Texts.View.{view}
 use Rattle.h2_debug.specs.Debugging.{Debugging, moved_counting, moved}
 use Rattle.h2_debug.specs.Faults.{fault_number}
 use Rattle.h2_spec.specs.State.{ended_code}
 use Rattle.h2_debug.specs.Places.{at, cause_at, end, events, ignored_at, sent_octets_at}
 use Rattle.h2_debug.specs.declared.fault.DebugFault.{DebugFault}
 use Rattle.h2_debug.specs.Commands.{Command, Step, Back, Go, Run, BreakOn, Clear, Show, Why}
-use Rattle.h2_describe.specs.Why.{why_lines}
+use Rattle.h2_explain_words.specs.Why.{why_lines}
 use Rattle.h2_debug.specs.declared.reply.Reply.{Reply}
 use Rattle.h2_debug.specs.declared.reply.Reply.TheVariants as code
 

@@ -1,7 +1,7 @@
 -- Where a run stops, in the words of breakpoints: at the first later position that one matches, or at the end.
 use Rattle.std.specs.Prelude.{◌≡◌, ◌⊎◌, ℕ, zero, suc, ◌<◌, ◌≤◌, true, List, length, slice_get, Option, Some, None}
 use Rattle.std.specs.List.{list_any}
-use Rattle.h2_spec.specs.Debug.{Break, matches}
+use Rattle.h2_spec.specs.Texts.Debug.{Break, matches}
 use Rattle.h2_spec.specs.Trace.{Event}
 
 -- the item that leads to a position; none leads to 0

@@ -1,10 +1,10 @@
 //! Breakpoints: a position, or the type of an item, its stream, or the type of a frame sent for it. Definition:
-//! `matches` of h2_spec's `specs/Debug.antt`.
+//! `matches` of h2_spec's `specs/Texts/Debug.antt`.
 
 ghost use Rattle.std.specs.Prelude.{◌≡◌, ℕ, ◌<◌, ◌++◌, ◌==◌, [], List, length, map, if◌then◌else◌, IfSome, IsSomeAnd};
 ghost use Rattle.std.specs.List.{list_any};
-ghost use Rattle.h2_spec.specs.Debug.{matches};
-ghost use Rattle.h2_spec.specs.Frame.{Frame, frame_octets, frames_octets, head_at};
+ghost use Rattle.h2_spec.specs.Texts.Debug.{matches};
+ghost use Rattle.h2_spec.specs.Frames.Frame.{Frame, frame_octets, frames_octets, head_at};
 ghost use Rattle.h2_spec.specs.Trace.{Event};
 ghost use Rattle.h2_conn.specs.Does.{AreShort, IsShortFrame};
 ghost use Rattle.h2_debug.specs.Breakpoints.{break_of};
@@ -40,6 +40,7 @@ fn first_frame(octets: &[u8]) -> Option<(u8, &[u8])>
     Some((head.kind, &octets[size..]))
 }
 
+// Reads the octets sent once more: no memory, and one record of what was sent.
 /// Whether one of the frames that the octets are has this type.
 fn sends(octets: &[u8], kind: u8) -> bool
     ensures { (frames : List Frame) → octets.now ≡ frames_octets frames → AreShort frames → result ≡ list_any (λ f. f.kind == kind) frames }

@@ -1,13 +1,14 @@
 //! A debugger: a position in the run of a new connection over octets, moved forward and back. The program does not call
-//! `view`, `show` and `replayed`, which are for users of the library: it writes the text of `conn`. A checkpoint of the place
-//! at each multiple of 64 is kept from when it is first left, so that no move runs more than 63 items again. A place is
-//! made again from its checkpoint and the records of the farthest place that was reached. Definitions: h2_spec's
-//! `specs/Debug.antt` for positions and breakpoints, `specs/Debugging.antt` for what a debugger represents.
+//! `view`, `show`, `replayed`, and `break_at` to `break_sent`, which are for users of the library: it writes the text of
+//! `conn`. A checkpoint of the place at each multiple of 64 is kept from when it is first left, so that no move runs more
+//! than 63 items again. A place is made again from its checkpoint and the records of the farthest place that was reached.
+//! Definitions: h2_spec's `specs/Debug.antt` for positions and breakpoints, `specs/Debugging.antt` for what a debugger
+//! represents.
 
 ghost use Rattle.std.specs.Prelude.{◌≡◌, ◌⊎◌, ◌+◌, ◌-◌, ◌<◌, ◌≤◌, ◌==◌, [], ◌∷◌, nat_lt, ◌++◌, IfErr, IfOk, IfSome, OnErr, OnOk, length, min, slice_get, nat_le, ◌&&◌, false, true, None, Some, if◌then◌else◌};
-ghost use Rattle.h2_spec.specs.Debug.{stop};
-ghost use Rattle.h2_spec.specs.Show.{show};
-ghost use Rattle.h2_spec.specs.View.{view};
+ghost use Rattle.h2_spec.specs.Texts.Debug.{AtPosition, OnSent, OnStream, OnType, stop};
+ghost use Rattle.h2_spec.specs.Texts.Show.{show};
+ghost use Rattle.h2_spec.specs.Texts.View.{view};
 ghost use Rattle.std.specs.String.{string_bytes};
 ghost use Rattle.h2_spec.specs.State.{is_allowed};
 ghost use Rattle.h2_debug.specs.Breakpoints.{break_of};
@@ -21,12 +22,12 @@ ghost use Rattle.h2_debug.specs.declared.fault.DebugFault.TheVariants.{NoMemory,
 use crate::breakpoints::Break;
 use crate::fault::DebugFault;
 use crate::forward::{LEG, SPACING, forward_to, forward_to_stop, keep_and_advance, keep_if_due};
-use crate::kept::Kept;
+use crate::kept_place::KeptPlace;
 use crate::place::Place;
 use crate::source::Source;
 use h2_conn::view::View;
 use h2_conn::{Conn, ConnFault};
-use h2_entries::book::Book;
+use h2_request_book::book::Book;
 use h2_spec::causes::Cause;
 use h2_spec::connection::Config;
 use h2_spec::ignored::Ignored;
@@ -48,7 +49,7 @@ pub struct Debugger<'b, A: Allocator> {
     present: Place<'b, A>,
     /// The farthest place, where the present one is not it.
     farthest: Option<Place<'b, A>>,
-    kept: Vec<Kept<'b, A>, A>,
+    kept: Vec<KeptPlace<'b, A>, A>,
     reached: usize,
     replayed: usize,
 }
@@ -83,7 +84,7 @@ impl<'b, A: Allocator> Drop for Debugger<'b, A> {
 }
 
 /// What is kept at an index.
-fn kept_at<'k, 'b, A: Allocator>(kept: &'k [Kept<'b, A>], index: usize) -> &'k Kept<'b, A>
+fn kept_at<'k, 'b, A: Allocator>(kept: &'k [KeptPlace<'b, A>], index: usize) -> &'k KeptPlace<'b, A>
     requires { index < length kept.now }
     ensures { slice_get kept.now index ≡ Some result.now }
 {
@@ -207,6 +208,7 @@ impl<'b, A: Allocator + Copy> Debugger<'b, A> {
         }
     }
 
+    // A move ahead starts at the last kept place on its way: the items up to there need not be taken again.
     /// The place where a move ahead to a position starts, as `start_for` finds it, but the items up to it are counted after
     /// those that were run to the present position. `AllocError` if it is out of memory.
     fn start_ahead(&mut self, target: usize) -> Result<Place<'b, A>, AllocError>
@@ -344,13 +346,18 @@ impl<'b, A: Allocator + Copy> Debugger<'b, A> {
     ///
     /// # Errors
     ///
-    /// `OutOfRange` where there are fewer items; `NoMemory`. Both leave the debugger as it was.
+    /// `OutOfRange` where there are fewer items, which takes no memory at the end of the run; else `NoMemory`. Both leave
+    /// the debugger as it was.
     pub fn go(&mut self, target: usize) -> Result<usize, DebugFault>
         ensures ok { IfOk result (λ p. (p ≡ target) × (self.new ≡ moved_counting p self.old)) }
         ensures within { OnOk result (target ≤ end self.old.run) }
         ensures fault { IfErr result (λ fault. IsRefused OutOfRange (end self.old.run < target) fault) }
+        ensures at_end { self.old.position ≡ end self.old.run → self.old.position < target → IfErr result (λ fault. fault ≡ OutOfRange) }
         ensures unchanged { OnErr result (self.new ≡ self.old) }
     {
+        if self.present.position() < target && !self.has_next() {
+            return Err(DebugFault::OutOfRange);
+        }
         let place = self.start_for(target)?;
         let first_runs = target.saturating_sub(self.reached);
         match self.move_to(place, target, target)? {
@@ -406,6 +413,7 @@ impl<'b, A: Allocator + Copy> Debugger<'b, A> {
         )
     }
 
+    // Made again from what is kept each 16,384 items, so that records are not in memory twice.
     /// Takes a copy of the present place over positions that were reached before, up to the first one that a breakpoint
     /// matches, or until no more than a leg of them is ahead. After each leg, and where one matches, the place is made
     /// again from what is kept, so that it shares the records of the farthest one; this is at least one item back, where
@@ -488,6 +496,42 @@ impl<'b, A: Allocator + Copy> Debugger<'b, A> {
     {
         self.breaks.push(stop)?;
         Ok(())
+    }
+
+    /// Stops runs at this position. `NoMemory` leaves the debugger as it was.
+    pub fn break_at(&mut self, position: usize) -> Result<(), DebugFault>
+        ensures ok { OnOk result (self.new ≡ record self.old { breaks = self.old.breaks ++ AtPosition position ∷ [] }) }
+        ensures fault { IfErr result (λ fault. fault ≡ NoMemory) }
+        ensures unchanged { OnErr result (self.new ≡ self.old) }
+    {
+        self.break_on(Break::Position(position))
+    }
+
+    /// Stops runs after an item whose frame has this type. `NoMemory` leaves the debugger as it was.
+    pub fn break_type(&mut self, kind: u8) -> Result<(), DebugFault>
+        ensures ok { OnOk result (self.new ≡ record self.old { breaks = self.old.breaks ++ OnType kind ∷ [] }) }
+        ensures fault { IfErr result (λ fault. fault ≡ NoMemory) }
+        ensures unchanged { OnErr result (self.new ≡ self.old) }
+    {
+        self.break_on(Break::Type(kind))
+    }
+
+    /// Stops runs after an item on this stream. `NoMemory` leaves the debugger as it was.
+    pub fn break_stream(&mut self, stream: u32) -> Result<(), DebugFault>
+        ensures ok { OnOk result (self.new ≡ record self.old { breaks = self.old.breaks ++ OnStream stream ∷ [] }) }
+        ensures fault { IfErr result (λ fault. fault ≡ NoMemory) }
+        ensures unchanged { OnErr result (self.new ≡ self.old) }
+    {
+        self.break_on(Break::Stream(stream))
+    }
+
+    /// Stops runs after an item for which a frame of this type is sent. `NoMemory` leaves the debugger as it was.
+    pub fn break_sent(&mut self, kind: u8) -> Result<(), DebugFault>
+        ensures ok { OnOk result (self.new ≡ record self.old { breaks = self.old.breaks ++ OnSent kind ∷ [] }) }
+        ensures fault { IfErr result (λ fault. fault ≡ NoMemory) }
+        ensures unchanged { OnErr result (self.new ≡ self.old) }
+    {
+        self.break_on(Break::Sent(kind))
     }
 
     /// Removes all breakpoints. It takes no memory.

@@ -1,14 +1,14 @@
 //! Moves forward through a run: items taken one after another, where something is kept of each place at a multiple of
-//! 64 that is left for the first time. Definitions: `specs/Places.antt`, and `stop` of h2_spec's `specs/Debug.antt`.
+//! 64 that is left for the first time. Definitions: `specs/Places.antt`, and `stop` of h2_spec's `specs/Texts/Debug.antt`.
 
 ghost use Rattle.std.specs.Prelude.{◌≡◌, ◌+◌, ◌-◌, ◌*◌, ◌<◌, ◌≤◌, [], ◌∷◌, ◌++◌, IfOk, OnErr, OnOk, length, min, map};
-ghost use Rattle.h2_spec.specs.Debug.{stop};
+ghost use Rattle.h2_spec.specs.Texts.Debug.{stop};
 ghost use Rattle.h2_conn.specs.Checkpoint.{IsConsistent};
 ghost use Rattle.h2_debug.specs.Breakpoints.{break_of};
 ghost use Rattle.h2_debug.specs.Places.{Advances, AreKept, IsAt, IsReached, Source, end, events, kept_of};
 
 use crate::breakpoints::{Break, any_match};
-use crate::kept::Kept;
+use crate::kept_place::KeptPlace;
 use crate::place::Place;
 use crate::source::Source as Input;
 use std::alloc::{AllocError, Allocator};
@@ -25,13 +25,13 @@ pub const LEG: usize = 256 * SPACING;
 #[inline(never)]
 fn keep<'b, A: Allocator + Copy>(
     place: &Place<'b, A>,
-    kept: &mut Vec<Kept<'b, A>, A>,
+    kept: &mut Vec<KeptPlace<'b, A>, A>,
 ) -> Result<(), AllocError>
     ensures kept { OnOk result (kept.new.items ≡ kept.old.items ++ kept_of place.now ∷ []) }
     ensures unchanged { OnErr result (kept.new.items ≡ kept.old.items) }
     ensures consistent { OnOk result (IsConsistent place.now.connection.state) }
 {
-    let next = Kept::of(place, kept.last())?;
+    let next = KeptPlace::of(place, kept.last())?;
     kept.push(next)?;
     Ok(())
 }
@@ -40,7 +40,7 @@ fn keep<'b, A: Allocator + Copy>(
 #[inline(always)]
 pub fn keep_if_due<'b, A: Allocator + Copy>(
     place: &Place<'b, A>,
-    kept: &mut Vec<Kept<'b, A>, A>,
+    kept: &mut Vec<KeptPlace<'b, A>, A>,
 ) -> Result<(), AllocError>
     requires { place.now.position ≤ length kept.old.items * 64 }
     ensures kept { (r : Source) → IsAt r place.now → AreKept r 0 kept.old.items → AreKept r 0 kept.new.items }
@@ -58,7 +58,7 @@ pub fn keep_if_due<'b, A: Allocator + Copy>(
 pub fn keep_and_advance<'b, A: Allocator + Copy>(
     source: &Input<'_, 'b, A>,
     place: &mut Place<'b, A>,
-    kept: &mut Vec<Kept<'b, A>, A>,
+    kept: &mut Vec<KeptPlace<'b, A>, A>,
 ) -> Result<bool, AllocError>
     requires { IsReached source.now place.old kept.old.items }
     ensures advances { IfOk result (Advances source.now place.old place.new) }
@@ -75,7 +75,7 @@ pub fn forward_to<'b, A: Allocator + Copy>(
     source: &Input<'_, 'b, A>,
     place: &mut Place<'b, A>,
     target: usize,
-    kept: &mut Vec<Kept<'b, A>, A>,
+    kept: &mut Vec<KeptPlace<'b, A>, A>,
 ) -> Result<(), AllocError>
     requires reached { IsReached source.now place.old kept.old.items }
     requires ahead { place.old.position ≤ target }
@@ -98,7 +98,7 @@ pub fn forward_to_stop<'b, A: Allocator + Copy>(
     place: &mut Place<'b, A>,
     breaks: &[Break],
     bound: usize,
-    kept: &mut Vec<Kept<'b, A>, A>,
+    kept: &mut Vec<KeptPlace<'b, A>, A>,
 ) -> Result<(), AllocError>
     requires reached { IsReached source.now place.old kept.old.items }
     requires ahead { place.old.position ≤ bound }

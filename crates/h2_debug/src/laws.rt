@@ -1,9 +1,9 @@
 //! Laws of where a run stops and of how many items a move runs again, each on a function with an empty body: its
 //! contract is the law.
-//! Definitions: `specs/Stops.antt` and `specs/Debugging.antt`, and `stop` of h2_spec's `specs/Debug.antt`.
+//! Definitions: `specs/Stops.antt` and `specs/Debugging.antt`, and `stop` of h2_spec's `specs/Texts/Debug.antt`.
 
 ghost use Rattle.std.specs.Prelude.{◌≡◌, ℕ, ◌-◌, ◌<◌, ◌≤◌, List, length};
-ghost use Rattle.h2_spec.specs.Debug.{Break, stop};
+ghost use Rattle.h2_spec.specs.Texts.Debug.{Break, stop};
 ghost use Rattle.h2_spec.specs.Trace.{Event};
 ghost use Rattle.h2_debug.specs.Debugging.{Debugging, reached_among, replay_count, replay_start};
 ghost use Rattle.h2_debug.specs.Stops.{IsStop};

@@ -1,6 +1,8 @@
 //! A debugger of connections: any position in the run of a new connection over octets, forward and back (RFC 9113, 3.4
-//! to 6). Definitions: h2_spec's `specs/Debug.antt` for positions and breakpoints, and `specs/` here for what a
-//! debugger represents. Others give it commands by `command_of` and `obey`, and print what it replies by `ReplyText`.
+//! to 6). Definitions: h2_spec's `specs/Texts/Debug.antt` for positions and breakpoints, and `specs/` here for what a
+//! debugger represents. Others give it commands by `command_of` and `obey`, and print what it replies by `ReplyText`. The
+//! command `debug` (`session`) reads octets in hex, and then commands, line by line: each reply is written and flushed
+//! before the next command is read, so that a person or a program can work with it over a pipe.
 #![tactic(auto)]
 
 mod breakpoints;
@@ -8,16 +10,22 @@ mod command;
 pub mod debugger;
 mod fault;
 mod forward;
-mod kept;
+mod kept_place;
 pub mod laws;
+mod line;
 pub mod obey;
 mod place;
+mod reader;
 mod reasons;
 mod reply;
+pub mod session;
+mod session_fault;
 mod source;
+mod written;
 
 pub use breakpoints::Break;
 pub use command::{Command, command_of};
 pub use debugger::Debugger;
 pub use fault::DebugFault;
 pub use reply::{FaultLine, Reply, ReplyText};
+pub use session::debug_session;

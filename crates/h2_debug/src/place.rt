@@ -3,8 +3,8 @@
 //! `specs/Places.antt`.
 
 ghost use Rattle.std.specs.Prelude.{◌≡◌, ◌+◌, ◌-◌, ◌≤◌, [], true, IfErr, IfOk, OnErr, OnOk, nat_lt};
-ghost use Rattle.h2_spec.specs.Show.{show};
-ghost use Rattle.h2_spec.specs.View.{view};
+ghost use Rattle.h2_spec.specs.Texts.Show.{show};
+ghost use Rattle.h2_spec.specs.Texts.View.{view};
 ghost use Rattle.h2_spec.specs.State.{State, is_allowed};
 ghost use Rattle.h2_spec.specs.Trace.{next_in};
 ghost use Rattle.h2_conn.specs.Checkpoint.{Precedes, checkpoint_of};

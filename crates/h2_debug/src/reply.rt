@@ -2,12 +2,12 @@
 
 ghost use Rattle.std.specs.Prelude.{◌≡◌};
 ghost use Rattle.h2_debug.specs.Replies.{fault_line, number_line, reply_text, shown_text, why_text};
-ghost use Rattle.h2_describe.specs.Why.{why_lines};
+ghost use Rattle.h2_explain_words.specs.Why.{why_lines};
 
 use crate::debugger::Debugger;
-use h2_describe::why::WhyText;
-use h2_device::{DeviceFault, Number, Output, Text, texts};
-use h2_text::hex_text::OctetsText;
+use h2_conn_view::hex_text::OctetsText;
+use h2_explain_words::why::WhyText;
+use h2_io::{DeviceFault, Number, Output, Text, texts};
 use std::alloc::Global;
 
 /// What is printed for a command.
@@ -59,7 +59,7 @@ impl Text for FaultLine {
 #[derive(Clone, Copy)]
 struct PlaceText<'d, 'b>(&'d Debugger<'b, Global>);
 
-#[tactic(auto, using(h2_device::proofs::Appending::both), unfolding(crate::specs::Replies::place_text))]
+#[tactic(auto, using(h2_io::proofs::Appending::both), unfolding(crate::specs::Replies::place_text))]
 impl Text for PlaceText<'_, '_> {
     ghost text = { λ p. shown_text p.0.now };
 

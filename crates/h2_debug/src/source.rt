@@ -3,7 +3,7 @@
 
 ghost use Rattle.std.specs.Prelude.{◌≡◌, ◌<◌, ◌≤◌, ◌^◌, drop, length};
 
-use h2_entries::book::Book;
+use h2_request_book::book::Book;
 use h2_spec::connection::Config;
 use std::alloc::Allocator;
 use std::marker::Model;

@@ -2,9 +2,9 @@
 use Rattle.std.proofs.Common.{true, false, IfErr, None, Result, Ok, Err, is_err, ◌≡◌, inl, inr, ◌∙◌, ◌+◌, ◌<◌, ◌≤◌, ℕ, List, [], ◌∷◌, ◌++◌, Option, Some, length, drop, refl, sym, ap, ap₂, subst, arith, option_map, length-drop, length-append, append_assoc}
 use Rattle.std.proofs.lemmas.List.{append-nil, drop-append-le, drop-drop}
 use Rattle.std.specs.Io.KnownBytes.{Appends}
-use Rattle.h2_spec.specs.Frame.{Next, NoItem, Got}
-use Rattle.h2_spec.specs.Parse.{Stop, One, Parsed, after_one}
-use Rattle.h2_spec.specs.Errors.{code_number}
+use Rattle.h2_spec.specs.Frames.Frame.{Next, NoItem, Got}
+use Rattle.h2_spec.specs.Frames.Parse.{Stop, One, Parsed, after_one}
+use Rattle.h2_spec.specs.Causes.Errors.{code_number}
 use Rattle.h2_spec.specs.State.{State, ended_code}
 use Rattle.h2_spec.specs.Trace.{Event, Run, event_on, left_by, next_event, next_item, sent_octets, trace}
 use Rattle.h2_spec.proofs.TraceLaws.{events-append}
@@ -13,15 +13,15 @@ use Rattle.h2_conn.specs.First.{TakesFirst}
 use Rattle.h2_conn.specs.Runs.{Fed, Feeds, Halted, Leads, Ran, Takes}
 use Rattle.h2_conn.proofs.Items.{none-after}
 use Rattle.h2_conn.proofs.Runs.{leads-takes, left-ended, left-going, ran-feeds, sent-none, trace-stop, whole, whole-one, whole-stop}
-use Rattle.h2_explain.specs.declared.explanation.Explanation.{Explanation}
-use Rattle.h2_item.specs.declared.item.Explained.{Explained}
+use Rattle.h2_explain.specs.declared.run_explainer.RunExplainer.{RunExplainer}
+use Rattle.h2_explain_item.specs.declared.item.Explained.{Explained}
 use Rattle.h2_explain.specs.declared.run.Summary.{Summary}
 use Rattle.h2_explain.specs.declared.run.ExplainFault.TheVariants.{NotWritten}
 use Rattle.h2_explain.specs.declared.run.ExplainFault.{ExplainFault}
 use Rattle.h2_explain.specs.declared.run.Form.{Form}
 use Rattle.h2_explain.specs.declared.verdict.ClientVerdict.{ClientVerdict}
-use Rattle.h2_explainer.proofs.Taken.{empty-stop, left-none, item-uses, item-more}
-use Rattle.h2_explainer.specs.Explained.{ExplainsItem}
+use Rattle.h2_explain_step.proofs.Taken.{empty-stop, left-none, item-uses, item-more}
+use Rattle.h2_explain_step.specs.Explained.{ExplainsItem}
 use Rattle.h2_explain.specs.Explaining.{Continues, CountsOn, EndsAs, ExplainsAll, ExplainsOn, Handles, HasGained, IsBeginning, IsCutShort, IsExplaining, IsNew, IsSummed, PassesBy, SaysOf, SaysSome, StopsAt, TakesItem}
 use Rattle.h2_explain.specs.Explains.{AreExplained, Gains, IsExplanation, IsItemText, IsRestText, IsWritten, not_written, summary_over}
 use Rattle.h2_explain.specs.Verdicts.{AreTallied, Tallied, TalliesItem, no_tally, verdict_at}
@@ -76,7 +76,7 @@ counts-next s0 s b0 b items0 offset0 items offset c x t0 t t' i note on = λ lat
     let here = subst (λ (d : List ℕ). AreTallied c.state d (items + 1 + 1) (offset + x.used) xs t' v) (sym (drop-append-le x.used b later within.1)) are in
     on later (x ∷ xs) v (c, item-more s b later (items + 1) offset c x i, t', note, here)
 
-pub on-start : {A : Type 0} (e : Explanation A) (s : State) (b : List ℕ) (known : Option (List ℕ)) → e.items ≤ e.offset → ExplainsOn e s b known e s b known
+pub on-start : {A : Type 0} (e : RunExplainer A) (s : State) (b : List ℕ) (known : Option (List ℕ)) → e.items ≤ e.offset → ExplainsOn e s b known e s b known
 on-start e s b known few = record {
   form_is = refl;
   items_are = omega arith;
@@ -89,7 +89,7 @@ on-start e s b known few = record {
 }
 
 -- one item more
-pub on-next : {A : Type 0} (e e1 e2 : Explanation A) (s s1 : State) (b b1 : List ℕ) (c : Connection) (known known1 known2 : Option (List ℕ)) (used : ℕ)
+pub on-next : {A : Type 0} (e e1 e2 : RunExplainer A) (s s1 : State) (b b1 : List ℕ) (c : Connection) (known known1 known2 : Option (List ℕ)) (used : ℕ)
     → ExplainsOn e s b known e1 s1 b1 known1 → (y : TakesItem e1 s1 b1 known1 e2 c known2 used) → ExplainsOn e s b known e2 c.state (drop y.item.used b1) known2
 on-next e e1 e2 s s1 b b1 c known known1 known2 used x y =
     let i = y.explains in
@@ -112,27 +112,27 @@ on-next e e1 e2 s s1 b b1 c known known1 known2 used x y =
     }
 
 -- the same, where the octets are those of all after some first ones
-pub on-next-at : {A : Type 0} (e e1 e2 : Explanation A) (s s1 : State) (b : List ℕ) (at : ℕ) (c : Connection) (known known1 known2 : Option (List ℕ)) (used : ℕ)
+pub on-next-at : {A : Type 0} (e e1 e2 : RunExplainer A) (s s1 : State) (b : List ℕ) (at : ℕ) (c : Connection) (known known1 known2 : Option (List ℕ)) (used : ℕ)
     → ExplainsOn e s b known e1 s1 (drop at b) known1 → TakesItem e1 s1 (drop at b) known1 e2 c known2 used → ExplainsOn e s b known e2 c.state (drop (at + used) b) known2
 on-next-at e e1 e2 s s1 b at c known known1 known2 used x y =
     let past : drop y.item.used (drop at b) ≡ drop (at + used) b = ap (λ (u : ℕ). drop u (drop at b)) (sym y.used_is) ∙ drop-drop used at b in
     subst (λ (d : List ℕ). ExplainsOn e s b known e2 c.state d known2) past (on-next e e1 e2 s s1 b (drop at b) c known known1 known2 used x y)
 
 -- an item has some of the octets
-pub takes-uses : {A : Type 0} (e e1 : Explanation A) (s : State) (b : List ℕ) (known known1 : Option (List ℕ)) (c : Connection) (used : ℕ) → TakesItem e s b known e1 c known1 used → (0 < used) × (used ≤ length b)
+pub takes-uses : {A : Type 0} (e e1 : RunExplainer A) (s : State) (b : List ℕ) (known known1 : Option (List ℕ)) (c : Connection) (used : ℕ) → TakesItem e s b known e1 c known1 used → (0 < used) × (used ≤ length b)
 takes-uses e e1 s b known known1 c used y =
     let uses = item-uses s b (e.items + 1) e.offset c y.item y.explains in
     (omega (arith, uses.0, y.used_is), omega (arith, uses.1, y.used_is))
 
 -- the explanation of some first items is one that is cut short
-pub on-cut : {A : Type 0} (e e1 : Explanation A) (s s1 : State) (b b1 : List ℕ) (known known1 : Option (List ℕ)) → ExplainsOn e s b known e1 s1 b1 known1 → Gains (IsCutShort e s b) known known1
+pub on-cut : {A : Type 0} (e e1 : RunExplainer A) (s s1 : State) (b b1 : List ℕ) (known known1 : Option (List ℕ)) → ExplainsOn e s b known e1 s1 b1 known1 → Gains (IsCutShort e s b) known known1
 on-cut e e1 s s1 b b1 known known1 x =
     gains-map (Continues e.form s b e.items e.offset s1 b1 e1.items e1.offset) (IsCutShort e s b)
     (λ t on later. let one = on later true [] [] refl in (one.0, subst (λ (d : List ℕ). AreExplained e.form true s (b ++ later) e.items e.offset one.0 d) (append-nil t) one.1))
     known known1 x.written
 
 -- and nothing more was written after it
-pub on-cut-then : {A : Type 0} (e e1 : Explanation A) (s s1 : State) (b b1 : List ℕ) (known known1 known2 : Option (List ℕ)) → ExplainsOn e s b known e1 s1 b1 known1 → Gains (λ (t : List ℕ). t ≡ []) known1 known2 → Gains (IsCutShort e s b) known known2
+pub on-cut-then : {A : Type 0} (e e1 : RunExplainer A) (s s1 : State) (b b1 : List ℕ) (known known1 known2 : Option (List ℕ)) → ExplainsOn e s b known e1 s1 b1 known1 → Gains (λ (t : List ℕ). t ≡ []) known1 known2 → Gains (IsCutShort e s b) known known2
 on-cut-then e e1 s s1 b b1 known known1 known2 x y =
     gains-both (IsCutShort e s b) (λ (t : List ℕ). t ≡ []) (IsCutShort e s b)
     (λ t u cut none. subst (λ (d : List ℕ). IsCutShort e s b d) (sym (ap (λ (w : List ℕ). t ++ w) none ∙ append-nil t)) cut)
@@ -175,7 +175,7 @@ late-feeds s held q out h =
 -- ---- what is held
 
 -- the octets and counts of an explanation that were not those of its items are others now
-all-same : {A : Type 0} (e e1 e2 : Explanation A) (s s' : State) (b rest : List ℕ) (known known' : Option (List ℕ)) → ExplainsAll e s b known e1 s' rest known'
+all-same : {A : Type 0} (e e1 e2 : RunExplainer A) (s s' : State) (b rest : List ℕ) (known known' : Option (List ℕ)) → ExplainsAll e s b known e1 s' rest known'
     → e2.form ≡ e1.form → e2.items ≡ e1.items → e2.offset ≡ e1.offset → e2.tally ≡ e1.tally → ExplainsAll e s b known e2 s' rest known'
 all-same e e1 e2 s s' b rest known known' x form items offset tally =
     let on = x.on in
@@ -194,7 +194,7 @@ all-same e e1 e2 s s' b rest known known' x form items offset tally =
     }
 
 -- they were others before
-pub all-from : {A : Type 0} (e e0 e1 : Explanation A) (s s' : State) (b rest : List ℕ) (known known' : Option (List ℕ)) → ExplainsAll e0 s b known e1 s' rest known'
+pub all-from : {A : Type 0} (e e0 e1 : RunExplainer A) (s s' : State) (b rest : List ℕ) (known known' : Option (List ℕ)) → ExplainsAll e0 s b known e1 s' rest known'
     → e.form ≡ e0.form → e.items ≡ e0.items → e.offset ≡ e0.offset → e.tally ≡ e0.tally → ExplainsAll e s b known e1 s' rest known'
 all-from e e0 e1 s s' b rest known known' x form items offset tally =
     let on = x.on in
@@ -213,7 +213,7 @@ all-from e e0 e1 s s' b rest known known' x form items offset tally =
     }
 
 -- the rest is held, or counted
-pub handles : {A : Type 0} (e e1 e2 : Explanation A) (s s' : State) (b rest : List ℕ) (known known' : Option (List ℕ)) → ExplainsAll e s b known e1 s' rest known'
+pub handles : {A : Type 0} (e e1 e2 : RunExplainer A) (s s' : State) (b rest : List ℕ) (known known' : Option (List ℕ)) → ExplainsAll e s b known e1 s' rest known'
     → e2.form ≡ e1.form → e2.items ≡ e1.items → e2.offset ≡ e1.offset → e2.tally ≡ e1.tally
     → e2.held.items ≡ left_by s'.core.phase rest → length e2.held.items + e2.late ≡ e.late + length rest → Handles e s b known e2 s' known'
 handles e e1 e2 s s' b rest known known' x form items offset tally held left =
@@ -225,7 +225,7 @@ fed-all s s' held q out out' rest h x is =
     (x.0, subst (λ (d : List ℕ). Feeds (going s held) q out (going s' d) out' x.0) (sym is) (ran-feeds s s' held q out rest out' x.0 x.1))
 
 -- how many octets there are now
-pub handles-room : {A : Type 0} (e e' : Explanation A) (s s' : State) (piece : List ℕ) (known known' : Option (List ℕ)) → Handles e s (e.held.items ++ piece) known e' s' known' → HasGained e (length piece) e'
+pub handles-room : {A : Type 0} (e e' : RunExplainer A) (s s' : State) (piece : List ℕ) (known known' : Option (List ℕ)) → Handles e s (e.held.items ++ piece) known e' s' known' → HasGained e (length piece) e'
 handles-room e e' s s' piece known known' h =
     (h.all.on.counted, omega (arith, h.all.on.offset_is, h.leaves.left_is, length-append e.held.items piece))
 
@@ -235,20 +235,20 @@ handles-room e e' s s' piece known known' h =
 abbrev After : State → List ℕ → List ℕ → State → List ℕ → Type 0
 After s0 b0 piece s' rest = ((whole s0 (b0 ++ piece)).state ≡ s') × ((whole s0 (b0 ++ piece)).rest ≡ rest)
 
-left-held : {A : Type 0} (s0 : State) (b0 : List ℕ) (c : Connection) (e : Explanation A) → IsExplaining s0 b0 c e → is_ended c.state.core.phase ≡ false → e.held.items ≡ (whole s0 b0).rest
+left-held : {A : Type 0} (s0 : State) (b0 : List ℕ) (c : Connection) (e : RunExplainer A) → IsExplaining s0 b0 c e → is_ended c.state.core.phase ≡ false → e.held.items ≡ (whole s0 b0).rest
 left-held s0 b0 c e x goes =
     let same : c.state ≡ (whole s0 b0).state = ap (λ (d : Connection). d.state) x.after in
     x.held_is ∙ left-going (whole s0 b0).state.core.phase (whole s0 b0).rest (subst (λ (s : State). is_ended s.core.phase ≡ false) same goes)
 
 -- from the octets that were left
-from-left : {A : Type 0} (s0 : State) (b0 piece : List ℕ) (c c' : Connection) (e e' : Explanation A) (known known' : Option (List ℕ)) → IsExplaining s0 b0 c e → is_ended c.state.core.phase ≡ false
+from-left : {A : Type 0} (s0 : State) (b0 piece : List ℕ) (c c' : Connection) (e e' : RunExplainer A) (known known' : Option (List ℕ)) → IsExplaining s0 b0 c e → is_ended c.state.core.phase ≡ false
     → Handles e c.state (e.held.items ++ piece) known e' c'.state known'
     → Handles e (whole s0 b0).state ((whole s0 b0).rest ++ piece) known e' c'.state known'
 from-left s0 b0 piece c c' e e' known known' x goes h =
     subst (λ (s : State). Handles e s ((whole s0 b0).rest ++ piece) known e' c'.state known') (ap (λ (d : Connection). d.state) x.after)
     (subst (λ (b : List ℕ). Handles e c.state (b ++ piece) known e' c'.state known') (left-held s0 b0 c e x goes) h)
 
-leads-on : {A : Type 0} (s0 : State) (b0 piece : List ℕ) (s' : State) (e e' : Explanation A) (known known' : Option (List ℕ))
+leads-on : {A : Type 0} (s0 : State) (b0 piece : List ℕ) (s' : State) (e e' : RunExplainer A) (known known' : Option (List ℕ))
     → (h : Handles e (whole s0 b0).state ((whole s0 b0).rest ++ piece) known e' s' known') → After s0 b0 piece s' h.rest
 leads-on s0 b0 piece s' e e' known known' h =
     let all = events-append s0 b0 piece in
@@ -274,7 +274,7 @@ texts-on form s0 b0 piece s s' r r' items offset items' offset' text more x y = 
           (subst (λ (w : List ℕ). AreExplained form cut s0 (b0 ++ (piece ++ later)) 0 0 two.0 w) (sym (append_assoc text more u)) two.1),
     )
 
-pub explaining-goes : {A : Type 0} (s0 : State) (b0 piece : List ℕ) (c c' : Connection) (e e' : Explanation A) (known known' : Option (List ℕ)) → c' ≡ going c'.state [] → is_ended c.state.core.phase ≡ false
+pub explaining-goes : {A : Type 0} (s0 : State) (b0 piece : List ℕ) (c c' : Connection) (e e' : RunExplainer A) (known known' : Option (List ℕ)) → c' ≡ going c'.state [] → is_ended c.state.core.phase ≡ false
     → Handles e c.state (e.held.items ++ piece) known e' c'.state known' → IsExplaining s0 b0 c e → IsExplaining s0 (b0 ++ piece) c' e'
 explaining-goes s0 b0 piece c c' e e' known known' ready goes given x =
     let h = from-left s0 b0 piece c c' e e' known known' x goes given in
@@ -294,7 +294,7 @@ explaining-goes s0 b0 piece c c' e e' known known' ready goes given x =
       tallied = rw (after.0, after.1) (tallies-on s0 b0 piece r.state c'.state r.rest h.rest e.items e.offset e'.items e'.offset e.tally e'.tally x.tallied on.tallied);
     }
 
-pub explaining-says : {A : Type 0} (c c' : Connection) (piece : List ℕ) (e e' : Explanation A) (known known' : Option (List ℕ)) → is_ended c.state.core.phase ≡ false
+pub explaining-says : {A : Type 0} (c c' : Connection) (piece : List ℕ) (e e' : RunExplainer A) (known known' : Option (List ℕ)) → is_ended c.state.core.phase ≡ false
     → Handles e c.state (e.held.items ++ piece) known e' c'.state known' → SaysOf c e piece e' known known'
 explaining-says c c' piece e e' known known' goes given = λ s0 b0 text x begins.
     let h = from-left s0 b0 piece c c' e e' known known' x goes given in
@@ -304,7 +304,7 @@ explaining-says c c' piece e e' known known' goes given = λ s0 b0 text x begins
     (λ more on. rw (h.all.on.form_is, after.0, after.1) (texts-on e.form s0 b0 piece r.state c'.state r.rest h.rest e.items e.offset e'.items e'.offset text more begins on))
     known known' h.all.on.written
 
-pub explaining-cut : {A : Type 0} (c : Connection) (piece : List ℕ) (e : Explanation A) (known known' : Option (List ℕ)) → is_ended c.state.core.phase ≡ false
+pub explaining-cut : {A : Type 0} (c : Connection) (piece : List ℕ) (e : RunExplainer A) (known known' : Option (List ℕ)) → is_ended c.state.core.phase ≡ false
     → Gains (IsCutShort e c.state (e.held.items ++ piece)) known known' → SaysSome c e piece known known'
 explaining-cut c piece e known known' goes given = λ s0 b0 text x begins.
     let r : Parsed State Event = whole s0 b0 in
@@ -318,7 +318,7 @@ explaining-cut c piece e known known' goes given = λ s0 b0 text x begins.
 
 -- ---- after the end of the connection
 
-pub late-goes : {A : Type 0} (s0 : State) (b0 piece : List ℕ) (c : Connection) (e e' : Explanation A) → is_ended c.state.core.phase ≡ true → PassesBy e (length piece) e' → IsExplaining s0 b0 c e → IsExplaining s0 (b0 ++ piece) c e'
+pub late-goes : {A : Type 0} (s0 : State) (b0 piece : List ℕ) (c : Connection) (e e' : RunExplainer A) → is_ended c.state.core.phase ≡ true → PassesBy e (length piece) e' → IsExplaining s0 b0 c e → IsExplaining s0 (b0 ++ piece) c e'
 late-goes s0 b0 piece c e e' over p x =
     let r : Parsed State Event = whole s0 b0 in
     let same : c.state ≡ r.state = ap (λ (d : Connection). d.state) x.after in
@@ -339,7 +339,7 @@ late-goes s0 b0 piece c e e' over p x =
       tallied = rw (st, rest, p.items_are, p.offset_is, p.tally_is) (tallies-on s0 b0 piece r.state r.state r.rest (r.rest ++ piece) e.items e.offset e.items e.offset e.tally e.tally x.tallied (λ later xs v are. (xs, are)));
     }
 
-pub late-says : {A : Type 0} (c : Connection) (piece : List ℕ) (e e' : Explanation A) (known : Option (List ℕ)) → is_ended c.state.core.phase ≡ true → PassesBy e (length piece) e'
+pub late-says : {A : Type 0} (c : Connection) (piece : List ℕ) (e e' : RunExplainer A) (known : Option (List ℕ)) → is_ended c.state.core.phase ≡ true → PassesBy e (length piece) e'
     → SaysOf c e piece e' known known
 late-says c piece e e' known over p = λ s0 b0 text x begins.
     let r : Parsed State Event = whole s0 b0 in
@@ -357,7 +357,7 @@ late-says c piece e e' known over p = λ s0 b0 text x begins.
 new-run : (s : State) → whole s [] ≡ record { elements = []; state = s; rest = [] }
 new-run s = whole-stop s [] (empty-stop s)
 
-pub new-explains : {A : Type 0} (form : Form) (s : State) (e : Explanation A) → IsNew form e → IsExplaining s [] (going s []) e
+pub new-explains : {A : Type 0} (form : Form) (s : State) (e : RunExplainer A) → IsNew form e → IsExplaining s [] (going s []) e
 new-explains form s e n =
     let run = new-run s in
     record {
@@ -370,10 +370,10 @@ new-explains form s e n =
       tallied = rw (run, n.items_are, n.offset_is, n.tally_is) (λ later xs v are. (xs, are));
     }
 
-pub new-begins : {A : Type 0} (form : Form) (s : State) (e : Explanation A) → IsNew form e → IsBeginning s [] e []
+pub new-begins : {A : Type 0} (form : Form) (s : State) (e : RunExplainer A) → IsNew form e → IsBeginning s [] e []
 new-begins form s e n = rw (new-run s, n.items_are, n.offset_is) (λ later cut xs more are. (xs, are))
 
-pub end-says : {A : Type 0} (c : Connection) (e : Explanation A) (r : Result (Unit {0}) ExplainFault) (known known' : Option (List ℕ))
+pub end-says : {A : Type 0} (c : Connection) (e : RunExplainer A) (r : Result (Unit {0}) ExplainFault) (known known' : Option (List ℕ))
     → Gains (IsWritten (λ (t : List ℕ). IsRestText e.form e.items (length e.held.items + e.late) t) r) known known' → EndsAs (is_err r) c e known known'
 end-says c e r known known' given = λ s0 b0 text x begins. gains-map _ _ (said s0 b0 text x begins r) known known' given
   where
@@ -395,7 +395,7 @@ summary-run : (s : State) (b : List ℕ) (v : ClientVerdict) → summary_with v 
 unfolding trace
 summary-run s b v = refl
 
-pub end-summed : {A : Type 0} (c : Connection) (e : Explanation A) (r : Summary) (left : ℕ) → r.items ≡ e.items → r.ended ≡ option_map code_number (ended_code c.state.core.phase) → left ≡ length e.held.items + e.late
+pub end-summed : {A : Type 0} (c : Connection) (e : RunExplainer A) (r : Summary) (left : ℕ) → r.items ≡ e.items → r.ended ≡ option_map code_number (ended_code c.state.core.phase) → left ≡ length e.held.items + e.late
     → r.verdict ≡ verdict_at e.tally c.state left → IsSummed c e r
 end-summed c e r left items ended long verdict = λ s b x.
     let run : Parsed State Event = whole s b in
@@ -409,6 +409,6 @@ end-summed c e r left items ended long verdict = λ s b x.
     )
 
 -- a run over all octets at once
-pub all-run : {A : Type 0} (s : State) (b : List ℕ) (c : Connection) (e : Explanation A) → IsExplaining s b c e → c ≡ going (trace s b).state []
+pub all-run : {A : Type 0} (s : State) (b : List ℕ) (c : Connection) (e : RunExplainer A) → IsExplaining s b c e → c ≡ going (trace s b).state []
 unfolding trace
 all-run s b c e x = x.after

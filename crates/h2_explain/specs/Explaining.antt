@@ -1,15 +1,15 @@
 -- An explanation of a connection whose octets arrive piece by piece.
 use Rattle.std.specs.Prelude.{◌≡◌, ◌⊎◌, ℕ, ◌+◌, ◌<◌, ◌≤◌, ◌^◌, Bool, true, List, [], ◌++◌, length, Option, Some, None}
-use Rattle.h2_spec.specs.Parse.{Stop, parse_all}
+use Rattle.h2_spec.specs.Frames.Parse.{Stop, parse_all}
 use Rattle.h2_spec.specs.State.{State}
 use Rattle.h2_spec.specs.Trace.{left_by, next_event}
 use Rattle.h2_conn.specs.Connection.{Connection, going}
 use Rattle.h2_conn.specs.First.{TakesFirst}
-use Rattle.h2_explainer.specs.Explained.{ExplainsItem}
+use Rattle.h2_explain_step.specs.Explained.{ExplainsItem}
 use Rattle.h2_explain.specs.Explains.{AreExplained, Gains, IsExplanation, IsItemText, IsSummary}
 use Rattle.h2_explain.specs.Verdicts.{AreTallied, Tallied, TalliesItem, no_tally}
-use Rattle.h2_explain.specs.declared.explanation.Explanation.{Explanation}
-use Rattle.h2_item.specs.declared.item.Explained.{Explained}
+use Rattle.h2_explain.specs.declared.run_explainer.RunExplainer.{RunExplainer}
+use Rattle.h2_explain_item.specs.declared.item.Explained.{Explained}
 use Rattle.h2_explain.specs.declared.run.Form.{Form}
 use Rattle.h2_explain.specs.declared.run.Summary.{Summary}
 use Rattle.h2_explain.specs.declared.verdict.ClientVerdict.{ClientVerdict}
@@ -17,19 +17,19 @@ use Rattle.h2_explain.specs.declared.verdict.ClientVerdict.{ClientVerdict}
 -- ---- an explanation
 
 -- how many octets it was fed
-abbrev pub total : {A : Type 0} → Explanation A → ℕ
+abbrev pub total : {A : Type 0} → RunExplainer A → ℕ
 total e = e.offset + (length e.held.items + e.late)
 
 -- this many octets more can be counted
-abbrev pub HasRoom : {A : Type 0} → Explanation A → ℕ → Type 0
+abbrev pub HasRoom : {A : Type 0} → RunExplainer A → ℕ → Type 0
 HasRoom e more = (e.items ≤ e.offset) × (total e + more < 2 ^ 63)
 
 -- this many octets more were counted
-abbrev pub HasGained : {A : Type 0} → Explanation A → ℕ → Explanation A → Type 0
+abbrev pub HasGained : {A : Type 0} → RunExplainer A → ℕ → RunExplainer A → Type 0
 HasGained e more e' = (e'.items ≤ e'.offset) × (total e' ≡ total e + more)
 
 -- it was fed no octets
-pub record IsNew {A : Type 0} (form : Form) (e : Explanation A) : Type 0 where
+pub record IsNew {A : Type 0} (form : Form) (e : RunExplainer A) : Type 0 where
   pub form_is : e.form ≡ form
   pub tally_is : e.tally ≡ no_tally
   pub items_are : e.items ≡ 0
@@ -53,7 +53,7 @@ CountsOn s b items offset t s' b' items' offset' t' =
     → (ys : List Explained) × AreTallied s (b ++ later) (items + 1) offset ys t v
 
 -- some first items of these octets were explained, and led to that state and the octets after them
-pub record ExplainsOn {A : Type 0} (e : Explanation A) (s : State) (b : List ℕ) (known : Option (List ℕ)) (e' : Explanation A) (s' : State) (b' : List ℕ) (known' : Option (List ℕ)) : Type 0 where
+pub record ExplainsOn {A : Type 0} (e : RunExplainer A) (s : State) (b : List ℕ) (known : Option (List ℕ)) (e' : RunExplainer A) (s' : State) (b' : List ℕ) (known' : Option (List ℕ)) : Type 0 where
   pub form_is : e'.form ≡ e.form
   pub items_are : length (parse_all next_event s b).elements + e.items ≡ e'.items + length (parse_all next_event s' b').elements
   pub offset_is : e'.offset + length b' ≡ e.offset + length b
@@ -64,27 +64,27 @@ pub record ExplainsOn {A : Type 0} (e : Explanation A) (s : State) (b : List ℕ
   pub tallied : CountsOn s b e.items e.offset e.tally s' b' e'.items e'.offset e'.tally
 
 -- all items of these octets were
-pub record ExplainsAll {A : Type 0} (e : Explanation A) (s : State) (b : List ℕ) (known : Option (List ℕ)) (e' : Explanation A) (s' : State) (b' : List ℕ) (known' : Option (List ℕ)) : Type 0 where
+pub record ExplainsAll {A : Type 0} (e : RunExplainer A) (s : State) (b : List ℕ) (known : Option (List ℕ)) (e' : RunExplainer A) (s' : State) (b' : List ℕ) (known' : Option (List ℕ)) : Type 0 where
   pub on : ExplainsOn e s b known e' s' b' known'
   pub stops : next_event s' b' ≡ Stop
 
 -- of the octets that are left those of an item that is not whole are held, and those after the end are counted
-pub record Leaves {A : Type 0} (e : Explanation A) (s : State) (rest : List ℕ) (e' : Explanation A) : Type 0 where
+pub record Leaves {A : Type 0} (e : RunExplainer A) (s : State) (rest : List ℕ) (e' : RunExplainer A) : Type 0 where
   pub held_is : e'.held.items ≡ left_by s.core.phase rest
   pub left_is : length e'.held.items + e'.late ≡ e.late + length rest
 
 -- the same, and the octets that are left
-pub record Handles {A : Type 0} (e : Explanation A) (s : State) (b : List ℕ) (known : Option (List ℕ)) (e' : Explanation A) (s' : State) (known' : Option (List ℕ)) : Type 0 where
+pub record Handles {A : Type 0} (e : RunExplainer A) (s : State) (b : List ℕ) (known : Option (List ℕ)) (e' : RunExplainer A) (s' : State) (known' : Option (List ℕ)) : Type 0 where
   pub rest : List ℕ
   pub all : ExplainsAll e s b known e' s' rest known'
   pub leaves : Leaves e s' rest e'
 
 -- the explanation of some first items of these octets, and of any octets after them
-abbrev pub IsCutShort : {A : Type 0} → Explanation A → State → List ℕ → List ℕ → Type 0
+abbrev pub IsCutShort : {A : Type 0} → RunExplainer A → State → List ℕ → List ℕ → Type 0
 IsCutShort e s b text = (later : List ℕ) → (xs : List Explained) × AreExplained e.form true s (b ++ later) e.items e.offset xs text
 
 -- octets after the end are counted, and none are held
-pub record PassesBy {A : Type 0} (e : Explanation A) (more : ℕ) (e' : Explanation A) : Type 0 where
+pub record PassesBy {A : Type 0} (e : RunExplainer A) (more : ℕ) (e' : RunExplainer A) : Type 0 where
   pub form_is : e'.form ≡ e.form
   pub items_are : e'.items ≡ e.items
   pub offset_is : e'.offset ≡ e.offset
@@ -95,7 +95,7 @@ pub record PassesBy {A : Type 0} (e : Explanation A) (more : ℕ) (e' : Explanat
 -- ---- one item
 
 -- the next item of the octets was taken, its text was written, and it was counted
-pub record TakesItem {A : Type 0} (e : Explanation A) (s : State) (b : List ℕ) (known : Option (List ℕ)) (e' : Explanation A) (c : Connection) (known' : Option (List ℕ)) (used : ℕ) : Type 0 where
+pub record TakesItem {A : Type 0} (e : RunExplainer A) (s : State) (b : List ℕ) (known : Option (List ℕ)) (e' : RunExplainer A) (c : Connection) (known' : Option (List ℕ)) (used : ℕ) : Type 0 where
   pub item : Explained
   pub explains : ExplainsItem s b (e.items + 1) e.offset c item
   pub used_is : used ≡ item.used
@@ -108,13 +108,13 @@ pub record TakesItem {A : Type 0} (e : Explanation A) (s : State) (b : List ℕ)
   pub late_is : e'.late ≡ e.late
 
 -- or there is none, and nothing changes
-pub record TakesNone {A : Type 0} (e : Explanation A) (s : State) (b : List ℕ) (known : Option (List ℕ)) (e' : Explanation A) (c : Connection) (known' : Option (List ℕ)) : Type 0 where
+pub record TakesNone {A : Type 0} (e : RunExplainer A) (s : State) (b : List ℕ) (known : Option (List ℕ)) (e' : RunExplainer A) (c : Connection) (known' : Option (List ℕ)) : Type 0 where
   pub none : next_event s b ≡ Stop
   pub conn_is : c ≡ going s []
   pub same : e' ≡ e
   pub quiet : known' ≡ known
 
-abbrev pub TakesIfThere : {A : Type 0} → Explanation A → State → List ℕ → Option (List ℕ) → Explanation A → Connection → Option (List ℕ) → Option ℕ → Type 0
+abbrev pub TakesIfThere : {A : Type 0} → RunExplainer A → State → List ℕ → Option (List ℕ) → RunExplainer A → Connection → Option (List ℕ) → Option ℕ → Type 0
 TakesIfThere e s b known e' c known' None = TakesNone e s b known e' c known'
 TakesIfThere e s b known e' c known' (Some used) = TakesItem e s b known e' c known' used
 
@@ -126,7 +126,7 @@ StopsAt s b out t out' = ((t ≡ s) × (out' ≡ out)) ⊎ ((used : ℕ) × Take
 
 -- all items of the octets that came were explained: the connection is that after them, the octets that are left are held,
 -- or, after the end, counted
-pub record IsExplaining {A : Type 0} (s : State) (b : List ℕ) (c : Connection) (e : Explanation A) : Type 0 where
+pub record IsExplaining {A : Type 0} (s : State) (b : List ℕ) (c : Connection) (e : RunExplainer A) : Type 0 where
   pub after : c ≡ going (parse_all next_event s b).state []
   pub stops : next_event (parse_all next_event s b).state (parse_all next_event s b).rest ≡ Stop
   pub items_are : e.items ≡ length (parse_all next_event s b).elements
@@ -137,31 +137,31 @@ pub record IsExplaining {A : Type 0} (s : State) (b : List ℕ) (c : Connection)
 
 -- what was written so far: whatever octets come later, what is written for them and for the end makes with it an
 -- explanation of all
-abbrev pub IsBeginning : {A : Type 0} → State → List ℕ → Explanation A → List ℕ → Type 0
+abbrev pub IsBeginning : {A : Type 0} → State → List ℕ → RunExplainer A → List ℕ → Type 0
 IsBeginning s b e text = Continues e.form s b 0 0 (parse_all next_event s b).state (parse_all next_event s b).rest e.items e.offset text
 
 -- it was fed a piece
-abbrev pub GoesOn : {A : Type 0} → Connection → Explanation A → List ℕ → Connection → Explanation A → Type 0
+abbrev pub GoesOn : {A : Type 0} → Connection → RunExplainer A → List ℕ → Connection → RunExplainer A → Type 0
 GoesOn c e piece c' e' = (s : State) (b : List ℕ) → IsExplaining s b c e → IsExplaining s (b ++ piece) c' e'
 
 -- what was written for the piece
-abbrev pub SaysOf : {A : Type 0} → Connection → Explanation A → List ℕ → Explanation A → Option (List ℕ) → Option (List ℕ) → Type 0
+abbrev pub SaysOf : {A : Type 0} → Connection → RunExplainer A → List ℕ → RunExplainer A → Option (List ℕ) → Option (List ℕ) → Type 0
 SaysOf c e piece e' known known' =
     (s : State) (b : List ℕ) (text : List ℕ) → IsExplaining s b c e → IsBeginning s b e text
     → Gains (λ (more : List ℕ). IsBeginning s (b ++ piece) e' (text ++ more)) known known'
 
 -- or for some first items, where it is cut short
-abbrev pub SaysSome : {A : Type 0} → Connection → Explanation A → List ℕ → Option (List ℕ) → Option (List ℕ) → Type 0
+abbrev pub SaysSome : {A : Type 0} → Connection → RunExplainer A → List ℕ → Option (List ℕ) → Option (List ℕ) → Type 0
 SaysSome c e piece known known' =
     (s : State) (b : List ℕ) (text : List ℕ) → IsExplaining s b c e → IsBeginning s b e text
     → Gains (λ (more : List ℕ). IsExplanation e.form true s (b ++ piece) (text ++ more)) known known'
 
 -- the end was explained, or not where memory was refused
-abbrev pub EndsAs : {A : Type 0} → (cut : Bool) → Connection → Explanation A → Option (List ℕ) → Option (List ℕ) → Type 0
+abbrev pub EndsAs : {A : Type 0} → (cut : Bool) → Connection → RunExplainer A → Option (List ℕ) → Option (List ℕ) → Type 0
 EndsAs cut c e known known' =
     (s : State) (b : List ℕ) (text : List ℕ) → IsExplaining s b c e → IsBeginning s b e text
     → Gains (λ (more : List ℕ). IsExplanation e.form cut s b (text ++ more)) known known'
 
 -- what is summed up at the end
-abbrev pub IsSummed : {A : Type 0} → Connection → Explanation A → Summary → Type 0
+abbrev pub IsSummed : {A : Type 0} → Connection → RunExplainer A → Summary → Type 0
 IsSummed c e summary = (s : State) (b : List ℕ) → IsExplaining s b c e → IsSummary s b summary

@@ -1,14 +1,18 @@
 -- A connection that is explained over all octets: its result, and what is written.
-use Rattle.std.specs.Prelude.{◌≡◌, ◌⊎◌, ℕ, ◌+◌, ◌++◌, Bool, true, false, List, [], ◌∷◌, length, drop, Option, Some, option_map, Result, Ok, Err}
-use Rattle.h2_spec.specs.Errors.{code_number}
-use Rattle.h2_spec.specs.Parse.{Stop}
+use Rattle.std.specs.Prelude.{◌≡◌, ◌⊎◌, ℕ, ◌+◌, ◌++◌, Bool, true, false, not, ◌&&◌, ◌||◌, ◌==◌, nat_lt, if◌then◌else◌, List, [], ◌∷◌, length, drop, Option, Some, None, is_some, option_map, Result, Ok, Err}
+use Rattle.h2_spec.specs.Causes.Errors.{code_number}
+use Rattle.h2_spec.specs.Frames.Parse.{Stop}
 use Rattle.h2_spec.specs.State.{State, ended_code}
 use Rattle.h2_spec.specs.Trace.{Run, next_event, trace}
 use Rattle.h2_conn.specs.Connection.{Connection}
-use Rattle.h2_explainer.specs.Explained.{ExplainsItem, IsTextOf}
-use Rattle.h2_account.specs.Lines.{EndsLine, EndsLineIf}
-use Rattle.h2_account.specs.Rest.{is_said}
-use Rattle.h2_item.specs.declared.item.Explained.{Explained}
+use Rattle.h2_explain_step.specs.Explained.{ExplainsItem, stream_in}
+use Rattle.h2_explain_text.specs.Lines.{EndsLine, EndsLineIf, Words, lines_of, shown_words}
+use Rattle.h2_explain_text.specs.Rest.{is_said}
+use Rattle.h2_explain_item.specs.Item.{head_in}
+use Rattle.h2_explain_item.specs.Warnings.{AreWarnings, warning_count}
+use Rattle.h2_explain_item.specs.declared.item.Explained.{Explained}
+use Rattle.h2_explain_item.specs.declared.special.CaseFacts.{CaseFacts}
+use Rattle.h2_explain_item.specs.declared.warning.Warnings.{Warnings}
 use Rattle.h2_explain.specs.declared.verdict.ClientVerdict.{ClientVerdict}
 use Rattle.h2_explain.specs.Verdicts.{IsVerdict}
 use Rattle.h2_explain.specs.declared.run.ExplainFault.{ExplainFault}
@@ -41,9 +45,33 @@ not_written (Err NotWritten) = true
 abbrev pub Gains : (List ℕ → Type 0) → Option (List ℕ) → Option (List ℕ) → Type 0
 Gains P before after = (held : List ℕ) → before ≡ Some held → (text : List ℕ) × (after ≡ Some (held ++ text)) × P text
 
+-- whether a stream is shown: each, unless one is named
+abbrev pub shows_stream : Option ℕ → ℕ → Bool
+shows_stream None id = true
+shows_stream (Some only) id = only == id
+
+-- whether an item is an error, is ignored, or has a warning
+abbrev pub is_notable : Explained → Warnings → Bool
+is_notable x ws = is_some x.cause || (is_some x.ignored || nat_lt 0 (warning_count ws))
+
+-- whether an item with these warnings is shown
+abbrev pub shows_item : Form → Explained → Warnings → Bool
+shows_item form x ws = shows_stream form.stream (stream_in (head_in x.what)) && (not form.errors || is_notable x ws)
+
+-- the text of an item that is shown: a line of JSON, or its lines, those of fields and of what changed only where it is
+-- not brief
+abbrev pub IsShownText : (json color brief : Bool) → Explained → List ℕ → Type 0
+IsShownText true color brief x t = EndsLine false t
+IsShownText false color brief x t = (w : Words) × (t ≡ lines_of color x (shown_words brief w))
+
+-- the same, where it is shown; else nothing
+abbrev pub IsTextIf : Bool → Form → Explained → List ℕ → Type 0
+IsTextIf false form x t = t ≡ []
+IsTextIf true form x t = IsShownText form.json form.color form.brief x t
+
 -- the text of an item in a form
 abbrev pub IsItemText : Form → Explained → List ℕ → Type 0
-IsItemText form x t = IsTextOf form.json form.color x t
+IsItemText form x t = (f : CaseFacts) × (ws : Warnings) × AreWarnings x f ws × IsTextIf (shows_item form x ws) form x t
 
 -- lines, or nothing
 abbrev pub EndsLineOrNone : (color : Bool) → List ℕ → Type 0

@@ -1,18 +1,19 @@
 -- What a run says of a client: the errors and warnings of its items, and the exit status of `--strict`.
-use Rattle.std.specs.Prelude.{◌≡◌, ℕ, ◌+◌, ◌-◌, ◌^◌, min, Bool, true, false, ◌&&◌, ◌||◌, not, if◌then◌else◌, List, [], ◌∷◌, ◌++◌, drop, length, nat_lt, Option, Some, None}
-use Rattle.h2_spec.specs.Parse.{Stop}
+use Rattle.std.specs.Prelude.{◌≡◌, ℕ, ◌+◌, ◌-◌, ◌^◌, min, Bool, true, false, ◌&&◌, ◌||◌, not, if◌then◌else◌, List, [], ◌∷◌, ◌++◌, drop, length, nat_lt, Option, Some, None, is_some}
+use Rattle.h2_spec.specs.Frames.Parse.{Stop}
 use Rattle.h2_spec.specs.State.{State}
+use Rattle.h2_spec.specs.Stream.{next_waiting}
 use Rattle.h2_spec.specs.Trace.{next_event}
 use Rattle.h2_spec.specs.declared.causes.Cause.{Cause}
 use Rattle.h2_spec.specs.declared.rules.ClientDuty.{ClientDuty}
 use Rattle.h2_spec.specs.declared.rules.ClientDuty.TheVariants as client_duty
 use Rattle.h2_conn.specs.Connection.{Connection, is_ended}
-use Rattle.h2_explainer.specs.Explained.{ExplainsItem}
-use Rattle.h2_facts.specs.Warnings.{AreWarnings, duty_of_error, duty_of_reason, is_breach, is_unacknowledged, warning_count}
-use Rattle.h2_item.specs.declared.item.Explained.{Explained}
-use Rattle.h2_facts.specs.declared.special.CaseFacts.{CaseFacts}
+use Rattle.h2_explain_step.specs.Explained.{ExplainsItem}
+use Rattle.h2_explain_item.specs.Warnings.{AreWarnings, duty_of_error, duty_of_reason, is_breach, is_unacknowledged, warning_count}
+use Rattle.h2_explain_item.specs.declared.item.Explained.{Explained}
+use Rattle.h2_explain_item.specs.declared.special.CaseFacts.{CaseFacts}
 use Rattle.h2_explain.specs.declared.verdict.ClientVerdict.{ClientVerdict}
-use Rattle.h2_facts.specs.declared.warning.Warnings.{Warnings}
+use Rattle.h2_explain_item.specs.declared.warning.Warnings.{Warnings}
 
 -- what is counted of items: the causes of their errors, in order; how many warnings they have; whether the client broke a
 -- rule, and whether it was above a limit of this server
@@ -53,16 +54,20 @@ tally_with t x f w = record {
 abbrev pub TalliesItem : Tallied → Explained → Tallied → Type 0
 TalliesItem t x t' = (f : CaseFacts) × (ws : Warnings) × AreWarnings x f ws × (t' ≡ tally_with t x f ws)
 
+-- whether an answer waits for a window of the client's, and the connection goes on (6.9)
+abbrev pub is_answer_unfinished : State → Bool
+is_answer_unfinished s = not (is_ended s.core.phase) && is_some (next_waiting 0 s.streams)
+
 -- what is said about a client where the run ends in this state, and that many octets are left
 abbrev pub verdict_at : Tallied → State → ℕ → ClientVerdict
 verdict_at t s left = record {
   broken = t.broken || is_unacknowledged s.core;
   limited = t.limited;
-  unfinished = nat_lt 0 left && not (is_ended s.core.phase);
+  unfinished = (nat_lt 0 left && not (is_ended s.core.phase)) || is_answer_unfinished s;
 }
 
 -- the exit status of `--strict`: 5 where the client broke a rule, else 6 where it was above a limit of this server, else 7
--- where octets of a frame are left, else 4 where a connection error ended the connection
+-- where octets of a frame are left or an answer waits, else 4 where a connection error ended the connection
 abbrev pub strict_status : ClientVerdict → (ended : Bool) → ℕ
 strict_status v ended = if v.broken then 5 else if v.limited then 6 else if v.unfinished then 7 else if ended then 4 else 0
 

@@ -4,27 +4,27 @@
 ghost use Rattle.std.specs.Prelude.{◌≡◌, false, IfOk};
 ghost use Rattle.std.specs.String.{string_bytes};
 ghost use Rattle.h2_explain.specs.Explains.{EndsLineOrNone, IsRestOf, IsRestText};
-ghost use Rattle.h2_account.specs.Lines.{EndsLine};
-ghost use Rattle.h2_account.specs.Rest.{rest_of};
+ghost use Rattle.h2_explain_text.specs.Lines.{EndsLine};
+ghost use Rattle.h2_explain_text.specs.Rest.{rest_of};
 
 use crate::run::Form;
-use crate::verdict::{Tally, verdict_at};
+use crate::shown::{shows_opening, shows_stream};
+use crate::verdict::{Tally, is_answer_unfinished, verdict_at};
 use crate::verdict_words::{put_verdict, say_tally};
-use h2_account::paint::{Paint, Role};
-use h2_account::rest::{InputRest, missing_of, rest_line, say_place};
-use h2_account::waits::{say_wait, wait_of};
 use h2_conn::{Conn, is_ended};
-use h2_describe::say::TextBuilder;
-use h2_describe::say_all;
-use h2_device::{string_of, texts};
-use h2_explainer::explainer::{Explainer, opening_of};
-use h2_facts::request_facts::RequestFacts;
-use h2_facts::warning::{Warning, Warnings, is_unacknowledged};
-use h2_json::end::{put_end, put_wait};
-use h2_json::json::{line_of, put_opening};
-use h2_json::json_words::JsonWords;
-use h2_json::member;
-use h2_json::warnings::put_warnings;
+use h2_explain_item::warning::{Warning, Warnings, all_warnings, is_unacknowledged};
+use h2_explain_json::end::{put_end, put_wait};
+use h2_explain_json::json::{line_of, put_opening};
+use h2_explain_json::json_words::JsonWords;
+use h2_explain_json::member;
+use h2_explain_json::warnings::put_warnings;
+use h2_explain_step::explainer::{ItemExplainer, opening_of};
+use h2_explain_text::paint::{Paint, Role};
+use h2_explain_text::rest::{InputRest, missing_of, rest_line, say_place};
+use h2_explain_text::waits::{say_wait, wait_of};
+use h2_explain_words::say::TextBuilder;
+use h2_explain_words::say_all;
+use h2_io::{string_of, texts};
 use std::alloc::{AllocError, Allocator};
 
 /// What is after the last item of a connection that had that many items; `offset` is how many octets came before these.
@@ -52,7 +52,7 @@ pub(crate) struct End<'e, 'b, A: Allocator> {
     /// The connection after its last item.
     pub(crate) conn: &'e Conn<'b, A>,
     /// What was known after the last item.
-    pub(crate) explainer: &'e Explainer<A>,
+    pub(crate) explainer: &'e ItemExplainer<A>,
     /// The errors and warnings of the items.
     pub(crate) tally: &'e Tally<A>,
     /// What is after the last item.
@@ -76,11 +76,9 @@ impl<A: Allocator + Copy> End<'_, '_, A> {
     /// The warnings of the end.
     fn warnings(&self) -> Warnings {
         Warnings {
-            request: RequestFacts::none(),
-            after_goaway: false,
-            on_closed: false,
-            zero_increment: false,
             unacknowledged: is_unacknowledged(&self.conn.counts()),
+            answer_unfinished: is_answer_unfinished(self.conn),
+            ..Warnings::none()
         }
     }
 
@@ -99,12 +97,18 @@ impl<A: Allocator + Copy> End<'_, '_, A> {
         say_place(self.rest.offset, paint, out);
     }
 
-    /// Puts the two lines of the warning last, if there is one.
+    /// Puts the two lines of each warning last.
     fn say_warnings(&self, out: &mut TextBuilder<A>) {
-        let warning = Warning::SettingsNotAcknowledged;
-        if !self.warnings().has(warning) {
-            return;
+        let warnings = self.warnings();
+        for warning in all_warnings() {
+            if warnings.has(*warning) {
+                self.say_warning(*warning, out);
+            }
         }
+    }
+
+    /// Puts the two lines of a warning last.
+    fn say_warning(&self, warning: Warning, out: &mut TextBuilder<A>) {
         let paint = Paint(self.form.color);
         self.begin(out);
         say_all!(out; "warning: ", warning.name(), ", ", warning.section());
@@ -113,16 +117,18 @@ impl<A: Allocator + Copy> End<'_, '_, A> {
         say_all!(out; warning.sentence());
     }
 
-    /// Puts a line last for each live stream, unless the connection has ended.
+    /// Puts a line last for each live stream that is shown, unless the connection has ended.
     fn say_waits(&self, out: &mut TextBuilder<A>) {
         let (counts, config) = (self.conn.counts(), self.conn.config());
         if is_ended(counts.phase) {
             return;
         }
         for stream in self.explainer.live.keys() {
-            self.begin(out);
-            let wait = wait_of(&self.conn.stream(*stream), &counts);
-            say_wait(&wait, &config, out);
+            if shows_stream(self.form.stream, *stream) {
+                self.begin(out);
+                let wait = wait_of(&self.conn.stream(*stream), &counts);
+                say_wait(&wait, &config, out);
+            }
         }
     }
 
@@ -165,7 +171,7 @@ impl<A: Allocator + Copy> End<'_, '_, A> {
         string_of(alloc, &texts!(rest.as_str(), lines.as_str()))
     }
 
-    /// Puts what each live stream waits for, if there is one.
+    /// Puts what each live stream that is shown waits for, if any stream is live.
     fn put_waits(&self, out: &mut JsonWords<A>) {
         let (counts, config) = (self.conn.counts(), self.conn.config());
         if is_ended(counts.phase) || self.explainer.live.is_empty() {
@@ -173,8 +179,10 @@ impl<A: Allocator + Copy> End<'_, '_, A> {
         }
         out.open_list(member!("waits"));
         for stream in self.explainer.live.keys() {
-            let wait = wait_of(&self.conn.stream(*stream), &counts);
-            put_wait(&wait, &config, out);
+            if shows_stream(self.form.stream, *stream) {
+                let wait = wait_of(&self.conn.stream(*stream), &counts);
+                put_wait(&wait, &config, out);
+            }
         }
         out.close_list();
     }
@@ -192,7 +200,7 @@ impl<A: Allocator + Copy> End<'_, '_, A> {
         ensures { IfOk result (λ text. EndsLine false (string_bytes text)) }
     {
         let mut out = JsonWords::over(TextBuilder::new(alloc));
-        put_opening(alloc, opening, &mut out);
+        put_opening(alloc, opening, self.form.brief, &mut out);
         out.open_element();
         out.open(member!("end"));
         put_end(self.rest, &mut out);
@@ -208,7 +216,8 @@ impl<A: Allocator + Copy> End<'_, '_, A> {
     pub(crate) fn said(&self, alloc: A) -> Result<String<A>, AllocError>
         ensures { IfOk result (λ text. IsRestText self.now.form self.now.rest.items self.now.rest.octets (string_bytes text)) }
     {
-        let opening = opening_of(alloc, self.conn, self.rest.items == 0)?;
+        let is_asked = self.rest.items == 0 && shows_opening(self.form);
+        let opening = opening_of(alloc, self.conn, is_asked)?;
         if self.form.json {
             self.json(alloc, opening.as_slice())
         } else {

@@ -1,6 +1,6 @@
 //! What takes note of each item that is explained, beside the text.
 
-use h2_item::item::Explained;
+use h2_explain_item::item::Explained;
 
 /// What takes note of each item that is explained, as soon as a connection has taken it. It changes nothing of the
 /// connection and of its explanation, and has to remember itself what failed.

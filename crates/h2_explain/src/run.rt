@@ -7,11 +7,11 @@ ghost use Rattle.h2_conn.specs.Connection.{going};
 ghost use Rattle.h2_explain.specs.Explaining.{IsNew};
 ghost use Rattle.h2_explain.specs.Explains.{Gains, IsExplanation, IsSummary, not_written};
 
-use crate::explanation::Explanation;
 use crate::recorder::NoRecord;
+use crate::run_explainer::RunExplainer;
 use crate::verdict::ClientVerdict;
 use h2_conn::Conn;
-use h2_device::Output;
+use h2_io::Output;
 use std::alloc::Allocator;
 
 /// In which form items are explained.
@@ -25,6 +25,12 @@ pub struct Form {
     pub strict: bool,
     /// With long texts whole; else the first 100 octets of each are shown.
     pub full: bool,
+    /// Without fields and what changed.
+    pub brief: bool,
+    /// Only items that are an error, are ignored or have a warning.
+    pub errors: bool,
+    /// Only items of this stream, if one is named; 0 for those of the connection.
+    pub stream: Option<u32>,
 }
 
 /// Why not all items were explained.
@@ -51,7 +57,7 @@ pub struct Summary {
 /// is new.
 fn explain_all<A: Allocator + Copy, O: Output>(
     alloc: A,
-    explanation: &mut Explanation<A>,
+    explanation: &mut RunExplainer<A>,
     conn: &mut Conn<'_, A>,
     octets: &[u8],
     output: &mut O,
@@ -68,7 +74,7 @@ fn explain_all<A: Allocator + Copy, O: Output>(
 {
     let mut sent = Vec::new(alloc);
     match explanation.take_piece(alloc, conn, octets, false, &mut sent, output, &mut NoRecord) {
-        Ok(()) => explanation.end(alloc, conn, output),
+        Ok(()) => explanation.conclude(alloc, conn, output),
         Err(fault) => Err(fault),
     }
 }
@@ -95,7 +101,7 @@ pub fn explain<A: Allocator + Copy, O: Output>(
     ensures flag { O.has_failed output.new ≡ not_written result }
     ensures name { O.name output.new ≡ O.name output.old }
 {
-    match Explanation::new(alloc, form) {
+    match RunExplainer::new(alloc, form) {
         Ok(mut explanation) => explain_all(alloc, &mut explanation, conn, octets, output),
         Err(_) => Err(ExplainFault::NoMemory),
     }

@@ -2,12 +2,14 @@
 //! comes of them. Definitions: `specs/Verdicts.antt`.
 
 ghost use Rattle.std.specs.Prelude.{◌≡◌, ◌==◌, false, OnOk};
-ghost use Rattle.h2_explain.specs.Verdicts.{is_limit, no_tally, strict_status, tally_with, verdict_at, breaks_rule};
+ghost use Rattle.h2_explain.specs.Verdicts.{is_answer_unfinished, is_limit, no_tally, strict_status, tally_with, verdict_at, breaks_rule};
 
 use h2_conn::{Conn, is_ended};
-use h2_facts::special::CaseFacts;
-use h2_facts::warning::{Warnings, duty_of_error, duty_of_reason, is_breach, is_unacknowledged};
-use h2_item::item::Explained;
+use h2_explain_item::item::Explained;
+use h2_explain_item::special::CaseFacts;
+use h2_explain_item::warning::{
+    Warnings, duty_of_error, duty_of_reason, is_breach, is_unacknowledged,
+};
 use h2_spec::causes::Cause;
 use h2_spec::rules::ClientDuty;
 use std::alloc::{AllocError, Allocator, Global};
@@ -94,14 +96,14 @@ pub struct ClientVerdict {
     pub broken: bool,
     /// Whether it was above a limit of this server.
     pub limited: bool,
-    /// Whether its octets end within an item.
+    /// Whether its octets end within an item, or while an answer waits for a window of its.
     pub unfinished: bool,
 }
 
 impl ClientVerdict {
     /// The exit status of `--strict`; `ended` is whether a connection error ended the connection (RFC 9113, 5.4.1).
     ///
-    /// 5: the client broke a rule. 6: it was above a limit of this server. 7: octets of a frame are left. 4: a connection
+    /// 5: the client broke a rule. 6: it was above a limit of this server. 7: octets of a frame are left, or an answer waits. 4: a connection
     /// error ended the connection, and it broke no rule. 0: else. The first of these decides.
     pub fn status(self, ended: bool) -> u8
         ensures value { result ≡ strict_status self ended }
@@ -121,6 +123,13 @@ impl ClientVerdict {
     }
 }
 
+/// Whether an answer waits for a window of the client's, and the connection goes on (RFC 9113, 6.9).
+pub(crate) fn is_answer_unfinished<A: Allocator + Copy>(conn: &Conn<'_, A>) -> bool
+    ensures { result ≡ is_answer_unfinished conn.now.state }
+{
+    !is_ended(conn.counts().phase) && conn.first_waiting().is_some()
+}
+
 /// What is said about a client whose items were counted, where that many octets are left after the last.
 pub(crate) fn verdict_at<A: Allocator + Copy>(
     tally: &Tally<A>,
@@ -133,6 +142,6 @@ pub(crate) fn verdict_at<A: Allocator + Copy>(
     ClientVerdict {
         broken: tally.broken || is_unacknowledged(&counts),
         limited: tally.limited,
-        unfinished: left > 0 && !is_ended(counts.phase),
+        unfinished: (left > 0 && !is_ended(counts.phase)) || is_answer_unfinished(conn),
     }
 }

@@ -2,10 +2,10 @@
 //! how many warnings. The form: docs/EXPLAIN.md.
 
 use crate::verdict::{ClientVerdict, Tally};
-use h2_describe::say::TextBuilder;
-use h2_describe::say_all;
-use h2_json::json_words::JsonWords;
-use h2_json::member;
+use h2_explain_json::json_words::JsonWords;
+use h2_explain_json::member;
+use h2_explain_words::say::TextBuilder;
+use h2_explain_words::say_all;
 use h2_spec::causes::Cause;
 use std::alloc::Allocator;
 

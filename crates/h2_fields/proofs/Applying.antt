@@ -4,21 +4,21 @@ use Rattle.std.proofs.lemmas.Bool.{lt-leb}
 use Rattle.std.proofs.lemmas.Bool.Decides.{leb_tells}
 use Rattle.std.proofs.Math.Seq.{take-append_seam, drop-append_seam}
 use Rattle.std.proofs.lemmas.List.{map-append}
-use Rattle.h2_spec.specs.Block.{Fault, FieldsSoFar, Progress, applied, list_size, name_of, table_after, text_result}
-use Rattle.h2_spec.specs.DynamicTable.{LimitedTable, Table, entry_at, field_at}
-use Rattle.h2_spec.specs.Field.{Field, field, size}
-use Rattle.h2_spec.specs.Instruction.{Mode, WithoutIndexing, NeverIndexed, NameRef, Str, Literal, text_of}
-use Rattle.h2_spec.specs.StaticTable.{static_field}
+use Rattle.h2_spec.specs.Hpack.Block.{Fault, FieldsSoFar, Progress, applied, list_size, name_of, table_after, text_result}
+use Rattle.h2_spec.specs.Hpack.DynamicTable.{LimitedTable, Table, entry_at, field_at}
+use Rattle.h2_spec.specs.Hpack.Field.{Field, field, size}
+use Rattle.h2_spec.specs.Hpack.Instruction.{Mode, WithoutIndexing, NeverIndexed, NameRef, Str, Literal, text_of}
+use Rattle.h2_spec.specs.Hpack.StaticTable.{static_field}
 use Rattle.h2_spec.proofs.BlockLaws.{applied-literal, applied-name_refused, applied-value_refused}
 use Rattle.h2_spec.proofs.TableLaws.{total_size-append}
-use Rattle.h2_mark.specs.Mark.{mark_of}
-use Rattle.h2_mark.specs.declared.mark.FieldMark.{FieldMark}
+use Rattle.h2_hpack_validity.specs.Mark.{mark_of}
+use Rattle.h2_hpack_validity.specs.declared.mark.FieldMark.{FieldMark}
 use Rattle.h2_table.specs.Edits.{EditOf, edited}
-use Rattle.h2_list.specs.Listed.{Listed}
+use Rattle.h2_hpack_list.specs.Listed.{Listed}
 use Rattle.h2_fields.specs.Applied.{IsReadAs, first_refusal, progress_in}
-use Rattle.h2_instruction.specs.Faults.{refusal, fault_of}
-use Rattle.h2_instruction.specs.declared.fault.BlockFault.{BlockFault}
-use Rattle.h2_instruction.specs.declared.fault.BlockFault.TheVariants as faults
+use Rattle.h2_hpack_instruction.specs.Faults.{refusal, fault_of}
+use Rattle.h2_hpack_instruction.specs.declared.fault.BlockFault.{BlockFault}
+use Rattle.h2_hpack_instruction.specs.declared.fault.BlockFault.TheVariants as faults
 
 pub not-false : (b : Bool) → false ≡ not b → b ≡ true
 not-false true e = refl

@@ -1,15 +1,15 @@
 -- Where a decoder is after some of its octets, and what it represents after a fragment.
 use Rattle.std.proofs.Common.{◌≡◌, ◌≢◌, ℕ, ◌+◌, ◌-◌, ◌<◌, ◌≤◌, List, ◌++◌, length, drop, Some, None, option_map, Err, refl, ap, ◌∙◌, sym, arith, length-drop}
-use Rattle.h2_spec.specs.Block.{Fault, ZeroIndex, Index, Integer, Huffman, LateUpdate, LargeUpdate, MissingUpdate, Outcome, Unfinished, Faulty, Progress, Decoded, decoded, carried_on}
-use Rattle.h2_spec.specs.DynamicTable.{Table}
-use Rattle.h2_spec.specs.Instruction.{Shape, instr_at}
+use Rattle.h2_spec.specs.Hpack.Block.{Fault, ZeroIndex, Index, Integer, Huffman, LateUpdate, LargeUpdate, MissingUpdate, Outcome, Unfinished, Faulty, Progress, Decoded, decoded, carried_on}
+use Rattle.h2_spec.specs.Hpack.DynamicTable.{Table}
+use Rattle.h2_spec.specs.Hpack.Instruction.{Shape, instr_at}
 use Rattle.h2_spec.specs.Read.{Whole}
 use Rattle.h2_spec.proofs.InstructionLaws.{whole-takes}
 use Rattle.h2_fields.specs.Blocks.{BlockSoFar, answer_of, decoded_with, faulted, outcome_of, progress_so_far}
 use Rattle.h2_fields.specs.Applied.{IsStopped}
-use Rattle.h2_instruction.specs.Faults.{fault_of}
-use Rattle.h2_instruction.specs.declared.fault.BlockFault.{BlockFault}
-use Rattle.h2_instruction.specs.declared.fault.BlockFault.TheVariants as faults
+use Rattle.h2_hpack_instruction.specs.Faults.{fault_of}
+use Rattle.h2_hpack_instruction.specs.declared.fault.BlockFault.{BlockFault}
+use Rattle.h2_hpack_instruction.specs.declared.fault.BlockFault.TheVariants as faults
 
 -- ---- the loop over the instructions
 

@@ -1,7 +1,7 @@
 -- What the answer of a call says, by whether it is Ok.
 use Rattle.std.proofs.Common.{◌≡◌, ◌≢◌, Bool, true, false, Result, Ok, Err, OnOk, OnErr, is_ok, refl, ap, ◌∙◌, sym}
 use Rattle.std.specs.Result.{is_err, result_eq}
-use Rattle.h2_instruction.specs.declared.fault.BlockFault.{BlockFault}
+use Rattle.h2_hpack_instruction.specs.declared.fault.BlockFault.{BlockFault}
 
 -- a fact of an answer, where the code has tested it
 pub on_ok : {T E P : Type 0} (r : Result T E) → false ≡ is_err r → OnOk r P → P

@@ -3,15 +3,15 @@ use Rattle.std.proofs.Common.{◌≡◌, ℕ, zero, suc, ◌+◌, ◌<◌, ◌==
 use Rattle.std.proofs.lemmas.List.{append-nil, drop_at}
 use Rattle.std.proofs.lemmas.List.Quantifiers.{position-Some}
 use Rattle.std.specs.List.{AllByRecursion}
-use Rattle.h2_spec.specs.Answer.{plain_string, plain_literal, indexed_statuses, status_digits, status_at, status_instruction, response_block}
-use Rattle.h2_spec.specs.Block.{Progress, Unfinished, applied, decoded, start, name_of}
+use Rattle.h2_spec.specs.Requests.Answer.{plain_string, plain_literal, indexed_statuses, status_digits, status_at, status_instruction, response_block}
+use Rattle.h2_spec.specs.Hpack.Block.{Progress, Unfinished, applied, decoded, start, name_of}
 use Rattle.h2_fields.specs.ResponseRead.{read_whole, status_field}
-use Rattle.h2_instruction.specs.Instructions.{IsWritableField}
-use Rattle.h2_spec.specs.DynamicTable.{Table, field_at, resize}
-use Rattle.h2_spec.specs.Field.{Field}
-use Rattle.h2_spec.specs.Instruction.{Shape, WithoutIndexing, Ref, Named, Update, IsSpellable, instr_at, spell}
+use Rattle.h2_hpack_instruction.specs.Instructions.{IsWritableField}
+use Rattle.h2_spec.specs.Hpack.DynamicTable.{Table, field_at, resize}
+use Rattle.h2_spec.specs.Hpack.Field.{Field}
+use Rattle.h2_spec.specs.Hpack.Instruction.{Shape, WithoutIndexing, Ref, Named, Update, IsSpellable, instr_at, spell}
 use Rattle.h2_spec.specs.Read.{Whole}
-use Rattle.h2_spec.specs.StaticTable.{static_field, static_entries}
+use Rattle.h2_spec.specs.Hpack.StaticTable.{static_field, static_entries}
 use Rattle.h2_spec.proofs.BlockLaws.{leads-start, leads-step, applied-update, applied-indexed, applied-literal, decoded-more}
 use Rattle.h2_spec.proofs.InstructionLaws.{whole-stays}
 use Rattle.h2_spec.proofs.InstructionWriting.{shape-written}

@@ -3,19 +3,19 @@ use Rattle.std.proofs.Common.{◌≡◌, ◌==◌, true, ◌≢◌, ℕ, zero, s
 use Rattle.std.proofs.lemmas.Bool.{eqb-true}
 use Rattle.std.proofs.lemmas.List.{append-nil, append_assoc}
 use Rattle.std.proofs.Math.Seq.{take-append_seam}
-use Rattle.h2_spec.specs.Block.{FieldsSoFar, Progress, applied, list_size}
-use Rattle.h2_spec.specs.Field.{Field}
-use Rattle.h2_spec.specs.Instruction.{Shape, instr_at}
+use Rattle.h2_spec.specs.Hpack.Block.{FieldsSoFar, Progress, applied, list_size}
+use Rattle.h2_spec.specs.Hpack.Field.{Field}
+use Rattle.h2_spec.specs.Hpack.Instruction.{Shape, instr_at}
 use Rattle.h2_spec.specs.Read.{Whole, More, TooLong}
 use Rattle.h2_spec.proofs.BlockLaws.{LeadsTo, leads-refused, leads-too_long}
 use Rattle.h2_fields.specs.Blocks.{faulted}
 use Rattle.h2_fields.specs.Applied.{Grows, IsStopped}
 use Rattle.h2_fields.specs.declared.collected.Savepoint.{Savepoint}
-use Rattle.h2_instruction.specs.Faults.{refusal}
-use Rattle.h2_instruction.specs.Resume.{IsPoint, IsRest}
-use Rattle.h2_instruction.specs.declared.shape.Point.{Point}
-use Rattle.h2_instruction.specs.declared.fault.BlockFault.{BlockFault}
-use Rattle.h2_instruction.specs.declared.fault.BlockFault.TheVariants as faults
+use Rattle.h2_hpack_instruction.specs.Faults.{refusal}
+use Rattle.h2_hpack_instruction.specs.Resume.{IsPoint, IsRest}
+use Rattle.h2_hpack_instruction.specs.declared.shape.Point.{Point}
+use Rattle.h2_hpack_instruction.specs.declared.fault.BlockFault.{BlockFault}
+use Rattle.h2_hpack_instruction.specs.declared.fault.BlockFault.TheVariants as faults
 use Rattle.h2_fields.proofs.Applying.{refused}
 
 pub grows-start : (s : FieldsSoFar) → Grows s s

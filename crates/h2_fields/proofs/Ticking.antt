@@ -1,7 +1,7 @@
 -- How the ticks of a fragment are added to those before it.
 use Rattle.std.proofs.Common.{◌≡◌, ◌≤◌, ◌<◌, ◌+◌, ◌*◌, ℕ, true, Ok, Err, OnOk, is_ok, Result, refl, arith}
 use Rattle.h2_fields.specs.Rests.{IsTicked, most_ticks}
-use Rattle.h2_instruction.specs.declared.fault.BlockFault.{BlockFault}
+use Rattle.h2_hpack_instruction.specs.declared.fault.BlockFault.{BlockFault}
 
 pub ticks-rise : (r : Result (Unit {0}) BlockFault) (old new piece rest after ticks left : ℕ)
     → (new < most_ticks → new ≡ old + ticks + 1) → new ≤ old + ticks + 1 → (is_ok r ≡ true → left ≡ after)

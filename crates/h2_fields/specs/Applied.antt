@@ -1,13 +1,13 @@
 -- What the decoder does over a table with an edit of it.
 use Rattle.std.specs.Prelude.{◌≡◌, ◌≢◌, ℕ, List, [], ◌∷◌, ◌++◌, Option, Some, Result, Ok, Err}
-use Rattle.h2_instruction.specs.Faults.{fault_of, refusal}
+use Rattle.h2_hpack_instruction.specs.Faults.{fault_of, refusal}
 use Rattle.h2_fields.specs.Blocks.{faulted}
-use Rattle.h2_instruction.specs.declared.fault.BlockFault.{BlockFault}
-use Rattle.h2_instruction.specs.declared.fault.BlockFault.TheVariants as fault
-use Rattle.h2_spec.specs.Block.{Fault, Progress, FieldsSoFar, applied, decoded, progress_with}
-use Rattle.h2_spec.specs.DynamicTable.{LimitedTable}
-use Rattle.h2_spec.specs.Field.{Field}
-use Rattle.h2_spec.specs.Instruction.{Shape}
+use Rattle.h2_hpack_instruction.specs.declared.fault.BlockFault.{BlockFault}
+use Rattle.h2_hpack_instruction.specs.declared.fault.BlockFault.TheVariants as fault
+use Rattle.h2_spec.specs.Hpack.Block.{Fault, Progress, FieldsSoFar, applied, decoded, progress_with}
+use Rattle.h2_spec.specs.Hpack.DynamicTable.{LimitedTable}
+use Rattle.h2_spec.specs.Hpack.Field.{Field}
+use Rattle.h2_spec.specs.Hpack.Instruction.{Shape}
 use Rattle.h2_table.specs.Edits.{EditOf, edited}
 
 -- how far a block has got over an edited table

@@ -1,6 +1,6 @@
 -- Fields in batches, one after another.
 use Rattle.std.specs.Prelude.{◌≡◌, ℕ, suc, ◌+◌, List, [], ◌∷◌, ◌++◌, length, nat_lt, if◌then◌else◌}
-use Rattle.h2_spec.specs.Field.{Field}
+use Rattle.h2_spec.specs.Hpack.Field.{Field}
 
 -- the fields of a batch, and how many there are before them
 pub record FieldsFrom : Type 0 where

@@ -1,13 +1,13 @@
 -- What the decoder holds, and what it answers, by the definitions.
 use Rattle.std.specs.Prelude.{◌≡◌, ◌≢◌, ℕ, ◌+◌, ◌*◌, ◌<◌, ◌≤◌, Bool, true, false, List, [], ◌∷◌, length, Option, Some, None, option_map, Result, Ok, Err}
-use Rattle.h2_instruction.specs.Faults.{fault_of}
+use Rattle.h2_hpack_instruction.specs.Faults.{fault_of}
 use Rattle.h2_fields.specs.Rests.{most_ticks}
-use Rattle.h2_instruction.specs.declared.fault.BlockFault.{BlockFault}
-use Rattle.h2_instruction.specs.declared.fault.BlockFault.TheVariants as fault
-use Rattle.h2_spec.specs.Block.{ZeroIndex, Index, Integer, Huffman, LateUpdate, LargeUpdate, MissingUpdate, Outcome, Unfinished, Faulty, Progress, Decoded}
-use Rattle.h2_spec.specs.DynamicTable.{Table}
-use Rattle.h2_spec.specs.Field.{Field}
-use Rattle.h2_spec.specs.Instruction.{instr_at}
+use Rattle.h2_hpack_instruction.specs.declared.fault.BlockFault.{BlockFault}
+use Rattle.h2_hpack_instruction.specs.declared.fault.BlockFault.TheVariants as fault
+use Rattle.h2_spec.specs.Hpack.Block.{ZeroIndex, Index, Integer, Huffman, LateUpdate, LargeUpdate, MissingUpdate, Outcome, Unfinished, Faulty, Progress, Decoded}
+use Rattle.h2_spec.specs.Hpack.DynamicTable.{Table}
+use Rattle.h2_spec.specs.Hpack.Field.{Field}
+use Rattle.h2_spec.specs.Hpack.Instruction.{instr_at}
 use Rattle.h2_spec.specs.Read.{More}
 
 -- what a decoder holds of a block: the fields so far, whether a size update is still due, how the block ends so far,

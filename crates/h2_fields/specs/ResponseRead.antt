@@ -1,9 +1,9 @@
 -- What a decoder holds that has read a response's field block.
 use Rattle.std.specs.Prelude.{ℕ, false, List, [], codes}
-use Rattle.h2_spec.specs.Answer.{status_digits}
-use Rattle.h2_spec.specs.Block.{Decoded, Unfinished}
-use Rattle.h2_spec.specs.DynamicTable.{Table}
-use Rattle.h2_spec.specs.Field.{Field, field}
+use Rattle.h2_spec.specs.Requests.Answer.{status_digits}
+use Rattle.h2_spec.specs.Hpack.Block.{Decoded, Unfinished}
+use Rattle.h2_spec.specs.Hpack.DynamicTable.{Table}
+use Rattle.h2_spec.specs.Hpack.Field.{Field, field}
 
 -- the status as a field (RFC 9113, 8.3.2)
 abbrev pub status_field : ℕ → Field

@@ -2,13 +2,13 @@
 //! Contracts see the fields alone, one batch after another. Definitions: `specs/Batches.antt`.
 
 ghost use Rattle.std.specs.Prelude.{◌≡◌, ◌+◌, ◌-◌, ◌^◌, ◌<◌, ◌≤◌, [], ◌++◌, true, length, map, drop, take, slice_get, option_map, IfErr, IfOk, IfSome, OnErr, OnOk};
-ghost use Rattle.h2_mark.specs.Mark.{mark_of};
-ghost use Rattle.h2_list.specs.Lent.{lent_field};
+ghost use Rattle.h2_hpack_validity.specs.Mark.{mark_of};
+ghost use Rattle.h2_hpack_list.specs.Lent.{lent_field};
 ghost use Rattle.h2_table.specs.Lent.{field_lent, IsMarked};
 ghost use Rattle.h2_fields.specs.Batches.{AreBatches, before};
 
-use h2_list::{FieldList, FoldedFields};
-use h2_mark::FieldMark;
+use h2_hpack_list::{FieldList, FoldedFields};
+use h2_hpack_validity::FieldMark;
 use h2_table::LentField;
 use std::alloc::{AllocError, Allocator};
 use std::marker::Model;
@@ -121,7 +121,7 @@ pub(crate) struct Batches<A: Allocator> {
 
 impl<A: Allocator> Model for Batches<A> {
     ghost use Rattle.std.specs.Prelude.{◌≡◌, ◌≤◌, List, length};
-    ghost use Rattle.h2_spec.specs.Field.{Field};
+    ghost use Rattle.h2_spec.specs.Hpack.Field.{Field};
     ghost use Rattle.h2_fields.specs.Batches.{AreBatches, fields_in};
 
     ghost Value = { List Field };

@@ -1,29 +1,30 @@
 //! For users of the library; the program does not call it: a connection decodes by `decode_piece` of `fragment`. The
 //! decoder of a field block, which comes in fragments (RFC 7541, 3; RFC 9113, 4.3), with fields that own their memory.
 //! It commits what a fragment changes of the table only once no memory is needed any more. The definitions are
-//! `decoded` and `carried_on` of `h2_spec`, specs/Block.antt; contracts see a decoder as `BlockSoFar` of
+//! `decoded` and `carried_on` of `h2_spec`, specs/Hpack/Block.antt; contracts see a decoder as `BlockSoFar` of
 //! specs/Blocks.antt.
 
 ghost use Rattle.std.specs.Prelude.{◌≡◌, ◌≢◌, ◌≤◌, ◌<◌, ◌+◌, ◌*◌, [], ◌++◌, true, false, take, length, Some, None, option_map, IfOk, IfErr, IsErr, IsErrOf, OnOk};
-ghost use Rattle.h2_spec.specs.Block as block;
-ghost use Rattle.h2_spec.specs.Block.{Unfinished, carried_on, progress_with};
-ghost use Rattle.h2_spec.specs.Instruction.{instr_at};
+ghost use Rattle.h2_spec.specs.Hpack.Block as block;
+ghost use Rattle.h2_spec.specs.Hpack.Block.{Unfinished, carried_on, progress_with};
+ghost use Rattle.h2_spec.specs.Hpack.Instruction.{instr_at};
 ghost use Rattle.h2_spec.specs.Read.{More};
 ghost use Rattle.h2_fields.specs.Blocks.{TicksRise, answer_of, decoded_with, finish_of};
 ghost use Rattle.h2_fields.specs.Applied.{IsStopped};
 ghost use Rattle.h2_fields.specs.Rests.{most_ticks};
-ghost use Rattle.h2_instruction.specs.declared.fault.BlockFault.TheVariants as faults;
+ghost use Rattle.h2_hpack_instruction.specs.declared.fault.BlockFault.TheVariants as faults;
 
 use crate::collected::Collected;
 use crate::fragment::decode_piece;
 use crate::rest::{Rest, RestChange};
-use h2_instruction::fault::BlockFault;
-use h2_instruction::field::Field;
+use h2_hpack_instruction::fault::BlockFault;
+use h2_hpack_instruction::field::Field;
 use h2_table::{DynTable, Edit};
 use std::alloc::{AllocError, Allocator};
 use std::marker::Model;
 use std::mem;
 
+// For users of the library. The connection calls `decode_piece` and never this decoder.
 /// A decoder of one field block: the fields so far, the octets that begin an instruction and do not end it, the fault,
 /// if there was one, and the ticks.
 pub struct BlockDecoder<A: Allocator> {
@@ -84,7 +85,7 @@ impl<A: Allocator + Copy> BlockDecoder<A> {
     /// instruction is whole, an integer already at its fifth octet after the prefix; the fields and the table are those
     /// after the instructions before it. `MissingUpdate` where an update is due and the first instruction is none; it
     /// is decided before `Index` and `Huffman`. `NoMemory` where memory was refused; the fields and the table are as
-    /// they were. After an error each further call answers the same one and changes nothing.
+    /// they were. After an error each further call returns the same one and changes nothing.
     pub fn push(&mut self, table: &mut DynTable<A>, piece: &[u8]) -> Result<(), BlockFault>
         ensures answer { result ≡ answer_of self.new.outcome }
         ensures carried { self.new.outcome ≢ None → decoded_with table.new.table self.new ≡ option_map (λ before. carried_on table.old.limit before piece.now) (decoded_with table.old.table self.old) }
@@ -151,7 +152,7 @@ impl<A: Allocator + Copy> BlockDecoder<A> {
 
     /// The steps so far: one for each octet that was passed, and one more each time it was passed again; one for each
     /// octet of a Huffman string that was decoded; one for each instruction that was done; and one for each fragment.
-    /// A fragment that answers a fault counts the instructions before the one that is refused, and itself; one that
+    /// A fragment that returns a fault counts the instructions before the one that is refused, and itself; one that
     /// repeats a fault, or is refused memory, counts nothing. The count stays at 2^64 - 1 once there.
     pub fn ticks(&self) -> u64
         ensures { result ≡ self.now.ticks }

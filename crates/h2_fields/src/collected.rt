@@ -1,26 +1,26 @@
 //! The fields that a field block has given so far, with the mark of each, in lists whose memory is kept from block to
 //! block. Of a long block all but the last fields are in batches, which its copies share. Contracts see it as the
-//! record `FieldsSoFar` of `h2_spec`, specs/Block.antt.
+//! record `FieldsSoFar` of `h2_spec`, specs/Hpack/Block.antt.
 
 ghost use Rattle.std.specs.Prelude.{◌≡◌, ◌≢◌, ◌≤◌, ◌-◌, ◌^◌, ℕ, List, [], ◌∷◌, ◌++◌, false, not, min, length, take, drop, slice_get, option_map, Some, Ok, IfOk, IfErr, IfSome, OnOk, OnErr};
-ghost use Rattle.h2_spec.specs.Block.{has_fields, list_size, text_result};
-ghost use Rattle.h2_spec.specs.Field.{Field, field, size};
-ghost use Rattle.h2_spec.specs.Huffman.{Text};
-ghost use Rattle.h2_spec.specs.Instruction.{text_of};
+ghost use Rattle.h2_spec.specs.Hpack.Block.{has_fields, list_size, text_result};
+ghost use Rattle.h2_spec.specs.Hpack.Field.{Field, field, size};
+ghost use Rattle.h2_spec.specs.Hpack.Huffman.{Text};
+ghost use Rattle.h2_spec.specs.Hpack.Instruction.{text_of};
 ghost use Rattle.h2_fields.specs.Applied.{IsReadAs};
-ghost use Rattle.h2_instruction.specs.Faults.{refusal};
-ghost use Rattle.h2_instruction.specs.Shapes.{string_of};
-ghost use Rattle.h2_instruction.specs.declared.fault.BlockFault.TheVariants as faults;
-ghost use Rattle.h2_mark.specs.Mark.{mark_of};
-ghost use Rattle.h2_list.specs.Lent.{lent_field};
+ghost use Rattle.h2_hpack_instruction.specs.Faults.{refusal};
+ghost use Rattle.h2_hpack_instruction.specs.Shapes.{string_of};
+ghost use Rattle.h2_hpack_instruction.specs.declared.fault.BlockFault.TheVariants as faults;
+ghost use Rattle.h2_hpack_validity.specs.Mark.{mark_of};
+ghost use Rattle.h2_hpack_list.specs.Lent.{lent_field};
 ghost use Rattle.h2_table.specs.Lent.{field_lent, IsMarked};
 
 use crate::batches::{Batches, lent_at};
 use crate::hints::Hints;
-use h2_instruction::fault::BlockFault;
-use h2_instruction::shape::RawString;
-use h2_list::FieldList;
-use h2_mark::FieldMark;
+use h2_hpack_instruction::fault::BlockFault;
+use h2_hpack_instruction::shape::RawString;
+use h2_hpack_list::FieldList;
+use h2_hpack_validity::FieldMark;
 use h2_table::LentField;
 use std::alloc::{AllocError, Allocator};
 use std::marker::Model;
@@ -54,8 +54,8 @@ pub struct Collected<A: Allocator> {
 
 impl<A: Allocator> Model for Collected<A> {
     ghost use Rattle.std.specs.Prelude.{◌≡◌, ◌++◌, map};
-    ghost use Rattle.h2_mark.specs.Mark.{mark_of};
-    ghost use Rattle.h2_spec.specs.Block.{FieldsSoFar, list_size};
+    ghost use Rattle.h2_hpack_validity.specs.Mark.{mark_of};
+    ghost use Rattle.h2_spec.specs.Hpack.Block.{FieldsSoFar, list_size};
 
     ghost Value = { FieldsSoFar };
 
@@ -455,6 +455,8 @@ fn mark_of_parts(octets: &[u8], split: usize) -> FieldMark
     FieldMark::of(name, value)
 }
 
+// A field of at most 32 octets is copied while its block has fewer than 64: to look for it costs more than
+// the copy.
 /// Whether a field is copied in any case, where there are that many others in its block.
 fn is_copied(count: usize, name: &[u8], value: &[u8]) -> bool {
     count < MANY_FIELDS && name.len().saturating_add(value.len()) <= MAX_COPIED

@@ -1,23 +1,24 @@
 //! What one instruction does to a field block: its field, and the table after it (RFC 7541, 3.2 and 6). The definition
-//! is `applied` of `h2_spec`, specs/Block.antt: a size update is decided first, then an index, then a Huffman string.
+//! is `applied` of `h2_spec`, specs/Hpack/Block.antt: a size update is decided first, then an index, then a Huffman
+//! string.
 
 ghost use Rattle.std.specs.Prelude.{◌≡◌, List, [], ◌∷◌, ◌++◌, OnOk, IfSome, option_map};
-ghost use Rattle.h2_spec.specs.Block as block;
-ghost use Rattle.h2_spec.specs.Block.{text_result};
-ghost use Rattle.h2_spec.specs.DynamicTable.{field_at, insert};
-ghost use Rattle.h2_spec.specs.Field.{Field};
-ghost use Rattle.h2_spec.specs.Instruction as spec;
-ghost use Rattle.h2_spec.specs.Instruction.{text_of};
+ghost use Rattle.h2_spec.specs.Hpack.Block as block;
+ghost use Rattle.h2_spec.specs.Hpack.Block.{text_result};
+ghost use Rattle.h2_spec.specs.Hpack.DynamicTable.{field_at, insert};
+ghost use Rattle.h2_spec.specs.Hpack.Field.{Field};
+ghost use Rattle.h2_spec.specs.Hpack.Instruction as spec;
+ghost use Rattle.h2_spec.specs.Hpack.Instruction.{text_of};
 ghost use Rattle.h2_table.specs.Edits.{IsEdit, edited};
 ghost use Rattle.h2_table.specs.Lent.{field_lent, IsMarked};
 ghost use Rattle.h2_fields.specs.Applied.{Grows, IsApplied, IsReadAs, progress_in};
-ghost use Rattle.h2_instruction.specs.Faults.{fault_of};
-ghost use Rattle.h2_instruction.specs.Shapes.{mode_of, string_of, name_of, shape_of};
+ghost use Rattle.h2_hpack_instruction.specs.Faults.{fault_of};
+ghost use Rattle.h2_hpack_instruction.specs.Shapes.{mode_of, string_of, name_of, shape_of};
 
 use crate::collected::Collected;
-use h2_instruction::fault::BlockFault;
-use h2_instruction::instruction::Mode;
-use h2_instruction::shape::{RawName, RawString, Shape};
+use h2_hpack_instruction::fault::BlockFault;
+use h2_hpack_instruction::instruction::Mode;
+use h2_hpack_instruction::shape::{RawName, RawString, Shape};
 use h2_table::{DynTable, Edit, LentField, static_entry};
 use std::alloc::{AllocError, Allocator};
 

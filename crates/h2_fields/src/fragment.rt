@@ -1,23 +1,23 @@
 //! Decoding the octets of a field block (RFC 7541, 3; RFC 9113, 4.3): its whole instructions, one after another. The
-//! definition is `decoded` of `h2_spec`, specs/Block.antt.
+//! definition is `decoded` of `h2_spec`, specs/Hpack/Block.antt.
 
 ghost use Rattle.std.specs.Prelude.{◌≡◌, ◌≤◌, ◌+◌, [], ◌++◌, length, drop, min, IfOk, IfErr, IsErrOf, OnOk, OnErr};
-ghost use Rattle.h2_spec.specs.Block as block;
-ghost use Rattle.h2_spec.specs.Block.{Unfinished, progress_with};
-ghost use Rattle.h2_spec.specs.Instruction.{instr_at};
+ghost use Rattle.h2_spec.specs.Hpack.Block as block;
+ghost use Rattle.h2_spec.specs.Hpack.Block.{Unfinished, progress_with};
+ghost use Rattle.h2_spec.specs.Hpack.Instruction.{instr_at};
 ghost use Rattle.h2_spec.specs.Read.{More};
 ghost use Rattle.h2_table.specs.Edits.{IsEdit, edited};
 ghost use Rattle.h2_fields.specs.Applied.{Grows, IsStopped, progress_in};
-ghost use Rattle.h2_instruction.specs.Resume.{IsPoint, IsRest, huffman_octets};
+ghost use Rattle.h2_hpack_instruction.specs.Resume.{IsPoint, IsRest, huffman_octets};
 ghost use Rattle.h2_fields.specs.Rests.{IsCounted, IsFresh, IsTicked, most_ticks};
-ghost use Rattle.h2_instruction.specs.Shapes.{shape_of};
-ghost use Rattle.h2_instruction.specs.declared.fault.BlockFault.TheVariants as faults;
+ghost use Rattle.h2_hpack_instruction.specs.Shapes.{shape_of};
+ghost use Rattle.h2_hpack_instruction.specs.declared.fault.BlockFault.TheVariants as faults;
 
 use crate::collected::Collected;
 use crate::effect::{apply, apply_indexed};
 use crate::rest::RestChange;
-use h2_instruction::fault::BlockFault;
-use h2_instruction::shape::{Point, Shape, ShapeFault, shape_from, short_index};
+use h2_hpack_instruction::fault::BlockFault;
+use h2_hpack_instruction::shape::{Point, Shape, ShapeFault, shape_from, short_index};
 use h2_spec::octets::octets_from;
 use h2_table::{DynTable, Edit};
 use std::alloc::{AllocError, Allocator};
@@ -135,6 +135,8 @@ fn attempt<A: Allocator + Copy>(
     }
 }
 
+// The rest, the edit and the point are lent: by value they were copied at each of eight returns, 500
+// instructions. What a refused allocation leaves here is restored by `attempt` and `decode_alone`.
 /// Decodes a fragment of a block: the octets of `rest`, which the fragments before it left, from the point where reading
 /// stopped in them, and those of `piece` after them. Adds the fields of the whole instructions, and makes `edit` one with
 /// their changes of the table, for `DynTable::commit`; what `rest` has after it begins an instruction and does not

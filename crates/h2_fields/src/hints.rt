@@ -5,6 +5,7 @@ ghost use Rattle.std.specs.Prelude.{◌≤◌};
 
 use std::alloc::{AllocError, Allocator};
 
+// A guess for each index: the last field made from it. `append_like` compares; a wrong guess costs a copy.
 /// For each entry of the static and of the dynamic table the place of a field in a list that may be the same.
 ///
 /// Each entry that can be in the table at a time has a guess of its own (RFC 7541, 4.1: an entry counts 32 octets or

@@ -6,7 +6,7 @@ ghost use Rattle.std.specs.Prelude.{◌≡◌, ◌↔◌, ◌≤◌, ◌+◌, �
 ghost use Rattle.std.specs.List.{concat};
 
 use crate::rest::Rest;
-use h2_instruction::shape::Point;
+use h2_hpack_instruction::shape::Point;
 use h2_spec::octets::{octets_from, octets_up_to};
 use std::alloc::{AllocError, Allocator};
 use std::marker::Model;
@@ -40,7 +40,7 @@ impl<A: Allocator + Copy> SharedChunk<A> {
         })
     }
 
-    /// The same octets, shared.
+    /// Another owner of these octets, which are not copied.
     fn share(&self) -> Result<Self, AllocError>
         ensures { IfOk result (λ shared. shared ≡ self.now) }
     {
@@ -57,6 +57,8 @@ impl<A: Allocator + Copy> SharedChunk<A> {
     }
 }
 
+// Chunks of 1,024 octets, shared with the checkpoint before where they are equal: copies took 24 times the
+// hex for a long string in frames of one octet.
 /// The rest of a field block as it was: whole chunks, the octets after them, and where reading goes on in all of them.
 pub struct KeptRest<A: Allocator> {
     /// Whole chunks, which other kept rests can have too.
@@ -69,7 +71,7 @@ pub struct KeptRest<A: Allocator> {
 impl<A: Allocator> Model for KeptRest<A> {
     ghost use Rattle.std.specs.Prelude.{ℕ, List, ◌++◌};
     ghost use Rattle.std.specs.List.{concat};
-    ghost use Rattle.h2_instruction.specs.Resume.{IsRest};
+    ghost use Rattle.h2_hpack_instruction.specs.Resume.{IsRest};
 
     ghost Value = { List ℕ };
 

@@ -1,10 +1,10 @@
 //! The octets at the end of a fragment of a field block that begin an instruction and do not end it, with the point
-//! where reading goes on in them (RFC 7541, 3; RFC 9113, 4.3). What a point is, is in `specs/Resume.antt`; contracts
+//! where reading goes on in them (RFC 7541, 3; RFC 9113, 4.3). What a point is, is in h2_hpack_instruction, `specs/Resume.antt`; contracts
 //! see the octets alone.
 
 ghost use Rattle.std.specs.Prelude.{◌≡◌, ◌==◌, [], length, IfOk};
 
-use h2_instruction::shape::Point;
+use h2_hpack_instruction::shape::Point;
 use h2_spec::octets::drop_front;
 use std::alloc::{AllocError, Allocator};
 use std::marker::Model;
@@ -23,7 +23,7 @@ pub struct Rest<A: Allocator> {
 
 impl<A: Allocator> Model for Rest<A> {
     ghost use Rattle.std.specs.Prelude.{ℕ, List};
-    ghost use Rattle.h2_instruction.specs.Resume.{IsRest};
+    ghost use Rattle.h2_hpack_instruction.specs.Resume.{IsRest};
 
     ghost Value = { List ℕ };
 
@@ -52,7 +52,7 @@ pub struct RestChange<A: Allocator> {
 
 impl<A: Allocator> Model for RestChange<A> {
     ghost use Rattle.std.specs.Prelude.{◌≤◌, take, drop, length};
-    ghost use Rattle.h2_instruction.specs.Resume.{IsRest};
+    ghost use Rattle.h2_hpack_instruction.specs.Resume.{IsRest};
     ghost use Rattle.h2_fields.specs.Rests as rests;
 
     ghost Value = { rests.RestChange };

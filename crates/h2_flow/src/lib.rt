@@ -4,7 +4,7 @@
 //! `is_below` and `minus`, `overflows` and `plus`, which return the new value.
 //! The types are declared in `h2_spec` (flow, errors), since definitions use the same ones; here they have the names
 //! that a program imports.
-//! Definitions: `h2_spec/specs/Settings.antt`, `h2_spec/specs/Window.antt`, `h2_spec/specs/Errors.antt`.
+//! Definitions: `h2_spec/specs/Settings.antt`, `h2_spec/specs/Window.antt`, `h2_spec/specs/Causes/Errors.antt`.
 #![tactic(auto)]
 
 mod refused;

@@ -1,4 +1,4 @@
-//! For users of the library; the program does not call it: a rule answers the cause, whose code is sent. The error code
+//! For users of the library; the program does not call it: a rule returns the cause, whose code is sent. The error code
 //! of a setting that is refused (RFC 9113, 6.5.2). Definitions: `specs/SettingCode.antt`.
 
 ghost use Rattle.std.specs.Prelude.{◌≡◌};

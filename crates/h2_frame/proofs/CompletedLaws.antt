@@ -2,8 +2,8 @@
 use Rattle.std.proofs.Common.{◌≡◌, ℕ, ◌+◌, ◌-◌, ◌≤◌, false, List, ◌++◌, length, drop, refl, sym, ap, subst, ◌∙◌, arith, length-append, length-drop, le-ltb}
 use Rattle.std.proofs.lemmas.List.{drop_all, take_all}
 use Rattle.h2_spec.specs.declared.frames.Head.{Head}
-use Rattle.h2_spec.specs.Frame.{WholeFrame, Got, next, frame_item, head_of}
-use Rattle.h2_spec.specs.FrameType.{DATA, PADDED, has}
+use Rattle.h2_spec.specs.Frames.Frame.{WholeFrame, Got, next, frame_item, head_of}
+use Rattle.h2_spec.specs.Frames.FrameType.{DATA, PADDED, has}
 use Rattle.h2_frame.specs.Items.{IsDataCompleted, found, item_in, rest_behind, with_more}
 use Rattle.h2_frame.specs.Rest.{Rest}
 use Rattle.h2_frame.proofs.MissingLaws.{head_of-append}

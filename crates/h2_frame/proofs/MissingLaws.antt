@@ -4,7 +4,7 @@ use Rattle.std.proofs.lemmas.List.{append-nil}
 use Rattle.std.proofs.Math.ListN.{get_or-append}
 use Rattle.std.specs.Prelude.{slice_range}
 use Rattle.h2_spec.specs.declared.frames.Head.{Head}
-use Rattle.h2_spec.specs.Frame.{Item, WholeFrame, Oversize, Next, NoItem, Got, next, frame_item, head_of}
+use Rattle.h2_spec.specs.Frames.Frame.{Item, WholeFrame, Oversize, Next, NoItem, Got, next, frame_item, head_of}
 use Rattle.h2_frame.specs.Items.{item_in, missing, missing_in, missing_of_frame, missing_of_preface, next_in, with_more}
 use Rattle.h2_frame.specs.Rest.{Rest}
 

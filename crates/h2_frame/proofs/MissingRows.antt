@@ -1,7 +1,7 @@
 -- How many octets the first item lacks at the least, computed, with frames of at most 16384 octets (RFC 9113, 3.4, 4.1
 -- and 4.2).
 use Rattle.std.specs.Prelude.{◌≡◌, ℕ, Bool, true, false, List, [], ◌∷◌, map, codes, refl}
-use Rattle.h2_spec.specs.Frame.{next, head_of}
+use Rattle.h2_spec.specs.Frames.Frame.{next, head_of}
 use Rattle.h2_frame.specs.Items.{missing}
 
 -- whether the preface is expected, octets, and how many are missing

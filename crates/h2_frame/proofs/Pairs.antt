@@ -2,7 +2,7 @@
 use Rattle.std.proofs.Common.{◌≡◌, ℕ, zero, suc, ◌+◌, ◌*◌, ◌/◌, ◌<◌, ◌≤◌, List, [], ◌∷◌, length, drop, Some, refl, arith, length-drop}
 use Rattle.std.specs.Prelude.{slice_get}
 use Rattle.h2_spec.specs.Octets.{two_octets, four_octets}
-use Rattle.h2_spec.specs.Payload.{setting_pairs}
+use Rattle.h2_spec.specs.Frames.Payload.{setting_pairs}
 
 -- six octets make a setting
 pub length-setting_pairs : (p : List ℕ) → length (setting_pairs p) ≡ length p / 6

@@ -4,9 +4,9 @@ use Rattle.h2_frame.specs.declared.splitter.Item.{Item}
 use Rattle.h2_frame.specs.declared.splitter.Item.TheVariants as code
 use Rattle.h2_frame.specs.Rest.{Rest}
 use Rattle.h2_spec.specs.declared.frames.Head.{Head}
-use Rattle.h2_spec.specs.Frame as spec
-use Rattle.h2_spec.specs.Frame.{Next, NoItem, Got, head_of, next}
-use Rattle.h2_spec.specs.FrameType.{DATA, PADDED, has}
+use Rattle.h2_spec.specs.Frames.Frame as spec
+use Rattle.h2_spec.specs.Frames.Frame.{Next, NoItem, Got, head_of, next}
+use Rattle.h2_spec.specs.Frames.FrameType.{DATA, PADDED, has}
 
 -- an item with its payload as a list
 abbrev pub item_of : Item → spec.Item

@@ -6,8 +6,8 @@ use Rattle.h2_frame.specs.declared.payload.HeadersPart.{HeadersPart}
 use Rattle.h2_frame.specs.declared.payload.SettingsPart.{SettingsPart}
 use Rattle.h2_frame.specs.declared.payload.Part.{Part}
 use Rattle.h2_frame.specs.declared.payload.Part.TheVariants as code
-use Rattle.h2_spec.specs.Payload as spec
-use Rattle.h2_spec.specs.Payload.{setting_pairs}
+use Rattle.h2_spec.specs.Frames.Payload as spec
+use Rattle.h2_spec.specs.Frames.Payload.{setting_pairs}
 use Rattle.h2_spec.specs.declared.causes.Cause.{Cause}
 
 abbrev pub data_seen : DataPart → spec.DataPart

@@ -3,7 +3,7 @@
 //! `specs/PayloadFaults.antt`.
 
 ghost use Rattle.std.specs.Prelude.{◌≡◌};
-ghost use Rattle.h2_spec.specs.Cause.{code_of};
+ghost use Rattle.h2_spec.specs.Causes.Cause.{code_of};
 ghost use Rattle.h2_frame.specs.PayloadFaults.{fault_of_code};
 
 use h2_spec::causes::Cause;
@@ -21,7 +21,7 @@ pub enum PayloadFault {
     PadFault,
 }
 
-/// The fault of a cause that a reader of payloads answers, so that `?` makes it. A cause with another origin is sorted
+/// The fault of a cause that a reader of payloads returns, so that `?` makes it. A cause with another origin is sorted
 /// by its error code too, and means nothing here.
 impl From<Cause> for PayloadFault {
     ghost from_gives = { λ cause fault. fault ≡ fault_of_code (code_of cause) };

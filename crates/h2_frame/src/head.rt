@@ -1,9 +1,9 @@
 //! Heads of frames: reading them, and writing whole frames (RFC 9113, 4.1). The program does not call `write_frame`,
 //! which is for users of the library: `append_frame` does the same for a payload in two parts. Definitions:
-//! `h2_spec/specs/Frame.antt`.
+//! `h2_spec/specs/Frames/Frame.antt`.
 
 ghost use Rattle.std.specs.Prelude.{◌≡◌, ℕ, ◌+◌, ◌<◌, ◌≤◌, ◌^◌, ◌∷◌, ◌++◌, List, drop, length, false, Some, OnOk, OnErr};
-ghost use Rattle.h2_spec.specs.Frame.{head_at, head_of, frame, frame_octets, frame_of};
+ghost use Rattle.h2_spec.specs.Frames.Frame.{head_at, head_of, frame, frame_octets, frame_of};
 ghost use Rattle.h2_spec.specs.Octets.{big_endian};
 
 use crate::cuts::u31_at;
@@ -21,7 +21,7 @@ pub struct FrameRef<'a> {
 }
 
 /// The head in the first nine octets; `None` where there are fewer (RFC 9113, 4.1).
-#[tactic(auto, unfolding(h2_spec::specs::Frame::head_at))]
+#[tactic(auto, unfolding(h2_spec::specs::Frames::Frame::head_at))]
 pub fn read_head(octets: &[u8]) -> Option<Head>
     ensures { result ≡ head_at octets.now }
 {
@@ -32,7 +32,7 @@ pub fn read_head(octets: &[u8]) -> Option<Head>
 }
 
 /// The head that the first nine octets spell.
-#[tactic(auto, unfolding(h2_spec::specs::Frame::head_of))]
+#[tactic(auto, unfolding(h2_spec::specs::Frames::Frame::head_of))]
 pub(crate) fn first_head(octets: &[u8]) -> Head
     requires { 9 ≤ length octets.now }
     ensures { result ≡ head_of octets.now }
@@ -71,7 +71,7 @@ pub fn write_frame<'b, A: Allocator, O: Outgoing<'b, A>>(
 ///
 /// The last four octets of its head write `stream`: an identifier, or 2^31 more where the reserved bit is to be set.
 /// `AllocError` where `out` could not grow; then `out` is as before.
-#[tactic(auto, unfolding(h2_spec::specs::Frame::frame_octets))]
+#[tactic(auto, unfolding(h2_spec::specs::Frames::Frame::frame_octets))]
 pub fn append_frame<'b, A: Allocator, O: Outgoing<'b, A>>(
     kind: u8,
     flags: u8,
@@ -92,7 +92,7 @@ pub fn append_frame<'b, A: Allocator, O: Outgoing<'b, A>>(
 /// Appends a frame whose payload is lent: `out` may keep it by reference.
 ///
 /// As `append_frame`, also where memory is refused.
-#[tactic(auto, unfolding(h2_spec::specs::Frame::frame_octets))]
+#[tactic(auto, unfolding(h2_spec::specs::Frames::Frame::frame_octets))]
 pub fn lend_frame<'b, A: Allocator, O: Outgoing<'b, A>>(
     kind: u8,
     flags: u8,

@@ -1,5 +1,5 @@
 //! Frames of HTTP/2: their heads, the items that octets are split into, and what payloads hold (RFC 9113, 3.4, 4 and
-//! 6). Definitions: `h2_spec/specs/Frame.antt`, `h2_spec/specs/Payload.antt`, and `specs/` here for what a splitter
+//! 6). Definitions: `h2_spec/specs/Frames/Frame.antt`, `h2_spec/specs/Frames/Payload.antt`, and `specs/` here for what a splitter
 //! holds.
 #![tactic(auto)]
 

@@ -101,6 +101,8 @@ impl<'b, A: Allocator> Outbox<'b, A> {
         self.rest.remove_front(count - held);
     }
 
+    // One portion of at most 66,560 octets, four DATA of 16,384. Where its memory is refused each place is
+    // written by itself, so writing never fails for memory.
     /// Brings the first octets to one place, at most 66,560 of them, where some octets are lent; the octets stay the
     /// same. It takes memory for them once; where that is refused, they stay where they are.
     pub fn gather(&mut self)
@@ -170,6 +172,7 @@ impl<'b, A: Allocator> Outgoing<'b, A> for Outbox<'b, A> {
         Ok(())
     }
 
+    // A payload below 512 octets is copied: a loan and its part of a write cost as much.
     fn append_lent(&mut self, head: &[u8; 9], payload: &'b [u8]) -> Result<(), AllocError> {
         if payload.len() < LENT {
             return self.append_copied(head, &[], payload);

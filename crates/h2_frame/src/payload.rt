@@ -1,11 +1,11 @@
 //! What the payload of a frame holds, by its type, borrowed from it (RFC 9113, 6). Definitions:
-//! `h2_spec/specs/Payload.antt`.
+//! `h2_spec/specs/Frames/Payload.antt`.
 
 ghost use Rattle.std.specs.Prelude.{◌≡◌, ℕ, ◌+◌, ◌-◌, ◌*◌, ◌%◌, ◌≤◌, ◌<◌, List, length, slice_get, ◌==◌, if◌then◌else◌, Some, Ok, Err};
-ghost use Rattle.h2_spec.specs.FrameType.{DATA, HEADERS, RST_STREAM, SETTINGS, GOAWAY, WINDOW_UPDATE, ACK, PADDED, has};
-ghost use Rattle.h2_spec.specs.Payload as spec;
-ghost use Rattle.h2_spec.specs.Payload.Part.{OfPriority};
-ghost use Rattle.h2_spec.specs.Payload.{octets_if, fixed_len, pad_or_0, pad_length, priority_of, data_part, headers_part, settings_part, window_part, goaway_part, reset_part, with_part, of_length, settings_or_ack};
+ghost use Rattle.h2_spec.specs.Frames.FrameType.{DATA, HEADERS, RST_STREAM, SETTINGS, GOAWAY, WINDOW_UPDATE, ACK, PADDED, has};
+ghost use Rattle.h2_spec.specs.Frames.Payload as spec;
+ghost use Rattle.h2_spec.specs.Frames.Payload.Part.{OfPriority};
+ghost use Rattle.h2_spec.specs.Frames.Payload.{octets_if, fixed_len, pad_or_0, pad_length, priority_of, data_part, headers_part, settings_part, window_part, goaway_part, reset_part, with_part, of_length, settings_or_ack};
 ghost use Rattle.h2_spec.specs.declared.causes.Cause.TheVariants.{PingLength, PriorityLength};
 ghost use Rattle.h2_frame.specs.Parts.{both_seen, cut_between, data_seen, headers_seen, settings_in, part_seen, seen};
 
@@ -80,7 +80,7 @@ impl SettingsPart<'_> {
 ///
 /// `DataLength` where the length of the padding is missing, then `DataPadding` where the padding is longer than what
 /// follows.
-#[tactic(auto, unfolding(h2_spec::specs::Payload::data_part))]
+#[tactic(auto, unfolding(h2_spec::specs::Frames::Payload::data_part))]
 pub fn data_of(frame: FrameRef<'_>) -> Result<DataPart<'_>, Cause>
     requires { frame.head.kind ≡ DATA }
     ensures { seen data_seen result ≡ data_part frame.entry.head.flags frame.entry.payload.now }
@@ -102,7 +102,7 @@ pub fn data_of(frame: FrameRef<'_>) -> Result<DataPart<'_>, Cause>
 ///
 /// `HeadersLength` where the length of the padding, the dependency or the weight is missing, then `HeadersPadding`
 /// where the padding is longer than what follows them.
-#[tactic(auto, unfolding(h2_spec::specs::Payload::headers_part))]
+#[tactic(auto, unfolding(h2_spec::specs::Frames::Payload::headers_part))]
 pub fn headers_of(frame: FrameRef<'_>) -> Result<HeadersPart<'_>, Cause>
     requires { frame.head.kind ≡ HEADERS }
     ensures { seen headers_seen result ≡ headers_part frame.entry.head.flags frame.entry.payload.now }
@@ -177,7 +177,7 @@ fn unpadded(
 /// The settings of a SETTINGS frame, none in an acknowledgement (RFC 9113, 6.5).
 ///
 /// `SettingsLength` where the length is no multiple of 6, `SettingsAckLength` where it is not 0 in an acknowledgement.
-#[tactic(auto, unfolding(h2_spec::specs::Payload::settings_part))]
+#[tactic(auto, unfolding(h2_spec::specs::Frames::Payload::settings_part))]
 pub fn settings_of(frame: FrameRef<'_>) -> Result<SettingsPart<'_>, Cause>
     requires { frame.head.kind ≡ SETTINGS }
     ensures { seen settings_in result ≡ settings_part frame.entry.head.flags frame.entry.payload.now }
@@ -197,7 +197,7 @@ pub fn settings_of(frame: FrameRef<'_>) -> Result<SettingsPart<'_>, Cause>
 /// The increment of a WINDOW_UPDATE frame, below 2^31; 0 is not refused here (RFC 9113, 6.9).
 ///
 /// `WindowUpdateLength` where the payload is not 4 octets.
-#[tactic(auto, unfolding(h2_spec::specs::Payload::window_part))]
+#[tactic(auto, unfolding(h2_spec::specs::Frames::Payload::window_part))]
 pub fn window_of(frame: FrameRef<'_>) -> Result<u32, Cause>
     requires { frame.head.kind ≡ WINDOW_UPDATE }
     ensures { result ≡ window_part frame.entry.payload.now }
@@ -211,7 +211,7 @@ pub fn window_of(frame: FrameRef<'_>) -> Result<u32, Cause>
 /// The last stream and the error code of a GOAWAY frame; what follows them is not looked at (RFC 9113, 6.8).
 ///
 /// `GoawayLength` where the payload is below 8 octets.
-#[tactic(auto, unfolding(h2_spec::specs::Payload::goaway_part))]
+#[tactic(auto, unfolding(h2_spec::specs::Frames::Payload::goaway_part))]
 pub fn goaway_of(frame: FrameRef<'_>) -> Result<(u32, u32), Cause>
     requires { frame.head.kind ≡ GOAWAY }
     ensures { result ≡ goaway_part frame.entry.payload.now }
@@ -225,7 +225,7 @@ pub fn goaway_of(frame: FrameRef<'_>) -> Result<(u32, u32), Cause>
 /// The error code of a RST_STREAM frame (RFC 9113, 6.4).
 ///
 /// `RstStreamLength` where the payload is not 4 octets.
-#[tactic(auto, unfolding(h2_spec::specs::Payload::reset_part))]
+#[tactic(auto, unfolding(h2_spec::specs::Frames::Payload::reset_part))]
 pub fn reset_of(frame: FrameRef<'_>) -> Result<u32, Cause>
     requires { frame.head.kind ≡ RST_STREAM }
     ensures { result ≡ reset_part frame.entry.payload.now }
@@ -264,7 +264,7 @@ pub enum Part<'a> {
 /// What a frame's payload holds, by the frame's type; the refusals are those of the readers above, and PRIORITY
 /// has 5 octets, PING 8 (RFC 9113, 6).
 #[inline(always)]
-#[tactic(auto, unfolding(h2_spec::specs::Payload::part_as))]
+#[tactic(auto, unfolding(h2_spec::specs::Frames::Payload::part_as))]
 pub fn part_of(frame: FrameRef<'_>) -> Result<Part<'_>, Cause>
     ensures { seen part_seen result ≡ spec.part_of frame.entry.head frame.entry.payload.now }
 {

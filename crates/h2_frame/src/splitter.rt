@@ -1,12 +1,12 @@
 //! The splitter: octets come in pieces of any length, and items are taken from their front (RFC 9113, 3.4, 4.1 and
-//! 4.2). Definitions: `next` of `h2_spec/specs/Frame.antt`, and `specs/Items.antt` for what a splitter holds.
+//! 4.2). Definitions: `next` of `h2_spec/specs/Frames/Frame.antt`, and `specs/Items.antt` for what a splitter holds.
 
 ghost use Rattle.std.specs.Prelude.{◌≡◌, ℕ, ◌+◌, ◌-◌, ◌≤◌, ◌<◌, ◌++◌, List, [], length, true, false, nat_eq, IfOk, IfSome, OnOk, OnErr, None};
 ghost use Rattle.std.specs.List.{common_prefix_len};
 ghost use Rattle.std.specs.Option.{option_map};
 ghost use Rattle.std.specs.Borrow.{sem};
 ghost use Rattle.std.specs.Io.BufRead.{Rests};
-ghost use Rattle.h2_spec.specs.Frame.{next, preface, frame_item};
+ghost use Rattle.h2_spec.specs.Frames.Frame.{next, preface, frame_item};
 ghost use Rattle.h2_frame.specs.Items.{IsDataCompleted, data_completed, item_of, ends_items, found_in, missing_in, missing_of_frame, missing_of_preface, next_in, rest_after, with_more};
 ghost use Rattle.h2_frame.specs.contracts.splitter.Splitter.{the_row};
 
@@ -75,6 +75,8 @@ impl<A: Allocator> Splitter<A> {
         self.expects_preface = expected;
     }
 
+    // Octets that were taken stay in front until they are at least as many as those held; the next push moves
+    // the held ones. So the whole is linear.
     /// Adds the octets after those that are held.
     ///
     /// `AllocError` where the list could not grow; then what is held is as before.
@@ -259,7 +261,7 @@ fn agreeing(octets: &[u8], expected: &[u8]) -> usize
 }
 
 /// The preface or a bad one, if it is decided, and how many octets it takes.
-#[tactic(auto, unfolding(h2_spec::specs::Frame::next))]
+#[tactic(auto, unfolding(h2_spec::specs::Frames::Frame::next))]
 fn preface_item(octets: &[u8]) -> Option<(Item<'_>, usize)>
     ensures item { (limit : ℕ) → found_in result ≡ next true limit octets.now }
     ensures within { IfSome result (λ x. x.1 ≤ length octets.now) }
@@ -276,7 +278,7 @@ fn preface_item(octets: &[u8]) -> Option<(Item<'_>, usize)>
 
 /// The first frame or oversized head, and how many octets it takes.
 #[inline(always)]
-#[tactic(auto, unfolding(h2_spec::specs::Frame::next))]
+#[tactic(auto, unfolding(h2_spec::specs::Frames::Frame::next))]
 fn frame_item(octets: &[u8], limit: u32) -> Option<(Item<'_>, usize)>
     ensures item { found_in result ≡ next false limit octets.now }
     ensures within { IfSome result (λ x. x.1 ≤ length octets.now) }

@@ -1,15 +1,16 @@
 //! A case as the input of `explain FILE` and `debug --in FILE`: the words of its lines `;@` come after those of the command,
 //! and the octets of its script are the input.
 
+use crate::hex_of;
 use crate::input::read_file;
-use h2_cases::{ShellFault, add_case_words};
-use h2_console::hex_of;
-use h2_device::MAX_INPUT;
+use h2_cmd_args::Words;
+use h2_cmd_args::command::{Devices, Plan, Refusal};
+use h2_cmd_cases::{ShellFault, add_case_words, idle_place};
+use h2_io::MAX_INPUT;
 use h2_script::{ScriptFault, assemble};
-use h2_words::Words;
-use h2_words::command::{Devices, Plan, Refusal};
 use std::alloc::{AllocError, Global};
 use std::fs::Files;
+use std::io::ErrorKind;
 use std::path::{Path, PathBuf};
 use std::str;
 
@@ -20,13 +21,16 @@ pub struct CaseInput {
     pub words: Words,
     /// The octets of its script, as hex; of a pipe that is no case what it had.
     pub text: Vec<u8>,
+    /// The number of its first line that has a word without effect, if one has.
+    pub idle_line: Option<usize>,
 }
 
 /// The path of a file whose octets a command reads, and that may be a case; empty where there is none.
-fn path_of<'w>(asked: &Result<Plan<'w>, Refusal>, devices: Devices<'w>) -> &'w str {
+pub(crate) fn path_of<'w>(asked: &Result<Plan<'w>, Refusal>, devices: Devices<'w>) -> &'w str {
     match asked {
         _ if devices.raw => "",
-        Ok(Plan::Explain(explain)) => explain.file,
+        Ok(Plan::Explain(explain)) if explain.file != "" => explain.file,
+        Ok(Plan::Explain(_)) => devices.file,
         Ok(Plan::Debug(_)) => devices.file,
         _ => "",
     }
@@ -97,6 +101,31 @@ fn is_case(text: &str) -> bool {
     text.starts_with(';') && text.lines().filter(|line| line.starts_with(";# ")).count() < 2
 }
 
+/// The number of the first line with a word that has no effect in a case, if one has.
+fn idle_line(alloc: Global, text: &str) -> Result<Option<usize>, AllocError> {
+    let mut lines = Vec::new(alloc);
+    for line in text.split('\n') {
+        lines.push(line.as_bytes())?;
+    }
+    let place = idle_place(alloc, lines.as_slice())?;
+    Ok(place.map(|before| before.saturating_add(1)))
+}
+
+/// Why a case is refused that has a word without effect, if it has one.
+pub(crate) fn refusal_of_case(
+    rt: &HostRuntime,
+    path: &str,
+    case: &CaseInput,
+) -> Result<Option<String>, AllocError> {
+    let Some(line) = case.idle_line else {
+        return Ok(None);
+    };
+    let text = format!(in rt.alloc();
+        "error: {path}, line {line}: --in, --raw, --prompt and --quiet have no effect in a case\n"
+    )?;
+    Ok(Some(text))
+}
+
 /// What these octets of a file give a command, where they are a case that can be read.
 fn case_in(
     rt: &HostRuntime,
@@ -120,6 +149,7 @@ fn case_in(
             Ok(Some(CaseInput {
                 words,
                 text: hex_of(rt.alloc(), script.as_slice())?,
+                idle_line: idle_line(rt.alloc(), text)?,
             }))
         }
         None => Ok(None),
@@ -136,8 +166,10 @@ fn is_lasting(rt: &HostRuntime, path: &str) -> bool {
 
 /// What a file gives a command, where it is a case that can be read; and of a pipe what it had, since it can't be read again.
 fn case_at(rt: &HostRuntime, words: &Words, path: &str) -> Result<Option<CaseInput>, AllocError> {
-    let Ok(octets) = read_file(rt, path, MAX_INPUT) else {
-        return Ok(None);
+    let octets = match read_file(rt, path, MAX_INPUT) {
+        Ok(octets) => octets,
+        Err(ErrorKind::OutOfMemory) => return Err(AllocError),
+        Err(_) => return Ok(None),
     };
     let case = case_in(rt, words, path, octets.as_slice())?;
     if case.is_some() || is_lasting(rt, path) {
@@ -146,6 +178,7 @@ fn case_at(rt: &HostRuntime, words: &Words, path: &str) -> Result<Option<CaseInp
     Ok(Some(CaseInput {
         words: copy_of(rt.alloc(), words)?,
         text: octets,
+        idle_line: None,
     }))
 }
 

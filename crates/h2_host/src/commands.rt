@@ -1,10 +1,10 @@
-//! What does the commands. The program gives h2_run; nothing here knows what a command prints.
+//! What does the commands. The program gives h2_cmd_run; nothing here knows what a command prints.
 
 ghost use Rattle.std.specs.Prelude.{◌≡◌, false};
 
-use h2_book::Files;
-use h2_device::{Input, Output};
-use h2_words::command::{Plan, Refusal, Serve};
+use h2_cmd_args::command::{Plan, Refusal, Serve};
+use h2_cmd_book_file::Files;
+use h2_io::{Input, Output};
 use std::alloc::Global;
 use std::io::Write;
 

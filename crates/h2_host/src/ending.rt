@@ -3,11 +3,11 @@
 use crate::commands::Commands;
 use crate::files::failure_of;
 use crate::input::{Given, read_file};
-use h2_console::{Outcome, say_outcome, say_refused_words};
-use h2_device::MAX_INPUT;
-use h2_reasons::{InputSource, say_unread};
-use h2_words::Words;
-use h2_words::command::{Check, Plan, Refusal};
+use crate::{Outcome, say_outcome, say_refused_words};
+use h2_cmd_args::Words;
+use h2_cmd_args::command::{Check, Plan, Refusal};
+use h2_cmd_messages::{InputSource, say_unread};
+use h2_io::MAX_INPUT;
 use std::io::{ErrorKind, Write};
 use std::net::{IpAddr, Ipv4Addr, SocketAddr, TcpListener};
 use std::rt::Files;
@@ -37,11 +37,17 @@ fn read_again(rt: &HostRuntime, path: &str) -> Result<Vec<u8>, Option<ErrorKind>
 
 /// The outcome of a command over its input.
 fn outcome_of<'o, C: Commands>(given: &'o Given<'_, '_, C>, ending: Ending) -> Outcome<'o> {
+    let source = if given.taken.is_reader_failure() {
+        InputSource::Input
+    } else {
+        given.source
+    };
     Outcome {
         status: ending.status,
         is_said: ending.is_said,
-        source: given.source,
+        source,
         seen: given.taken.seen(),
+        count: given.taken.count(),
         is_cut: given.taken.is_cut(),
         failure: given.taken.failure(),
         unwritten: ending.unwritten,
@@ -54,7 +60,7 @@ fn say_of_file(
     plan: &Plan<'_>,
     path: &str,
     outcome: Outcome<'_>,
-    out: &mut h2_reasons::TextBuilder,
+    out: &mut h2_cmd_messages::TextBuilder,
 ) {
     let source = InputSource::File(path);
     match read_again(rt, path) {
@@ -66,6 +72,7 @@ fn say_of_file(
                 Outcome {
                     source,
                     seen,
+                    count: seen.len(),
                     ..outcome
                 },
                 out,
@@ -101,14 +108,14 @@ fn say_of_server(
     plan: &Plan<'_>,
     port: u32,
     outcome: Outcome<'_>,
-    out: &mut h2_reasons::TextBuilder,
+    out: &mut h2_cmd_messages::TextBuilder,
 ) {
     let failure = failure_of_port(rt, port);
     say_outcome(rt.alloc(), plan, Outcome { failure, ..outcome }, out);
 }
 
 /// Says which files of cases can't be read, and why.
-fn say_of_cases(rt: &HostRuntime, check: &Check<'_>, out: &mut h2_reasons::TextBuilder) {
+fn say_of_cases(rt: &HostRuntime, check: &Check<'_>, out: &mut h2_cmd_messages::TextBuilder) {
     for path in check.files.as_slice() {
         if let Some(kind) = failure_of(rt, path) {
             say_unread(InputSource::File(path), kind, out);
@@ -120,7 +127,7 @@ fn say_of_plan(
     rt: &HostRuntime,
     plan: &Plan<'_>,
     outcome: Outcome<'_>,
-    out: &mut h2_reasons::TextBuilder,
+    out: &mut h2_cmd_messages::TextBuilder,
 ) {
     match plan {
         Plan::Explain(explain) if explain.file != "" && outcome.unwritten.is_none() => {
@@ -144,7 +151,7 @@ pub fn end<C: Commands>(
     given: &Given<'_, '_, C>,
     ending: Ending,
 ) {
-    let mut out = h2_reasons::TextBuilder::new(rt.alloc());
+    let mut out = h2_cmd_messages::TextBuilder::new(rt.alloc());
     match asked {
         Ok(plan) => say_of_plan(rt, plan, outcome_of(given, ending), &mut out),
         Err(refusal) => say_refused_words(refusal, words.as_slice(), &mut out),

@@ -2,8 +2,8 @@
 
 ghost use Rattle.std.specs.Prelude.{◌≤◌, IfOk, None, false, vec_len};
 
-use h2_book::{Files, FilesFault, StdFiles, read_whole};
-use h2_console::WaitingInput;
+use crate::WaitingInput;
+use h2_cmd_book_file::{Files, FilesFault, StdFiles, read_whole};
 use std::alloc::Global;
 use std::io::ErrorKind;
 

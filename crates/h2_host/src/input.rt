@@ -2,18 +2,17 @@
 //! the octets themselves or their hex.
 
 use crate::commands::Commands;
-use crate::explained::SessionExplained;
 use crate::files::STANDARD_INPUT;
-use h2_book::{Files, FilesFault, StdFiles};
-use h2_console::{
-    Behind, Console, Front, Hexed, Manner, TakenInput, WaitingInput, WaitingOutput, hex_of,
-    one_line,
+use crate::session_explainer::SessionExplainer;
+use crate::{
+    Behind, Console, Front, Hexed, Manner, SessionState, TakenInput, WaitingInput, WaitingOutput,
+    hex_of, one_line,
 };
-use h2_device::MAX_INPUT;
-use h2_reasons::InputSource;
-use h2_words::command::{Batch, Check, Devices, Plan, Refusal};
+use h2_cmd_args::command::{Batch, Check, Devices, Plan, Refusal};
+use h2_cmd_book_file::{Files, FilesFault, StdFiles};
+use h2_cmd_messages::InputSource;
+use h2_io::MAX_INPUT;
 use std::alloc::AllocError;
-use std::cell::Cell;
 use std::io::{ErrorKind, Stderr, Stdin, Stdout};
 
 /// Standard output as the program writes to it.
@@ -26,7 +25,7 @@ type StandardInput<'r> = Hexed<WaitingInput<'r, HostRuntime, Stdin>>;
 pub type CommandInput<'r, 'c, C> = TakenInput<Lines<'r, 'c, C>>;
 
 /// What is read of standard input.
-type Lines<'r, 'c, C> = Behind<'c, StandardInput<'r>, Stdout, Stderr, SessionExplained<'r, 'c, C>>;
+type Lines<'r, 'c, C> = Behind<'c, StandardInput<'r>, Stdout, Stderr, SessionExplainer<'r, 'c, C>>;
 
 /// The input of a command, and what is known of it.
 #[derive(Drop)]
@@ -35,8 +34,8 @@ pub struct Given<'r, 'c, C> {
     pub taken: CommandInput<'r, 'c, C>,
     /// What it is called where a sentence names it.
     pub source: InputSource<'c>,
-    /// The position of a session.
-    pub position: &'c Cell<usize>,
+    /// What is known of a session.
+    pub state: &'c SessionState,
 }
 
 impl<C> Given<'_, '_, C> {
@@ -79,6 +78,12 @@ fn refusal_of(asked: &Result<Plan<'_>, Refusal>, devices: Devices<'_>) -> Option
     if let Ok(Plan::Check(check)) = asked {
         return refusal_of_check(check);
     }
+    if let Ok(Plan::Explain(explain)) = asked
+        && explain.file != ""
+        && devices.file != ""
+    {
+        return Some("error: FILE and --in FILE are two inputs: leave out one\n");
+    }
     if !is_session(asked) {
         return None;
     }
@@ -111,7 +116,7 @@ fn reads_input(plan: &Plan<'_>, devices: Devices<'_>) -> bool {
         Plan::Batch(_) => devices.file == "",
         Plan::Debug(_) => true,
         Plan::Serve(_) => false,
-        Plan::Explain(explain) => explain.file == "",
+        Plan::Explain(explain) => explain.file == "" && devices.file == "",
         Plan::Check(check) => check.files.iter().any(|file| *file == STANDARD_INPUT),
     }
 }
@@ -137,16 +142,16 @@ pub fn refusal_for_devices(
     }
 }
 
-/// The path of the file that is the input: that of `--in`; of `explain` its FILE, where it is a case, or the words say that
-/// it has the octets themselves, since the command itself reads hex. Empty where standard input, or the command itself, has
-/// the input.
+/// The path of the file that is the input: that of `--in`; of `explain` also its FILE, where it is a case, or the words say
+/// that it has the octets themselves, since the command itself reads hex. Empty where standard input, or the command itself,
+/// has the input.
 fn file_of<'w>(
     asked: &mut Result<Plan<'w>, Refusal>,
     devices: Devices<'w>,
     is_case: bool,
 ) -> &'w str {
     match asked {
-        Ok(Plan::Explain(explain)) if devices.raw || is_case => {
+        Ok(Plan::Explain(explain)) if explain.file != "" && (devices.raw || is_case) => {
             let file = explain.file;
             explain.file = "";
             file
@@ -157,7 +162,7 @@ fn file_of<'w>(
 
 /// Standard input.
 fn standard<'r>(rt: &'r HostRuntime, is_raw: bool) -> StandardInput<'r> {
-    Hexed::new(rt.alloc(), WaitingInput::new(rt, rt.stdin()), is_raw)
+    Hexed::new(WaitingInput::new(rt, rt.stdin()), is_raw)
 }
 
 /// What is read of standard input: its octets, or the lines of a console. Those of a session over a file are commands
@@ -166,8 +171,8 @@ fn behind<'r, 'c, C: Commands>(
     rt: &'r HostRuntime,
     devices: Devices<'_>,
     octets: Option<Vec<u8>>,
-    explainer: SessionExplained<'r, 'c, C>,
-    position: &'c Cell<usize>,
+    explainer: SessionExplainer<'r, 'c, C>,
+    state: &'c SessionState,
 ) -> Lines<'r, 'c, C> {
     if devices.prompt == "" {
         return Behind::Plain(standard(rt, devices.raw && octets.is_none()));
@@ -185,7 +190,7 @@ fn behind<'r, 'c, C: Commands>(
         rt.stdout(),
         rt.stderr(),
         manner,
-        position,
+        state,
     ))
 }
 
@@ -299,24 +304,24 @@ pub fn input_of<'r, 'c, 'w: 'c, C: Commands>(
     asked: &mut Result<Plan<'w>, Refusal>,
     devices: Devices<'w>,
     case: Option<Vec<u8>>,
-    position: &'c Cell<usize>,
+    state: &'c SessionState,
 ) -> Given<'r, 'c, C> {
     let path = file_of(asked, devices, case.is_some());
-    let explainer = SessionExplained::new(rt, commands, asked);
+    let explainer = SessionExplainer::new(rt, commands, asked);
     if path == "" {
-        let behind = behind(rt, devices, None, explainer, position);
+        let behind = behind(rt, devices, None, explainer, state);
         return Given {
             taken: TakenInput::new(Front::empty(rt.alloc()), behind),
             source: InputSource::Input,
-            position,
+            state,
         };
     }
     let (front, octets) = front_of(rt, asked, devices, path, case);
     refuse_for_memory(asked, front.failure);
-    let behind = behind(rt, devices, Some(octets), explainer, position);
+    let behind = behind(rt, devices, Some(octets), explainer, state);
     Given {
         taken: TakenInput::new(front, behind),
         source: InputSource::File(path),
-        position,
+        state,
     }
 }

@@ -1,16 +1,19 @@
 //! What `--version` prints.
 
-use h2_words::Words;
+use crate::second_look::refused_word;
+use h2_cmd_args::command::{Plan, Refusal};
 use std::io::Write;
 use std::process::ExitCode;
 
 /// The version of the project, as CHANGELOG.md has it, and the line of the kit that README.md names.
 const VERSION: &str = "h2_bench 0.2.0\nrattle-kit-13f logic dac8208d650f15bf\n";
 
-/// Whether the words ask for the version alone.
-pub fn is_asked(words: &Words) -> bool {
-    match words.as_slice() {
-        [_, word] => word.as_str() == "--version" || word.as_str() == "-V",
+/// Whether the words ask for the version: clap, which does not know it, refuses the word, wherever it is.
+pub fn is_asked(asked: &Result<Plan<'_>, Refusal>) -> bool {
+    match asked {
+        Err(Refusal::Words(printed)) => {
+            matches!(refused_word(printed.as_str()), Some("--version" | "-V"))
+        }
         _ => false,
     }
 }

@@ -5,7 +5,7 @@ use Rattle.std.proofs.lemmas.Nat.{pow_pos}
 use Rattle.std.proofs.Math.Nat.{pow-le-pow_right, pow-suc, mul-le-mul_right}
 use Rattle.std.proofs.Math.Numerals.{add-one}
 use Rattle.h2_spec.specs.Read.{Read, Whole, More, TooLong}
-use Rattle.h2_spec.specs.Integer.{IsReadOf, groups_at, groups_of, int_at, scaled, spell_int}
+use Rattle.h2_spec.specs.Hpack.Integer.{IsReadOf, groups_at, groups_of, int_at, scaled, spell_int}
 use Rattle.h2_spec.proofs.IntegerLaws.{int_read}
 
 -- a group before the number after it

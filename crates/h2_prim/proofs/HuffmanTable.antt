@@ -4,8 +4,8 @@ use Rattle.std.proofs.Math.ListN.{get_or-map}
 use Rattle.std.proofs.lemmas.List.{append-nil, take-append-drop}
 use Rattle.std.proofs.lemmas.Bool.{leb-true}
 use borrow.Author.Tests.{ltb-true}
-use Rattle.h2_spec.specs.HuffmanCode.{bits_of, code}
-use Rattle.h2_spec.specs.Huffman.{codes, ones, are_few_ones, IsText}
+use Rattle.h2_spec.specs.Hpack.HuffmanCode.{bits_of, code}
+use Rattle.h2_spec.specs.Hpack.Huffman.{codes, ones, are_few_ones, IsText}
 use Rattle.h2_spec.proofs.Computed.{and-left, and-right, same, same-is, begins, begins-is, all_from, all-at, all_below, below-at, both_from, both-at}
 use Rattle.h2_spec.proofs.HuffmanLaws.{NoneBegins, front_of_code, few-ones}
 use Rattle.h2_prim.specs.States.{places, path_of, IsRow, emitted, Leads}

@@ -5,8 +5,8 @@ use Rattle.std.proofs.lemmas.List.{append-nil, take_all, take_more_set, take-set
 use borrow.Author.Tests.{ltb-true}
 use Rattle.std.specs.Prelude.{IsErrOf}
 use Rattle.std.specs.Option.{unwrap_or}
-use Rattle.h2_spec.specs.HuffmanCode.{bits_of, code}
-use Rattle.h2_spec.specs.Huffman.{bits, codes, HasEos, IsDecodingOf, IsHuffman, IsPadding, IsText, HuffRead, huffman_text, Text, Eos, Padding}
+use Rattle.h2_spec.specs.Hpack.HuffmanCode.{bits_of, code}
+use Rattle.h2_spec.specs.Hpack.Huffman.{bits, codes, HasEos, IsDecodingOf, IsHuffman, IsPadding, IsText, HuffRead, huffman_text, Text, Eos, Padding}
 use Rattle.h2_spec.proofs.BitLaws.{length-bits_of, bits-more, bits_of-halves}
 use Rattle.h2_spec.proofs.HuffmanLaws.{codes-append, one_answer, is_padding, text_read}
 use Rattle.h2_spec.proofs.SpellingLaws.{length-bits}

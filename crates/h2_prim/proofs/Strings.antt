@@ -3,8 +3,8 @@ use Rattle.std.proofs.Common.{inl, inr, ◌≡◌, ℕ, ◌+◌, ◌<◌, ◌≤
 use Rattle.std.proofs.lemmas.Bool.{lt-leb}
 use Rattle.std.proofs.lemmas.Bool.Decides.{leb_tells}
 use Rattle.std.proofs.lemmas.List.{length-take-le}
-use Rattle.h2_spec.specs.Integer.{int_at, IsReadOf}
-use Rattle.h2_spec.specs.Instruction.{string_at, octets_at, read_then}
+use Rattle.h2_spec.specs.Hpack.Integer.{int_at, IsReadOf}
+use Rattle.h2_spec.specs.Hpack.Instruction.{string_at, octets_at, read_then}
 use Rattle.h2_spec.specs.Read.{Read, Whole, More, TooLong}
 use Rattle.h2_spec.proofs.IntegerLaws.{int_read}
 use Rattle.h2_prim.specs.Readings.{str}

@@ -2,8 +2,8 @@
 use Rattle.std.proofs.Common.{◌≡◌, ℕ, ◌+◌, ◌-◌, ◌*◌, ◌/◌, ◌%◌, ◌^◌, ◌<◌, ◌≤◌, List, [], ◌∷◌, ◌++◌, length, take, get_or, refl, ap, sym, subst, ◌∙◌, arith, length-append, append_assoc, Bool}
 use Rattle.std.proofs.lemmas.List.{append-nil, take_more}
 use Rattle.std.proofs.lemmas.List.Folds.{length-flat_map-take}
-use Rattle.h2_spec.specs.HuffmanCode.{bits_of, code}
-use Rattle.h2_spec.specs.Huffman.{bits, codes, ones, IsText, spell_huffman}
+use Rattle.h2_spec.specs.Hpack.HuffmanCode.{bits_of, code}
+use Rattle.h2_spec.specs.Hpack.Huffman.{bits, codes, ones, IsText, spell_huffman}
 use Rattle.h2_spec.proofs.BitLaws.{length-bits_of, bits_of-add, bits_of-full, pow-pos, cuts, bits-push, join-small}
 use Rattle.h2_spec.proofs.HuffmanLaws.{codes-push}
 use Rattle.h2_spec.proofs.SpellingLaws.{one_spelling}

@@ -8,7 +8,7 @@ use Rattle.h2_prim.specs.declared.string.StrAt.{StrAt}
 use Rattle.h2_prim.specs.declared.string.StrAt.TheVariants as at
 use Rattle.h2_prim.specs.declared.string.StrRead.{StrRead}
 use Rattle.h2_prim.specs.declared.string.StrRead.TheVariants as read
-use Rattle.h2_spec.specs.Instruction.{Str, TextStr}
+use Rattle.h2_spec.specs.Hpack.Instruction.{Str, TextStr}
 use Rattle.h2_spec.specs.Read.{Read, Whole, More, TooLong}
 
 abbrev pub int_read : IntRead → Read ℕ

@@ -2,8 +2,8 @@
 use Rattle.std.specs.Prelude.{◌≡◌, ℕ, ◌<◌, ◌≤◌, ◌%◌, Bool, List, [], ◌∷◌, ◌++◌, take, slice_index_or, nat_lt, if◌then◌else◌, Option, Some, None}
 use Rattle.h2_prim.specs.declared.fault.HuffFault.{HuffFault}
 use Rattle.h2_prim.specs.declared.fault.HuffFault.TheVariants as fault
-use Rattle.h2_spec.specs.HuffmanCode.{code}
-use Rattle.h2_spec.specs.Huffman.{HuffRead, Text, Eos, Padding, IsText, codes}
+use Rattle.h2_spec.specs.Hpack.HuffmanCode.{code}
+use Rattle.h2_spec.specs.Hpack.Huffman.{HuffRead, Text, Eos, Padding, IsText, codes}
 
 -- where each state is: within the code of a symbol, after that many bits of it; first the states of no ones to seven
 -- ones, and last that of the whole code of the end of a string

@@ -1,5 +1,5 @@
 //! What the reader of strings refuses, numbered as the faults of all crates are. What each fault means is `HasEos` and
-//! `IsPadding` of `h2_spec`, specs/Huffman.antt.
+//! `IsPadding` of `h2_spec`, specs/Hpack/Huffman.antt.
 
 ghost use Rattle.std.specs.Prelude.{◌≡◌};
 ghost use Rattle.h2_prim.specs.Readings.{number_of};

@@ -1,11 +1,11 @@
 //! Huffman strings (RFC 7541, 5.2 and Appendix B): how long one is, writing one, and reading one. Proofs tie the arrays
 //! of `tables` to the code of `h2_spec`; its definitions are `spell_huffman` and `huffman_text` of `h2_spec`,
-//! specs/Huffman.antt, and the law that these are what the RFC says is `h2_laws::huffman_laws`.
+//! specs/Hpack/Huffman.antt, and the law that these are what the RFC says is `h2_spec_laws::huffman_laws`.
 
 ghost use Rattle.std.specs.Prelude.{◌≡◌, ℕ, ◌+◌, ◌*◌, ◌/◌, ◌^◌, ◌<◌, ◌≤◌, ◌↔◌, ◌++◌, Bool, List, length, take, IfOk, OnOk, OnErr, IsErrOf};
 ghost use Rattle.std.specs.Vec.{vec_len, vec_capacity};
-ghost use Rattle.h2_spec.specs.HuffmanCode.{bits_of, code};
-ghost use Rattle.h2_spec.specs.Huffman.{HasEos, IsHuffman, IsPadding, bits, huffman_text, spell_huffman, Text, Eos, Padding};
+ghost use Rattle.h2_spec.specs.Hpack.HuffmanCode.{bits_of, code};
+ghost use Rattle.h2_spec.specs.Hpack.Huffman.{HasEos, IsHuffman, IsPadding, bits, huffman_text, spell_huffman, Text, Eos, Padding};
 ghost use Rattle.h2_prim.specs.States.{IsRow, Leads, Represents, Prints};
 ghost use Rattle.h2_prim.specs.Written.{Written};
 ghost use Rattle.h2_prim.specs.declared.fault.HuffFault.TheVariants as fault;
@@ -149,6 +149,8 @@ fn take_octet(text: &mut [u8], len: usize, row: usize, octet: u8) -> (usize, usi
     step(text, half.0, half.1, octet % 16)
 }
 
+// Each step writes, and the place advances only where a code is complete, so there is no branch to guess. A
+// state that nothing leaves follows EOS, so the loop has no test for it.
 /// Decodes the octets to the front of `text`; returns how many octets that is, and the state after them. Two octets are
 /// taken at a turn, and the last of an odd number by itself.
 fn decode(octets: &[u8], text: &mut [u8]) -> (usize, usize)

@@ -1,9 +1,9 @@
 //! Integers with a prefix of some bits of an octet (RFC 7541, 5.1). Its definitions are `int_at` and `spell_int` of
-//! `h2_spec`, specs/Integer.antt, and the law that these are what the RFC says is `h2_laws::integer_laws`.
+//! `h2_spec`, specs/Hpack/Integer.antt, and the law that these are what the RFC says is `h2_spec_laws::integer_laws`.
 
 ghost use Rattle.std.specs.Prelude.{◌≡◌, ◌+◌, ◌-◌, ◌%◌, ◌^◌, ◌<◌, ◌≤◌, ◌++◌, OnOk, OnErr};
 ghost use Rattle.std.specs.Vec.{vec_len, vec_capacity};
-ghost use Rattle.h2_spec.specs.Integer.{IsReadOf, groups_at, groups_of, int_at, spell_int};
+ghost use Rattle.h2_spec.specs.Hpack.Integer.{IsReadOf, groups_at, groups_of, int_at, spell_int};
 ghost use Rattle.h2_prim.specs.Readings.{int_read, IsSmall};
 
 use std::alloc::{AllocError, Allocator};

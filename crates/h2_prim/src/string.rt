@@ -1,10 +1,10 @@
 //! Strings of HPACK (RFC 7541, 5.2): a flag, a length, and octets that are the text or its Huffman string. The program
 //! does not call `read_str`, which is for users of the library: `find_str` lends the string, and its reader decodes it.
-//! Its definitions are `string_at` and `text_of` of `h2_spec`, specs/Instruction.antt.
+//! Its definitions are `string_at` and `text_of` of `h2_spec`, specs/Hpack/Instruction.antt.
 
 ghost use Rattle.std.specs.Prelude.{◌≡◌, ◌↔◌, ◌≤◌, ◌<◌, length, take, drop, Some, Ok, IfOk, IfSome, IsSome, IsErrOf};
-ghost use Rattle.h2_spec.specs.Huffman.{Text, Eos, Padding};
-ghost use Rattle.h2_spec.specs.Instruction.{string_at, text_of, text_str};
+ghost use Rattle.h2_spec.specs.Hpack.Huffman.{Text, Eos, Padding};
+ghost use Rattle.h2_spec.specs.Hpack.Instruction.{string_at, text_of, text_str};
 ghost use Rattle.h2_spec.specs.Read.{More, TooLong, read_map};
 ghost use Rattle.h2_prim.specs.Readings.{str, str_at, str_read, IsWhole};
 ghost use Rattle.h2_prim.specs.declared.fault.HuffFault.TheVariants as fault;

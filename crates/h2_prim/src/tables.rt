@@ -1,5 +1,6 @@
 //! The Huffman code as the program has it (RFC 7541, Appendix B): arrays by symbol for writing, and by state for
-//! reading. Each array is tied to the table of `h2_spec`, specs/HuffmanCode.antt, by a proof that computes over the
+//! reading. Each array is tied to the table of `h2_spec`, specs/Hpack/HuffmanCode.antt, by a proof that computes over
+//! the
 //! whole array (proofs/HuffmanTable.antt). Where a state is in the code is in specs/States.antt.
 
 /// How many bits the code of each octet has.
@@ -45,6 +46,9 @@ pub static CODES: [u32; 256] = [
     0xffffffe, 0x7ffffec, 0x7ffffed, 0x7ffffee, 0x7ffffef, 0x7fffff0, 0x3ffffee,
 ];
 
+// Four bits at a time: 257 states by 16 take 16 KB, stay in the nearest cache, and are one computed proof. A
+// move has the next state's row in its high 16 bits, and the octet in its low ones, with 256 more where one
+// is whole.
 /// What four bits do, at the sum of the row before them and the bits. A row is the place of the first of a state's 16
 /// moves, 16 times the state; the high 16 bits of a move are the next row. The low 16 bits are 256 more than the octet
 /// whose code the four bits make whole, and 0 where they make none.

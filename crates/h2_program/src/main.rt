@@ -3,13 +3,12 @@
 
 ghost use Rattle.std.specs.Prelude.{◌≡◌, false};
 
-use h2_book::Files;
-use h2_console::{Noted, ServerOutput, Stopwatch};
-use h2_device::{Input, IntoWrite, Output};
-use h2_host::{Commands, NamedFiles, answer};
-use h2_records::{record_of, refuse_record};
-use h2_run::{Keeper, NoKeeper, Plan, carry_out, serve};
-use h2_words::command::{Refusal, Serve};
+use h2_cmd_args::command::{Refusal, Serve};
+use h2_cmd_book_file::Files;
+use h2_cmd_run::{Keeper, NoKeeper, Plan, TcpPort, carry_out, serve};
+use h2_host::{Commands, NamedFiles, Noted, ServerOutput, Stopwatch, run_program};
+use h2_host_recording::{recordings_for, refuse_recording};
+use h2_io::{Input, IntoWrite, Output};
 use std::alloc::Global;
 use std::io::Write;
 use std::process::ExitCode;
@@ -32,9 +31,10 @@ fn serve_kept<'t, 'c, W: Write, K: Keeper>(
     let mut errors = IntoWrite::new(&mut stderr);
     let mut noted = Noted::new(&mut errors);
     let mut looked = ServerOutput::new(rt.alloc(), output, rt.stderr(), !plan.book.why, times);
+    let mut port = TcpPort::new(rt);
     let status = serve(
         rt.alloc(),
-        rt,
+        &mut port,
         plan,
         &mut files,
         keeper,
@@ -59,14 +59,14 @@ fn serve_over<'x, W: Write>(
     } else {
         None
     };
-    match record_of(rt, plan, times) {
+    match recordings_for(rt, plan, times) {
         None => serve_kept(rt, plan, times, &mut NoKeeper, output),
         Some(Ok(mut records)) => serve_kept(rt, plan, times, &mut records, output),
-        Some(Err(error)) => (refuse_record(rt, plan, &error, output), true),
+        Some(Err(error)) => (refuse_recording(rt, plan, &error, output), true),
     }
 }
 
-/// The commands as h2_run has them.
+/// The commands as h2_cmd_run has them.
 #[derive(Clone, Copy)]
 struct Program;
 
@@ -89,5 +89,5 @@ impl Commands for Program {
 }
 
 fn main(rt: HostRuntime) -> ExitCode {
-    answer(&rt, &Program)
+    run_program(&rt, &Program)
 }

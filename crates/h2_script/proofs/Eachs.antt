@@ -1,6 +1,6 @@
 -- What is said one after another: the step from one to the next.
 use Rattle.std.proofs.Common.{◌≡◌, ◌∙◌, ◌++◌, ◌==◌, ◌+◌, ◌-◌, ◌<◌, ℕ, Bool, true, false, suc, List, [], ◌∷◌, Option, Some, None, length, refl, sym, ap, arith, cond, option_map, option_and_then, flat_map, append_assoc, append-nil}
-use Rattle.h2_spec.specs.Assemble.{behind, each_at}
+use Rattle.h2_spec.specs.Texts.Assemble.{behind, each_at}
 use Rattle.h2_script.specs.Each.{behind_each}
 
 -- a turn is left

@@ -5,12 +5,12 @@ use Rattle.std.specs.String.{string_bytes}
 use Rattle.std.specs.declared.string.String.{String}
 use Rattle.std.proofs.lemmas.Grind.{flat_map-append}
 use Rattle.std.proofs.lemmas.List.{length-drop, length-take}
-use Rattle.h2_instruction.specs.Instructions.{IsWritable, IsWritableName, IsWritableText}
-use Rattle.h2_spec.specs.Huffman.{HuffRead, Text, Eos, Padding, IsDecodingOf, codes, huffman_text, ones}
-use Rattle.h2_spec.specs.Instruction.{Shape, Instruction, Indexed, Update, Literal, Mode, NameRef, Ref, Named, Str, TextStr, instr_at, instruction_at, instruction_of, literal_text, name_text, named_text, text_of, text_str, with_text}
+use Rattle.h2_hpack_instruction.specs.Instructions.{IsWritable, IsWritableName, IsWritableText}
+use Rattle.h2_spec.specs.Hpack.Huffman.{HuffRead, Text, Eos, Padding, IsDecodingOf, codes, huffman_text, ones}
+use Rattle.h2_spec.specs.Hpack.Instruction.{Shape, Instruction, Indexed, Update, Literal, Mode, NameRef, Ref, Named, Str, TextStr, instr_at, instruction_at, instruction_of, literal_text, name_text, named_text, text_of, text_str, with_text}
 use Rattle.h2_spec.specs.Read.{Read, Whole}
-use Rattle.h2_spec.specs.Script.{Instructions, Octets, instruction_octets}
-use Rattle.h2_spec.specs.Written.{block_said, each_text, first_said, instruction_text, instructions_in, is_writable, or_octets}
+use Rattle.h2_spec.specs.Texts.Script.{Instructions, Octets, instruction_octets}
+use Rattle.h2_spec.specs.Texts.Written.{block_said, each_text, first_said, instruction_text, instructions_in, is_writable, or_octets}
 use Rattle.h2_spec.proofs.HuffmanLaws.{text_read}
 use Rattle.h2_spec.proofs.InstructionLaws.{mapped, whole-takes}
 use Rattle.h2_spec.proofs.ReadShapes.{IsWholeName, IsWholeShape, OnRead, first_whole}

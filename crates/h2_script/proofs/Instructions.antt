@@ -1,9 +1,9 @@
 -- Instructions one after another: the octets so far, or that they are too many.
 use Rattle.std.proofs.Common.{◌≡◌, ◌∙◌, ◌++◌, ◌<◌, ℕ, Bool, suc, refl, List, Option, Some, None, Result, Ok, Err, IfOk, OnOk, length, sym, ap, subst, option_map, flat_map}
 use Rattle.std.specs.Result.{result_and}
-use Rattle.h2_spec.specs.Assemble.{all_at, behind, instruction_at}
-use Rattle.h2_spec.specs.Instruction.{Instruction}
-use Rattle.h2_spec.specs.Script.{Instructions, instruction_octets}
+use Rattle.h2_spec.specs.Texts.Assemble.{all_at, behind, instruction_at}
+use Rattle.h2_spec.specs.Hpack.Instruction.{Instruction}
+use Rattle.h2_spec.specs.Texts.Script.{Instructions, instruction_octets}
 use Rattle.h2_spec.proofs.ReadingWords.{map_some}
 use Rattle.h2_script.specs.Each.{behind_each}
 use Rattle.h2_script.specs.Readings.{AddsFirst, WrittenOut}

@@ -4,8 +4,8 @@ use Rattle.std.specs.List.{position_or_len}
 use Rattle.std.proofs.lemmas.List.{get_or-take, length-append, length-take-le}
 use Rattle.std.proofs.lemmas.List.Sums.{fails_before_first, prefix_len-le-length}
 use Rattle.std.proofs.lemmas.List.Splits.{slice_split_at, slice_split_none}
-use Rattle.h2_spec.specs.Assemble.{before, line_then, lines_at, statement_at, with_front, words_at}
-use Rattle.h2_spec.specs.Script.{Nothing, Statement, cut_at, lines_of, octets_of}
+use Rattle.h2_spec.specs.Texts.Assemble.{before, line_then, lines_at, statement_at, with_front, words_at}
+use Rattle.h2_spec.specs.Texts.Script.{Nothing, Statement, cut_at, lines_of, octets_of}
 use Rattle.h2_spec.specs.declared.scripts.SyntaxKind.{SyntaxKind}
 use Rattle.h2_spec.proofs.ReadingWords.{cut_back, cut_none}
 use Rattle.h2_spec.proofs.ScriptTexts.{Lacks}

@@ -6,12 +6,12 @@ use Rattle.std.proofs.lemmas.List.Sums.{AllPass-from_list_all}
 use Rattle.std.proofs.lemmas.List.FromFn.{get_or-range_with_len, length-range_with_len}
 use Rattle.hex.specs.Hex.{IsBytes}
 use Rattle.hex.proofs.HexLemmas.{decode_of-ok}
-use Rattle.h2_spec.specs.Assemble.{instruction_at}
-use Rattle.h2_spec.specs.Huffman.{codes}
-use Rattle.h2_spec.specs.HuffmanCode.{code}
-use Rattle.h2_spec.specs.Instruction.{Instruction, Indexed, Update, Literal, Mode, NameRef, Ref, Named, TextStr, coded, coded_name, spell, spell_name, spell_string}
-use Rattle.h2_spec.specs.Integer.{spell_int}
-use Rattle.h2_spec.specs.Script.{instruction_octets, is_plain, SaysCharacter, SaysInstruction, SaysName, SaysText}
+use Rattle.h2_spec.specs.Texts.Assemble.{instruction_at}
+use Rattle.h2_spec.specs.Hpack.Huffman.{codes}
+use Rattle.h2_spec.specs.Hpack.HuffmanCode.{code}
+use Rattle.h2_spec.specs.Hpack.Instruction.{Instruction, Indexed, Update, Literal, Mode, NameRef, Ref, Named, TextStr, coded, coded_name, spell, spell_name, spell_string}
+use Rattle.h2_spec.specs.Hpack.Integer.{spell_int}
+use Rattle.h2_spec.specs.Texts.Script.{instruction_octets, is_plain, SaysCharacter, SaysInstruction, SaysName, SaysText}
 use Rattle.h2_spec.proofs.ReadingInstructions.{instruction_back}
 use Rattle.h2_spec.proofs.SpellingLaws.{length-spell_huffman}
 use Rattle.h2_script.specs.Writable.{can_write, can_write_name}

@@ -1,7 +1,7 @@
 -- The octets of payloads that a text says in hex or as settings.
 use Rattle.std.proofs.Common.{◌≡◌, ℕ, List, ◌∷◌, Option, Some, None, option_map, flat_map, refl}
-use Rattle.h2_spec.specs.Assemble.{all_at, instruction_at, number_at, octets_at, payload_at, setting_at}
-use Rattle.h2_spec.specs.Script.{Code, Increment, Instructions, Octets, Pairs, payload_octets, setting_octets}
+use Rattle.h2_spec.specs.Texts.Assemble.{all_at, instruction_at, number_at, octets_at, payload_at, setting_at}
+use Rattle.h2_spec.specs.Texts.Script.{Code, Increment, Instructions, Octets, Pairs, payload_octets, setting_octets}
 
 -- a text of octets in hex
 pub payload_hex : (text rest : List ℕ) (form : ℕ) → text ≡ form ∷ rest → form ≡ 120 → option_map Octets (octets_at rest) ≡ payload_at text

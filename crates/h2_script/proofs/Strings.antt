@@ -2,8 +2,8 @@
 use Rattle.std.proofs.Common.{◌≡◌, ◌∙◌, ◌+◌, ◌/◌, ◌%◌, ◌++◌, ◌==◌, ◌<◌, ◌≤◌, ℕ, Bool, true, false, List, [], ◌∷◌, Option, Some, None, length, drop, refl, sym, ap, arith, cond, option_map, append_assoc, append-nil, eqb-true, drop_of_length-le, slice_index}
 use Rattle.std.proofs.lemmas.List.{drop-drop}
 use Rattle.hex.specs.Hex.{encode_lower, encode_with, lower_digits}
-use Rattle.h2_spec.specs.Assemble.{octet_at, unescaped, with_octet}
-use Rattle.h2_spec.specs.Script.{is_plain}
+use Rattle.h2_spec.specs.Texts.Assemble.{octet_at, unescaped, with_octet}
+use Rattle.h2_spec.specs.Texts.Script.{is_plain}
 use Rattle.h2_script.specs.Characters.{character_at, escaped_at}
 
 -- the octets after those that were written

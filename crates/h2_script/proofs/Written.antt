@@ -4,12 +4,12 @@ use Rattle.std.specs.Cmp.Lexicographic.{same_text}
 use Rattle.std.specs.List.{starts_with}
 use Rattle.std.proofs.lemmas.List.{length-drop, length-take, length-take-le}
 use Rattle.hex.specs.Hex.{IsBytes}
-use Rattle.h2_spec.specs.Frame.{head_at, head_of, preface}
+use Rattle.h2_spec.specs.Frames.Frame.{head_at, head_of, preface}
 use Rattle.h2_spec.specs.Octets.{four_octets, two_octets}
-use Rattle.h2_spec.specs.Parse.{One, Stop, parse_upto}
-use Rattle.h2_spec.specs.Payload.{setting_pairs}
-use Rattle.h2_spec.specs.Script.{Statement, Preface}
-use Rattle.h2_spec.specs.Written.{each_text, frame_said, line_text, next_said, rest_text, setting_text}
+use Rattle.h2_spec.specs.Frames.Parse.{One, Stop, parse_upto}
+use Rattle.h2_spec.specs.Frames.Payload.{setting_pairs}
+use Rattle.h2_spec.specs.Texts.Script.{Statement, Preface}
+use Rattle.h2_spec.specs.Texts.Written.{each_text, frame_said, line_text, next_said, rest_text, setting_text}
 use Rattle.h2_spec.specs.declared.frames.Head.{Head}
 use Rattle.h2_script.specs.Texts.{said_text}
 

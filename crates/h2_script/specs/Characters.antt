@@ -1,7 +1,7 @@
 -- One octet at the front of a text between quotes.
 use Rattle.std.specs.Prelude.{ℕ, ◌==◌, List, [], ◌∷◌, Option, Some, None, option_map, if◌then◌else◌}
-use Rattle.h2_spec.specs.Assemble.{octet_at}
-use Rattle.h2_spec.specs.Script.{is_plain}
+use Rattle.h2_spec.specs.Texts.Assemble.{octet_at}
+use Rattle.h2_spec.specs.Texts.Script.{is_plain}
 
 -- an octet of two hex digits after a backslash
 abbrev pub escaped_at : List ℕ → Option (ℕ × ℕ)

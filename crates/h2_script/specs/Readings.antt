@@ -1,7 +1,7 @@
 -- What the code read, beside what reading gives.
 use Rattle.std.specs.Prelude.{◌≡◌, ◌≤◌, ◌==◌, ◌^◌, ◌++◌, ℕ, Bool, true, false, List, [], ◌∷◌, length, Option, Some, None, Result, Ok, Err}
-use Rattle.h2_spec.specs.Instruction.{Instruction}
-use Rattle.h2_spec.specs.Script.{Bad, Payload, Statement, instruction_octets, octets_of, payload_octets}
+use Rattle.h2_spec.specs.Hpack.Instruction.{Instruction}
+use Rattle.h2_spec.specs.Texts.Script.{Bad, Payload, Statement, instruction_octets, octets_of, payload_octets}
 use Rattle.h2_spec.specs.declared.scripts.SyntaxKind.{SyntaxKind}
 use Rattle.h2_script.specs.declared.built.Built.{Built}
 use Rattle.h2_script.specs.declared.built.Built.TheVariants as built

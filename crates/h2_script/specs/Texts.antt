@@ -2,15 +2,15 @@
 use Rattle.std.specs.Prelude.{◌≡◌, ◌<◌, ◌≤◌, ◌^◌, ◌++◌, ◌∷◌, [], ◌&&◌, ℕ, Bool, true, false, List, nat_lt, drop, length, take, flat_map, Option, Some, None}
 use Rattle.std.specs.declared.string.String.{String}
 use Rattle.std.specs.String.{string_bytes}
-use Rattle.h2_instruction.specs.Instructions.{instr_of}
-use Rattle.h2_instruction.specs.declared.instruction.Instr.{Instr}
+use Rattle.h2_hpack_instruction.specs.Instructions.{instr_of}
+use Rattle.h2_hpack_instruction.specs.declared.instruction.Instr.{Instr}
 use Rattle.hex.specs.Hex.{encode_lower}
-use Rattle.h2_spec.specs.Frame.{head_at}
-use Rattle.h2_spec.specs.Instruction.{Instruction, NameRef, Ref, Named, TextStr}
-use Rattle.h2_spec.specs.Parse.{Front, Stop, One, parse_upto}
+use Rattle.h2_spec.specs.Frames.Frame.{head_at}
+use Rattle.h2_spec.specs.Hpack.Instruction.{Instruction, NameRef, Ref, Named, TextStr}
+use Rattle.h2_spec.specs.Frames.Parse.{Front, Stop, One, parse_upto}
 use Rattle.h2_spec.specs.Read.{Read, Whole}
-use Rattle.h2_spec.specs.Script.{Payload, Octets, Instructions, Statement, instruction_octets}
-use Rattle.h2_spec.specs.Written.{each_text, first_said, instruction_text, is_writable, line_text, next_said, rest_text, stream_text, type_text}
+use Rattle.h2_spec.specs.Texts.Script.{Payload, Octets, Instructions, Statement, instruction_octets}
+use Rattle.h2_spec.specs.Texts.Written.{each_text, first_said, instruction_text, is_writable, line_text, next_said, rest_text, stream_text, type_text}
 use Rattle.h2_spec.specs.declared.frames.Head.{Head}
 
 -- the lines of at most this many statements, and of the rest

@@ -1,7 +1,7 @@
 -- Instructions within what can be written out.
 use Rattle.std.specs.Prelude.{ℕ, ◌&&◌, Bool, List, length, nat_le, nat_lt, Option, option_map, option_and_then}
-use Rattle.h2_spec.specs.Assemble.{before, index_of, number_at, onwards}
-use Rattle.h2_spec.specs.Instruction.{Instruction, Indexed, Update, Literal, NameRef, Ref, Named, TextStr}
+use Rattle.h2_spec.specs.Texts.Assemble.{before, index_of, number_at, onwards}
+use Rattle.h2_spec.specs.Hpack.Instruction.{Instruction, Indexed, Update, Literal, NameRef, Ref, Named, TextStr}
 
 abbrev pub can_write_name : NameRef TextStr → Bool
 can_write_name (Ref i) = nat_lt 0 i && nat_lt i 4294967296

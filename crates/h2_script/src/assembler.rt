@@ -1,9 +1,9 @@
-//! Assembling a script, line by line. The definitions are `Script` and `Bad` of `h2_spec`, specs/Script.antt, and
-//! `assembled`, specs/Assemble.antt, which computes them.
+//! Assembling a script, line by line. The definitions are `Script` and `Bad` of `h2_spec`, specs/Texts/Script.antt, and
+//! `assembled`, specs/Texts/Assemble.antt, which computes them.
 
 ghost use Rattle.std.specs.Prelude.{◌+◌, ◌<◌, IfErr, IfOk};
-ghost use Rattle.h2_spec.specs.Assemble.{assembled, lines_at, statement_at};
-ghost use Rattle.h2_spec.specs.Script.{Script, lines_of};
+ghost use Rattle.h2_spec.specs.Texts.Assemble.{assembled, lines_at, statement_at};
+ghost use Rattle.h2_spec.specs.Texts.Script.{Script, lines_of};
 ghost use Rattle.h2_script.specs.Readings.{AddsAt, Assembles, NamesBadLine};
 
 use crate::fault::{LineFault, ScriptFault};
@@ -18,7 +18,7 @@ use std::alloc::Allocator;
 /// `Syntax(line, kind)` where a line says nothing: the first such line, counted from 1, and the least kind of fault
 /// in it;
 /// `NoMemory` where memory was refused before that was found.
-#[tactic(auto, unfolding(h2_spec::specs::Assemble::assembled))]
+#[tactic(auto, unfolding(h2_spec::specs::Texts::Assemble::assembled))]
 pub fn assemble<A: Allocator + Copy>(alloc: A, text: &str) -> Result<Vec<u8, A>, ScriptFault>
     ensures value { Assembles (λ v. v.items) result (assembled text.now) }
     ensures script { IfOk result (λ v. Script text.now v.items) }

@@ -1,5 +1,5 @@
 //! The octets of a payload that a text says. What a payload represents is `payload_octets` of `h2_spec`,
-//! specs/Script.antt.
+//! specs/Texts/Script.antt.
 
 use std::alloc::Allocator;
 

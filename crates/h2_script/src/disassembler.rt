@@ -1,12 +1,13 @@
-//! Disassembling octets, frame by frame. The definition is `written` of `h2_spec`, specs/Written.antt, and the law that
-//! this is a script of the octets is `h2_laws::script_laws::what_is_written_assembles_to_its_octets`.
+//! Disassembling octets, frame by frame. The definition is `written` of `h2_spec`, specs/Texts/Written.antt, and the
+//! law that
+//! this is a script of the octets is `h2_spec_laws::script_laws::what_is_written_assembles_to_its_octets`.
 
 ghost use Rattle.std.specs.Prelude.{◌≡◌, ◌<◌, ◌≤◌, ◌^◌, ◌++◌, ◌&&◌, true, nat_eq, length, option_map, IfOk, IfSome, OnOk};
 ghost use Rattle.std.specs.List.{starts_with};
 ghost use Rattle.std.specs.String.{string_bytes};
-ghost use Rattle.h2_spec.specs.Frame.{preface};
-ghost use Rattle.h2_spec.specs.Script.{Script};
-ghost use Rattle.h2_spec.specs.Written.{frame_said, line_text, next_said, rest_text, written};
+ghost use Rattle.h2_spec.specs.Frames.Frame.{preface};
+ghost use Rattle.h2_spec.specs.Texts.Script.{Script};
+ghost use Rattle.h2_spec.specs.Texts.Written.{frame_said, line_text, next_said, rest_text, written};
 ghost use Rattle.h2_script.specs.Texts.{IsFrame, IsNext, head_text, said_text};
 
 use crate::said::push_payload;
@@ -21,7 +22,7 @@ use std::alloc::{AllocError, Allocator};
 /// # Errors
 ///
 /// `AllocError` where memory was refused.
-#[tactic(auto, unfolding(h2_spec::specs::Written::written, h2_spec::specs::Parse::parse_all))]
+#[tactic(auto, unfolding(h2_spec::specs::Texts::Written::written, h2_spec::specs::Frames::Parse::parse_all))]
 pub fn disassemble<A: Allocator + Copy>(alloc: A, octets: &[u8]) -> Result<String<A>, AllocError>
     ensures value { IfOk result (λ t. string_bytes t ≡ written octets.now) }
     ensures assembles { IfOk result (λ t. Script (string_bytes t) octets.now) }
@@ -52,7 +53,7 @@ fn push_all<A: Allocator + Copy>(
 }
 
 /// Appends the line of what is at the front of octets, if it is whole; returns how many octets it takes.
-#[tactic(auto, unfolding(h2_spec::specs::Frame::preface))]
+#[tactic(auto, unfolding(h2_spec::specs::Frames::Frame::preface))]
 fn push_next<A: Allocator + Copy>(
     alloc: A,
     first: bool,
@@ -88,7 +89,7 @@ fn first_frame(octets: &[u8]) -> Option<(Head, &[u8])>
 }
 
 /// Whether octets begin with the client's preface, where it is allowed (RFC 9113, 3.4).
-#[tactic(auto, unfolding(h2_spec::specs::Frame::preface))]
+#[tactic(auto, unfolding(h2_spec::specs::Frames::Frame::preface))]
 fn begins_with_preface(first: bool, octets: &[u8]) -> bool
     ensures { result ≡ (first && starts_with nat_eq octets.now preface) }
 {

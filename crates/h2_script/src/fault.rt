@@ -1,8 +1,8 @@
 //! Why a text is no script, numbered as the faults of all crates are. What each means is `HasFault` of `h2_spec`,
-//! specs/Script.antt.
+//! specs/Texts/Script.antt.
 
 ghost use Rattle.std.specs.Prelude.{◌≡◌};
-ghost use Rattle.h2_spec.specs.Script.{kind_number};
+ghost use Rattle.h2_spec.specs.Texts.Script.{kind_number};
 ghost use Rattle.h2_script.specs.Faults.{number_of};
 
 use h2_spec::scripts::SyntaxKind;

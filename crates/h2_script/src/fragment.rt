@@ -1,19 +1,19 @@
 //! A fragment of a field block as text: its instructions, or hex where a script would spell them in other octets. The
-//! definitions are `block_said` and `instruction_text` of `h2_spec`, specs/Written.antt.
+//! definitions are `block_said` and `instruction_text` of `h2_spec`, specs/Texts/Written.antt.
 
 ghost use Rattle.std.specs.Prelude.{◌≡◌, ◌<◌, ◌^◌, ◌++◌, ◌∷◌, [], length, IfOk, OnOk, true, bytes_eq, if◌then◌else◌, Some, None};
 ghost use Rattle.std.specs.String.{string_bytes};
-ghost use Rattle.h2_instruction.specs.Instructions.{instr_of, name_text_of, IsWritable};
-ghost use Rattle.h2_instruction.specs.Shapes.{mode_of};
-ghost use Rattle.h2_spec.specs.Instruction as spec;
-ghost use Rattle.h2_spec.specs.Script.{instruction_octets, mode_letter};
-ghost use Rattle.h2_spec.specs.Written.{block_said, instruction_text, is_writable, name_text, payload_text, string_text};
+ghost use Rattle.h2_hpack_instruction.specs.Instructions.{instr_of, name_text_of, IsWritable};
+ghost use Rattle.h2_hpack_instruction.specs.Shapes.{mode_of};
+ghost use Rattle.h2_spec.specs.Hpack.Instruction as spec;
+ghost use Rattle.h2_spec.specs.Texts.Script.{instruction_octets, mode_letter};
+ghost use Rattle.h2_spec.specs.Texts.Written.{block_said, instruction_text, is_writable, name_text, payload_text, string_text};
 ghost use Rattle.h2_script.specs.Texts.{AddsText, IsBlockText, IsFirstSaid, SaysFirst, is_writable_name};
 
 use crate::said::push_hex;
 use crate::text::{push_number, push_numbered, push_string};
-use h2_instruction::fault::BlockFault;
-use h2_instruction::instruction::{
+use h2_hpack_instruction::fault::BlockFault;
+use h2_hpack_instruction::instruction::{
     HpackString, Instr, InstrRead, Mode, Name, read_instr, write_instr,
 };
 use h2_spec::octets::octets_from;
@@ -57,6 +57,8 @@ fn instructions_text<A: Allocator + Copy>(
     Ok(if_spelled(text, octets.as_slice(), payload))
 }
 
+// A payload is written as instructions exactly where encoding them gives these octets. They are encoded and
+// compared, so no second reading of the rules can differ.
 /// The text of instructions, where the octets that a script spells for it are the payload.
 fn if_spelled<A: Allocator>(text: String<A>, octets: &[u8], payload: &[u8]) -> Option<String<A>>
     ensures { result ≡ if bytes_eq octets.now payload.now then Some text else None }
@@ -128,7 +130,7 @@ fn is_writable<A: Allocator>(instr: &Instr<A>) -> bool
     }
 }
 
-/// The same of the name of a literal.
+/// Whether a script can write the number in the name of a literal.
 fn is_writable_name<A: Allocator>(name: &Name<A>) -> bool
     ensures { result ≡ is_writable_name (name_text_of name.now) }
 {

@@ -1,19 +1,20 @@
-//! Instructions of a field block in a script. The definition is `instruction_at` of `h2_spec`, specs/Assemble.antt.
+//! Instructions of a field block in a script. The definition is `instruction_at` of `h2_spec`,
+//! specs/Texts/Assemble.antt.
 
 ghost use Rattle.std.specs.Prelude.{◌≡◌, ◌≤◌, ◌^◌, ◌++◌, ℕ, List, length, nat_le, slice_index, option_map, option_and_then, IfOk, OnOk, true, false, Some};
-ghost use Rattle.h2_instruction.specs.Instructions.{instr_of, name_text_of, IsWritable, IsWritableName, IsWritableText};
-ghost use Rattle.h2_instruction.specs.Shapes.{mode_of};
-ghost use Rattle.h2_spec.specs.Assemble.{all_at, instruction_at, is_quote, literal_at, name_at, numbered_at, string_at, string_of, value_at};
-ghost use Rattle.h2_spec.specs.Instruction.{Indexed, Update};
-ghost use Rattle.h2_spec.specs.Script.{Instructions, Payload, cut_at, instruction_octets, payload_octets};
+ghost use Rattle.h2_hpack_instruction.specs.Instructions.{instr_of, name_text_of, IsWritable, IsWritableName, IsWritableText};
+ghost use Rattle.h2_hpack_instruction.specs.Shapes.{mode_of};
+ghost use Rattle.h2_spec.specs.Texts.Assemble.{all_at, instruction_at, is_quote, literal_at, name_at, numbered_at, string_at, string_of, value_at};
+ghost use Rattle.h2_spec.specs.Hpack.Instruction.{Indexed, Update};
+ghost use Rattle.h2_spec.specs.Texts.Script.{Instructions, Payload, cut_at, instruction_octets, payload_octets};
 ghost use Rattle.h2_script.specs.Readings.{AddsFirst, IsBuilt, WrittenOut};
 ghost use Rattle.h2_script.specs.Writable.{can_write, can_write_name, indexed_name};
 
 use crate::built::Built;
 use crate::number::number_at;
 use crate::words::{after, cut, split_before, unescaped};
-use h2_instruction::instruction::{HpackString, Instr, Mode, Name, write_instr};
-use h2_instruction::octets::Octets;
+use h2_hpack_instruction::instruction::{HpackString, Instr, Mode, Name, write_instr};
+use h2_hpack_instruction::octets::Octets;
 use std::alloc::{AllocError, Allocator};
 
 /// The octets of instructions with commas between.
@@ -85,7 +86,7 @@ fn push_instr<A: Allocator, B: Allocator>(
 }
 
 /// The instruction at the front of a text, and what follows it.
-#[tactic(auto, unfolding(h2_spec::specs::Assemble::instruction_at))]
+#[tactic(auto, unfolding(h2_spec::specs::Texts::Assemble::instruction_at))]
 fn instruction_at<A: Allocator + Copy>(
     alloc: A,
     text: &[u8],
@@ -238,7 +239,7 @@ pub(crate) fn can_write<A: Allocator>(instr: &Instr<A>) -> bool
     }
 }
 
-/// The same of the name of a literal.
+/// Whether the name of a literal is within what `write_instr` takes.
 fn can_write_name<A: Allocator>(name: &Name<A>) -> bool
     ensures value { result ≡ can_write_name (name_text_of name.now) }
     ensures writable { result ≡ true → IsWritableName (name_text_of name.now) }

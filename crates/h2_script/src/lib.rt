@@ -1,5 +1,5 @@
 //! Scripts of frames: the octets that a text represents, and the text that is written for octets. The definitions are
-//! Script, Assemble and Written of `h2_spec`; their laws are in `h2_laws::script_laws`.
+//! Script, Assemble and Written of `h2_spec`; their laws are in `h2_spec_laws::script_laws`.
 #![tactic(auto)]
 
 mod assembler;

@@ -1,9 +1,10 @@
-//! One line of a script: what it says, as octets. The definition is `statement_at` of `h2_spec`, specs/Assemble.antt.
+//! One line of a script: what it says, as octets. The definition is `statement_at` of `h2_spec`,
+//! specs/Texts/Assemble.antt.
 
 ghost use Rattle.std.specs.Prelude.{◌≡◌, ◌⊎◌, ◌+◌, ◌^◌, ◌<◌, ◌≤◌, ◌++◌, ◌∷◌, if◌then◌else◌, ℕ, List, Some, None, length, OnOk, IfErr, IfSome};
-ghost use Rattle.h2_spec.specs.Assemble.{frame_at, frame_of, octet_at, raw_at, statement_at, stream_at, type_at, words_at};
+ghost use Rattle.h2_spec.specs.Texts.Assemble.{frame_at, frame_of, octet_at, raw_at, statement_at, stream_at, type_at, words_at};
 ghost use Rattle.h2_spec.specs.Octets.{big_endian};
-ghost use Rattle.h2_spec.specs.Script.{stream_octets};
+ghost use Rattle.h2_spec.specs.Texts.Script.{stream_octets};
 ghost use Rattle.h2_script.specs.Readings.{Adds, says_nothing};
 ghost use Rattle.h2_spec.specs.declared.scripts.SyntaxKind.TheVariants.{Size};
 ghost use Rattle.h2_script.specs.declared.fault.LineFault.TheVariants.{Bad, NoMemory};
@@ -14,7 +15,7 @@ use crate::number::number_at;
 use crate::payload::payload_at;
 use crate::words::{after, cut, is_word, octets_at};
 use h2_frame::append_frame;
-use h2_hex::octet_of;
+use h2_io::octet_of;
 use h2_spec::frames::{PREFACE, type_named};
 use h2_spec::scripts::SyntaxKind;
 use std::alloc::Allocator;
@@ -48,7 +49,7 @@ fn says_nothing(line: &[u8]) -> bool
 }
 
 /// Appends the octets of a line that is one word.
-#[tactic(auto, unfolding(h2_spec::specs::Frame::preface))]
+#[tactic(auto, unfolding(h2_spec::specs::Frames::Frame::preface))]
 fn add_word<A: Allocator>(line: &[u8], out: &mut Vec<u8, A>) -> Result<(), LineFault>
     ensures { Adds out.old.items out.new.items result (words_at line.now None) }
 {
@@ -145,7 +146,7 @@ fn flags_at(text: &[u8]) -> Option<u8>
 }
 
 /// Appends a frame with this reserved bit, unless its payload is longer than a frame's can be (RFC 9113, 4.1).
-#[tactic(auto, unfolding(h2_spec::specs::Frame::frame_octets))]
+#[tactic(auto, unfolding(h2_spec::specs::Frames::Frame::frame_octets))]
 fn push_frame<A: Allocator>(
     kind: u8,
     flags: u8,

@@ -1,7 +1,7 @@
-//! Numbers in scripts and commands. The definitions are in `h2_spec`, specs/Assemble.antt, under the same names.
+//! Numbers in scripts and commands. The definitions are in `h2_spec`, specs/Texts/Assemble.antt, under the same names.
 
 ghost use Rattle.std.specs.Prelude.{◌≡◌, ◌≤◌, ◌&&◌, nat_le, nat_lt, length, IfSome};
-ghost use Rattle.h2_spec.specs.Assemble.{number_at, scanned};
+ghost use Rattle.h2_spec.specs.Texts.Assemble.{number_at, scanned};
 
 /// The number that at most ten decimal digits write.
 fn digits_at(text: &[u8]) -> Option<u64>

@@ -1,9 +1,9 @@
-//! The forms of a payload in a script. The definition is `payload_at` of `h2_spec`, specs/Assemble.antt.
+//! The forms of a payload in a script. The definition is `payload_at` of `h2_spec`, specs/Texts/Assemble.antt.
 
 ghost use Rattle.std.specs.Prelude.{◌≡◌, ◌++◌, ◌==◌, if◌then◌else◌, length, option_map, flat_map, IfOk, OnOk, Option, Some, None};
-ghost use Rattle.h2_spec.specs.Assemble.{all_at, number_at, payload_at, setting_at};
+ghost use Rattle.h2_spec.specs.Texts.Assemble.{all_at, number_at, payload_at, setting_at};
 ghost use Rattle.h2_spec.specs.Octets.{big_endian};
-ghost use Rattle.h2_spec.specs.Script.{Payload, Code, Empty, Increment, payload_octets, setting_octets};
+ghost use Rattle.h2_spec.specs.Texts.Script.{Payload, Code, Empty, Increment, payload_octets, setting_octets};
 ghost use Rattle.h2_script.specs.Readings.{IsBuilt};
 
 use crate::built::Built;
@@ -13,7 +13,7 @@ use crate::words::{after, cut, octets_at, split_before};
 use std::alloc::{AllocError, Allocator};
 
 /// The payload that a text says; none where it is of no form.
-#[tactic(auto, unfolding(h2_spec::specs::Assemble::payload_at))]
+#[tactic(auto, unfolding(h2_spec::specs::Texts::Assemble::payload_at))]
 pub(crate) fn payload_at<A: Allocator + Copy>(
     alloc: A,
     text: &[u8],
@@ -105,7 +105,7 @@ fn settings_at<A: Allocator>(alloc: A, text: &[u8]) -> Result<Option<Vec<u8, A>>
 }
 
 /// The setting at the front of a text, and what follows it.
-#[tactic(auto, unfolding(h2_spec::specs::Assemble::setting_at))]
+#[tactic(auto, unfolding(h2_spec::specs::Texts::Assemble::setting_at))]
 fn setting_at(text: &[u8]) -> Option<((u16, u32), &[u8])>
     ensures { option_map (λ p. (p.0, p.1.now)) result ≡ setting_at text.now }
 {

@@ -1,13 +1,13 @@
 //! The payload of a frame as text, in the form that its type and flags ask for. The definitions are `payload_said` and
-//! `payload_text` of `h2_spec`, specs/Written.antt.
+//! `payload_text` of `h2_spec`, specs/Texts/Written.antt.
 
 ghost use Rattle.std.specs.Prelude.{◌≡◌, ◌<◌, ◌≤◌, ◌^◌, ◌++◌, ◌%◌, length, OnOk};
 ghost use Rattle.std.specs.Fmt.{decimal};
 ghost use Rattle.std.specs.String.{string_bytes};
 ghost use Rattle.h2_spec.specs.Octets.{four_octets, two_octets};
-ghost use Rattle.h2_spec.specs.Payload.{setting_pairs};
-ghost use Rattle.h2_spec.specs.Script.{Octets};
-ghost use Rattle.h2_spec.specs.Written.{each_text, is_fragment, payload_said, payload_text, setting_text};
+ghost use Rattle.h2_spec.specs.Frames.Payload.{setting_pairs};
+ghost use Rattle.h2_spec.specs.Texts.Script.{Octets};
+ghost use Rattle.h2_spec.specs.Texts.Written.{each_text, is_fragment, payload_said, payload_text, setting_text};
 
 use crate::fragment::push_fragment;
 use crate::text::{push_numbered, push_octets};
@@ -16,7 +16,7 @@ use std::alloc::{AllocError, Allocator};
 use std::fmt::Write;
 
 /// Appends the text of a frame's payload.
-#[tactic(auto, unfolding(h2_spec::specs::Written::payload_said))]
+#[tactic(auto, unfolding(h2_spec::specs::Texts::Written::payload_said))]
 pub(crate) fn push_payload<A: Allocator + Copy>(
     alloc: A,
     kind: u8,

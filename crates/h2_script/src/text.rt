@@ -1,12 +1,12 @@
 //! The words of a script as text: octets in hex, numbers, strings, types, streams. The definitions are in `h2_spec`,
-//! specs/Written.antt, as `.._text`.
+//! specs/Texts/Written.antt, as `.._text`.
 
 ghost use Rattle.std.specs.Prelude.{◌≡◌, ◌++◌, ◌∷◌, ◌<◌, [], OnOk, flat_map, slice_index};
 ghost use Rattle.std.specs.Fmt.{decimal};
 ghost use Rattle.std.specs.String.{string_bytes};
 ghost use Rattle.hex.specs.Hex.{encode_lower, lower_digits};
-ghost use Rattle.h2_spec.specs.Script.{quote_of};
-ghost use Rattle.h2_spec.specs.Written.{character_text, stream_text, type_text};
+ghost use Rattle.h2_spec.specs.Texts.Script.{quote_of};
+ghost use Rattle.h2_spec.specs.Texts.Written.{character_text, stream_text, type_text};
 
 use crate::words::is_plain;
 use h2_spec::frames::type_name;

@@ -1,13 +1,13 @@
 //! The words of a line: parts between octets, octets in hex, the text of a string. The definitions are in `h2_spec`,
-//! specs/Assemble.antt, under the same names.
+//! specs/Texts/Assemble.antt, under the same names.
 
 ghost use Rattle.std.specs.Prelude.{◌≡◌, ◌≤◌, ◌==◌, ◌<◌, ◌+◌, length, bytes_eq, drop, take, option_map, position, IfOk, IfSome};
 ghost use Rattle.std.specs.List.{position_or_len};
-ghost use Rattle.h2_spec.specs.Assemble.{before, behind, octets_at, onwards, unescaped};
-ghost use Rattle.h2_spec.specs.Script.{cut_at, is_plain};
+ghost use Rattle.h2_spec.specs.Texts.Assemble.{before, behind, octets_at, onwards, unescaped};
+ghost use Rattle.h2_spec.specs.Texts.Script.{cut_at, is_plain};
 ghost use Rattle.h2_script.specs.Characters.{character_at};
 
-use h2_hex::{octet_of, octets_of};
+use h2_io::{octet_of, octets_of};
 use h2_spec::octets::octets_from;
 use std::alloc::{AllocError, Allocator};
 
@@ -62,7 +62,7 @@ pub(crate) fn after(text: &[u8], octet: u8) -> Option<&[u8]>
 }
 
 /// The octets that hex digits write, at least one octet.
-#[tactic(auto, using(h2_hex::proofs::Relations::same_octets))]
+#[tactic(auto, using(h2_io::proofs::HexRelations::same_octets))]
 pub(crate) fn octets_at<A: Allocator>(
     alloc: A,
     text: &[u8],

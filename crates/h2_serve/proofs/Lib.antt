@@ -1,3 +1,6 @@
 pub mod ServeLemmas
 pub mod ShownLemmas
 pub mod Watching
+pub mod Growing
+pub mod Halting
+pub mod Exchanges

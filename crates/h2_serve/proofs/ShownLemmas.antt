@@ -1,21 +1,26 @@
 -- What is printed of connections that are explained, one after another.
-use Rattle.std.proofs.Common.{◌≡◌, ◌<◌, ◌⊎◌, inr, ◌∙◌, ℕ, zero, suc, ◌+◌, Bool, true, false, List, [], ◌++◌, Option, Some, None, Result, Ok, Err, IfErr, IfOk, IsOk, OnOk, refl, sym, ap, subst, arith, append_assoc}
+use Rattle.std.proofs.Common.{◌≡◌, ◌<◌, ◌≤◌, ◌⊎◌, inr, ◌∙◌, ℕ, zero, suc, ◌+◌, Bool, true, false, List, [], ◌∷◌, ◌++◌, length, Option, Some, None, is_none, Result, Ok, Err, IfErr, IfOk, refl, sym, ap, subst, arith, append_assoc}
 use Rattle.std.proofs.lemmas.Bool.{false≢true}
 use Rattle.std.proofs.lemmas.List.{append-nil}
 use Rattle.std.specs.Io.KnownBytes.{Appends}
 use Rattle.h2_spec.specs.State.{State}
-use Rattle.h2_drive.specs.declared.fault.DriveEnd.{DriveEnd}
-use Rattle.h2_drive.specs.declared.fault.DriveFault.{DriveFault}
+use Rattle.h2_serve.specs.declared.drive_fault.DriveEnd.{DriveEnd}
+use Rattle.h2_serve.specs.declared.drive_fault.DriveFault.{DriveFault}
 use Rattle.h2_explain.specs.declared.run.Form.{Form}
 use Rattle.h2_explain.specs.declared.run.Summary.{Summary}
 use Rattle.h2_serve.specs.Faults.{faults_limits, is_of_printing}
 use Rattle.h2_serve.specs.Lines.{end_line, listening_line, open_line}
 use Rattle.h2_serve.specs.Numbered.{prefix_of, prefixed}
+use Rattle.h2_serve.specs.Drives.{HasRead, is_out_of_memory}
+use Rattle.h2_serve.specs.Wires.{grown}
+use Rattle.h2_serve.specs.Ports.{Accepted, Closed, Event, HandlesAll, HandlesSome, IsDriven, Seen, Start, turns_allowed}
 use Rattle.h2_serve.specs.Serves.{Gains, opening_fault}
-use Rattle.h2_serve.specs.Shown.{AreShown, FaultsPrinting, GainsAllShown, GainsShown, GainsSomeShown, IsShown, no_clients, with_client}
-use Rattle.h2_serve.specs.Watched.{Shows}
-use Rattle.h2_serve.specs.declared.explained.Clients.{Clients}
-use Rattle.h2_serve.specs.declared.explained.ExplainedEnd.{ExplainedEnd}
+use Rattle.h2_serve.specs.Shown.{AreShown, GainsAllShown, GainsShown, GainsSomeShown, IsShown, no_clients, told_end, with_client}
+use Rattle.h2_serve.specs.ExplainedConns.{Explains, Shows}
+use Rattle.h2_serve.proofs.ServeLemmas.{drives-client, events-of, handles-then}
+use Rattle.h2_serve.specs.declared.explain.Clients.{Clients}
+use Rattle.h2_serve.specs.declared.explain.ClientEnd.{ClientEnd}
+use Rattle.h2_serve.specs.declared.explained_conn.Conclusion.{Conclusion}
 use Rattle.h2_serve.specs.declared.fault.ServeFault.{ServeFault}
 use Rattle.h2_serve.specs.declared.fault.ServeFault.TheVariants.{BadConfig, NoMemory, Socket, Write}
 
@@ -33,102 +38,132 @@ gains-three k l m n a b c x y z = λ held is.
 
 -- ---- one connection
 
-gains-shown : (form : Form) (s : State) (number : ℕ) (summary : Option Summary) (end : Result DriveEnd DriveFault) (octets : List ℕ)
-    (k l m n : Option (List ℕ)) → Gains k l (open_line number) → Shows form number summary s l m octets
-    → Gains m n (end_line number end) → GainsShown form s number summary k n
-gains-shown form s number summary end octets k l m n x y z =
-    let text : List ℕ = prefixed (prefix_of form.json number) form.json true y.0 in (
-      open_line number ++ (text ++ end_line number end),
-      record { octets = octets; text = y.0; end = end; explains = y.1; printed = refl },
-      gains-three k l m n (open_line number) text (end_line number end) x y.2 z,
-    )
-
 -- its lines were printed
-pub next-shown : (form : Form) (s t : State) (number : ℕ) (k l m n : Option (List ℕ)) (shown : Result ExplainedEnd ServeFault)
-    (result : Result (Option Summary) ServeFault) → t ≡ s → Gains k l (open_line number)
-    → IfOk shown (λ x. IfOk x.summary (λ summary. (octets : List ℕ) × Shows form number summary t l m octets))
-    → OnOk result (IfOk shown (λ x. Gains m n (end_line number x.end)))
-    → IfOk result (λ summary. IfOk shown (λ x. x.summary ≡ Ok summary)) → OnOk result (IsOk shown)
-    → IfOk result (λ summary. GainsShown form s number summary k n)
-next-shown form s t number k l m n (Ok x) (Ok summary) is first says line same known =
-    let shows = subst (λ (r : Result (Option Summary) ServeFault). IfOk r (λ y. (octets : List ℕ) × Shows form number y t l m octets)) same says in
-    subst (λ (u : State). GainsShown form u number summary k n) is (gains-shown form t number summary x.end shows.0 k l m n first shows.1 line)
-next-shown form s t number k l m n (Err fault) (Ok summary) is first says line same known = absurd (false≢true known)
-next-shown form s t number k l m n shown (Err fault) is first says line same known = tt
+pub next-shown : (form : Form) (start : Start) (t : State) (out : List ℕ) (number : ℕ) (k l m n : Option (List ℕ)) (log at log' : Option (List Event))
+    (before after : Seen) (left : List ℕ) (shown : ClientEnd) (result : Result Conclusion ServeFault)
+    → t ≡ start.state → out ≡ start.out → at ≡ grown log (Accepted before ∷ []) → log' ≡ grown at (Closed after ∷ [])
+    → Gains k l (open_line number) → IsDriven turns_allowed t out before left after shown.end
+    → IfOk shown.conclusion (λ x. HasRead (Shows form number x t l m) before.read after.read)
+    → IfOk shown.conclusion (λ x. is_none x.summary ≡ is_out_of_memory shown.end)
+    → IfOk result (λ x. Gains m n (end_line number (told_end x.is_cut shown.end)))
+    → IfOk result (λ x. shown.conclusion ≡ Ok x)
+    → IfOk result (λ x. GainsShown form start number x.summary k n log log')
+next-shown form start t out number k l m n log at log' before after left shown (Err fault) is pending opened closed first driven says lost line same = tt
+next-shown form start t out number k l m n log at log' before after left shown (Ok x) is pending opened closed first driven says lost line same =
+    let read = subst (λ (r : Result Conclusion ServeFault). IfOk r (λ y. HasRead (Shows form number y t l m) before.read after.read)) same says in
+    let shows = read.2 in
+    let text : List ℕ = prefixed (prefix_of form.json number) form.json true shows.0 in (
+      open_line number ++ (text ++ end_line number (told_end x.is_cut shown.end)),
+      record {
+        octets = read.0;
+        text = shows.0;
+        cut = x.is_cut;
+        end = shown.end;
+        before = before;
+        after = after;
+        driven = drives-client start t out shown.end before after left is pending driven;
+        read = read.1;
+        events = events-of before after log at log' opened closed;
+        explains = subst (λ (u : State). Explains form u read.0 shows.0 x.is_cut x.summary) is shows.1;
+        lost = subst (λ (r : Result Conclusion ServeFault). IfOk r (λ y. is_none y.summary ≡ is_out_of_memory shown.end)) same lost;
+        printed = refl;
+      },
+      gains-three k l m n (open_line number) text (end_line number (told_end x.is_cut shown.end)) first shows.2 line,
+    )
 
 -- ---- several
 
-are-more : (form : Form) (s : State) (number count : ℕ) (c c' : Clients) (all more : List ℕ) (summary : Option Summary)
-    → AreShown form s number count c c' all → IsShown form s (number + count) summary more
-    → AreShown form s number (suc count) c (with_client c' summary) (all ++ more)
-are-more form s number zero c c' all more summary are is =
+are-more : (form : Form) (start : Start) (number count : ℕ) (c c' : Clients) (all more : List ℕ) (summary : Option Summary)
+    (log mid log' : Option (List Event))
+    → AreShown form start number count c c' all log mid → IsShown form start (number + count) summary more mid log'
+    → AreShown form start number (suc count) c (with_client c' summary) (all ++ more) log log'
+are-more form start number zero c c' all more summary log mid log' are is =
     let same : number + 0 ≡ number = omega arith in (
       summary,
       more,
       [],
-      subst (λ (n : ℕ). IsShown form s n summary more) same is,
+      log',
+      subst (λ (l : Option (List Event)). IsShown form start number summary more l log') are.2
+          (subst (λ (n : ℕ). IsShown form start n summary more mid log') same is),
       ap (λ (t : List ℕ). t ++ more) are.1 ∙ sym (append-nil more),
-      (ap (λ (x : Clients). with_client x summary) are.0, refl),
+      (ap (λ (x : Clients). with_client x summary) are.0, refl, refl),
     )
-are-more form s number (suc count) c c' all more summary are is =
+are-more form start number (suc count) c c' all more summary log mid log' are is =
     let same : number + suc count ≡ (number + 1) + count = omega arith in (
       are.0,
       are.1,
       are.2 ++ more,
       are.3,
-      ap (λ (t : List ℕ). t ++ more) are.4 ∙ append_assoc are.1 are.2 more,
-      are-more form s (number + 1) count (with_client c are.0) c' are.2 more summary are.5
-          (subst (λ (n : ℕ). IsShown form s n summary more) same is),
+      are.4,
+      ap (λ (t : List ℕ). t ++ more) are.5 ∙ append_assoc are.1 are.2 more,
+      are-more form start (number + 1) count (with_client c are.0) c' are.2 more summary are.3 mid log' are.6
+          (subst (λ (n : ℕ). IsShown form start n summary more mid log') same is),
     )
 
+-- what became of the wires
+pub shown-handled : (form : Form) (start : Start) (number count : ℕ) (c c' : Clients) (all : List ℕ) (log log' : Option (List Event))
+    → AreShown form start number count c c' all log log'
+    → (ends : List (Result DriveEnd DriveFault)) × (length ends ≡ count) × HandlesAll start ends log log'
+shown-handled form start number zero c c' all log log' are = ([], refl, are.2)
+shown-handled form start number (suc count) c c' all log log' are =
+    let first = are.4 in
+    let more = shown-handled form start (number + 1) count (with_client c are.0) c' are.2 are.3 log' are.6 in
+    (first.end ∷ more.0, ap suc more.1, (are.3, (first.before, first.after, first.driven, first.events), more.2))
+
 -- nothing is printed yet
-pub none-shown : (form : Form) (s : State) (known : Option (List ℕ)) → GainsAllShown form s [] 0 no_clients known known
-none-shown form s known = ([], (refl, refl), λ held is. is ∙ ap (λ (t : List ℕ). Some t) (sym (append-nil held)))
+pub none-shown : (form : Form) (start : Start) (known : Option (List ℕ)) (log : Option (List Event))
+    → GainsAllShown form start [] 0 no_clients known known log log
+none-shown form start known log = ([], (refl, refl, refl), λ held is. is ∙ ap (λ (t : List ℕ). Some t) (sym (append-nil held)))
 
 -- one connection more
-pub more-shown : (form : Form) (s : State) (front : List ℕ) (count number next : ℕ) (c : Clients) (summary : Option Summary)
-    (before now after : Option (List ℕ)) → number ≡ count + 1
-    → next ≡ count + 1 → GainsAllShown form s front count c before now → GainsShown form s number summary now after
-    → GainsAllShown form s front next (with_client c summary) before after
-more-shown form s front count number next c summary before now after place is lines line =
+pub more-shown : (form : Form) (start : Start) (front : List ℕ) (count number next : ℕ) (c : Clients) (summary : Option Summary)
+    (before now after : Option (List ℕ)) (log mid log' : Option (List Event)) → number ≡ count + 1
+    → next ≡ count + 1 → GainsAllShown form start front count c before now log mid → GainsShown form start number summary now after mid log'
+    → GainsAllShown form start front next (with_client c summary) before after log log'
+more-shown form start front count number next c summary before now after log mid log' place is lines line =
     let at : number ≡ 1 + count = omega (arith, place) in
     let more : suc count ≡ next = omega (arith, is) in (
       lines.0 ++ line.0,
-      subst (λ (n : ℕ). AreShown form s 1 n no_clients (with_client c summary) (lines.0 ++ line.0)) more
-          (are-more form s 1 count no_clients c lines.0 line.0 summary lines.1
-          (subst (λ (n : ℕ). IsShown form s n summary line.0) at line.1)),
+      subst (λ (n : ℕ). AreShown form start 1 n no_clients (with_client c summary) (lines.0 ++ line.0) log log') more
+          (are-more form start 1 count no_clients c lines.0 line.0 summary log mid log' lines.1
+          (subst (λ (n : ℕ). IsShown form start n summary line.0 mid log') at line.1)),
       λ held is.
           line.2 (held ++ (front ++ lines.0)) (lines.2 held is)
           ∙ ap (λ (t : List ℕ). Some t) (append_assoc held (front ++ lines.0) line.0
           ∙ ap (λ (t : List ℕ). held ++ t) (append_assoc front lines.0 line.0)),
     )
 
+-- the wires of those that were shown, and of some more
+pub shown-then : (form : Form) (start : Start) (front : List ℕ) (shown more count : ℕ) (c : Clients) (before now : Option (List ℕ))
+    (log mid log' : Option (List Event)) → shown + more ≤ count → GainsAllShown form start front shown c before now log mid
+    → HandlesSome start more mid log' → HandlesSome start count log log'
+shown-then form start front shown more count c before now log mid log' within lines some =
+    let are = shown-handled form start 1 shown no_clients c lines.0 log mid lines.1 in
+    handles-then start are.0 shown more count log mid log' are.1 within are.2 some
+
 -- after a text that is printed first
-shown-after : (form : Form) (s : State) (front : List ℕ) (count : ℕ) (c : Clients) (before now after : Option (List ℕ))
-    → Gains before now front → GainsAllShown form s [] count c now after → GainsAllShown form s front count c before after
-shown-after form s front count c before now after first lines = (
+shown-after : (form : Form) (start : Start) (front : List ℕ) (count : ℕ) (c : Clients) (before now after : Option (List ℕ)) (log mid log' : Option (List Event))
+    → Gains before now front → mid ≡ log → GainsAllShown form start [] count c now after mid log'
+    → GainsAllShown form start front count c before after log log'
+shown-after form start front count c before now after log mid log' first same lines = (
   lines.0,
-  lines.1,
+  subst (λ (l : Option (List Event)). AreShown form start 1 count no_clients c lines.0 l log') same lines.1,
   λ held is. lines.2 (held ++ front) (first held is)
       ∙ ap (λ (t : List ℕ). Some t) (append_assoc held front lines.0),
 )
 
 -- after the line of the port
-pub listens-shown : (allowed : Bool) (form : Form) (s : State) (port count : ℕ) (k l n : Option (List ℕ)) (result : Result Clients ServeFault)
-    → Gains k l (listening_line port) → (allowed ≡ false → result ≡ Err BadConfig)
-    → IfOk result (λ clients. GainsAllShown form s [] count clients l n)
-    → IfOk result (λ clients. (allowed ≡ true) × GainsAllShown form s (listening_line port) count clients k n)
-listens-shown true form s port count k l n (Ok clients) first refused lines =
-    (refl, shown-after form s (listening_line port) count clients k l n first lines)
-listens-shown false form s port count k l n (Ok clients) first refused lines = let differ = refused refl in cc
-listens-shown allowed form s port count k l n (Err fault) first refused lines = tt
+pub listens-shown : (allowed : Bool) (form : Form) (start : Start) (port count : ℕ) (k l n : Option (List ℕ)) (log mid log' : Option (List Event))
+    (result : Result Clients ServeFault)
+    → Gains k l (listening_line port) → mid ≡ log → (allowed ≡ false → result ≡ Err BadConfig)
+    → IfOk result (λ clients. GainsAllShown form start [] count clients l n mid log')
+    → IfOk result (λ clients. (allowed ≡ true) × GainsAllShown form start (listening_line port) count clients k n log log')
+listens-shown true form start port count k l n log mid log' (Ok clients) first same refused lines =
+    (refl, shown-after form start (listening_line port) count clients k l n log mid log' first same lines)
+listens-shown false form start port count k l n log mid log' (Ok clients) first same refused lines = let differ = refused refl in cc
+listens-shown allowed form start port count k l n log mid log' (Err fault) first same refused lines = tt
 
 -- ---- limits that are out of range
-
-pub explained-limits : (result : Result ExplainedEnd ServeFault) → IfOk result (λ x. IfErr x.summary (λ fault. is_of_printing fault ≡ true))
-    → IfErr result (λ fault. fault ≡ NoMemory) → FaultsPrinting result
-explained-limits (Ok x) told none = told
-explained-limits (Err fault) told none = ap is_of_printing none
 
 -- a fault of printing says nothing of limits, and is none of the socket
 printing-limits : (fault : ServeFault) → is_of_printing fault ≡ true → faults_limits fault ≡ false
@@ -154,25 +189,34 @@ opens-no-socket true fault P is e = cc
 opens-no-socket false fault P is e = cc
 
 -- fewer connections were printed, where the next one was not accepted
-pub some-shown : (form : Form) (s : State) (front : List ℕ) (shown count : ℕ) (c : Clients) (before now after : Option (List ℕ)) → shown < count
-    → GainsAllShown form s front shown c before now → after ≡ now → GainsSomeShown form s front count before after
-some-shown form s front shown count c before now after few lines same =
-    (shown, few, (c, subst (λ (t : Option (List ℕ)). GainsAllShown form s front shown c before t) (sym same) lines))
+pub some-shown : (form : Form) (start : Start) (front : List ℕ) (shown count : ℕ) (c : Clients) (before now after : Option (List ℕ)) (log mid log' : Option (List Event))
+    → shown < count → GainsAllShown form start front shown c before now log mid → (after ≡ now) × (log' ≡ mid)
+    → GainsSomeShown form start front count before after log log'
+some-shown form start front shown count c before now after log mid log' few lines same = (
+  shown,
+  few,
+  (
+    c,
+    subst (λ (t : Option (List ℕ)). GainsAllShown form start front shown c before t log log') (sym same.0)
+        (subst (λ (l : Option (List Event)). GainsAllShown form start front shown c before now log l) (sym same.1) lines),
+  ),
+)
 
 -- after the line of the port
-pub listens-some : (form : Form) (s : State) (front : List ℕ) (count : ℕ) (k l n : Option (List ℕ)) (result : Result Clients ServeFault) → Gains k l front
-    → IfErr result (λ fault. fault ≡ Socket → GainsSomeShown form s [] count l n)
-    → IfErr result (λ fault. fault ≡ Socket → (n ≡ k) ⊎ GainsSomeShown form s front count k n)
-listens-some form s front count k l n (Ok clients) first told = tt
-listens-some form s front count k l n (Err fault) first told = λ is.
+pub listens-some : (form : Form) (start : Start) (front : List ℕ) (count : ℕ) (k l n : Option (List ℕ)) (log mid log' : Option (List Event))
+    (result : Result Clients ServeFault) → Gains k l front → mid ≡ log
+    → IfErr result (λ fault. fault ≡ Socket → GainsSomeShown form start [] count l n mid log')
+    → IfErr result (λ fault. fault ≡ Socket → (n ≡ k) ⊎ GainsSomeShown form start front count k n log log')
+listens-some form start front count k l n log mid log' (Ok clients) first same told = tt
+listens-some form start front count k l n log mid log' (Err fault) first same told = λ is.
     let some = told is in
-    inr (some.0, some.1, (some.2.0, shown-after form s front some.0 some.2.0 k l n first some.2.1))
+    inr (some.0, some.1, (some.2.0, shown-after form start front some.0 some.2.0 k l n log mid log' first same some.2.1))
 
 -- after the line of the port
-pub listens-limits : (allowed : Bool) (front : List ℕ) (k l n : Option (List ℕ)) (result : Result Clients ServeFault) → Gains k l front
-    → IfErr result (λ fault. faults_limits fault ≡ true → (allowed ≡ false) × (n ≡ l))
+pub listens-limits : (allowed : Bool) (front : List ℕ) (k l n : Option (List ℕ)) (log log' : Option (List Event)) (result : Result Clients ServeFault) → Gains k l front
+    → IfErr result (λ fault. faults_limits fault ≡ true → (allowed ≡ false) × (n ≡ l) × (log' ≡ log))
     → IfErr result (λ fault. faults_limits fault ≡ true → (allowed ≡ false) × Gains k n front)
-listens-limits allowed front k l n (Ok clients) first told = tt
-listens-limits allowed front k l n (Err fault) first told = λ limits.
+listens-limits allowed front k l n log log' (Ok clients) first told = tt
+listens-limits allowed front k l n log log' (Err fault) first told = λ limits.
     let is = told limits in
     (is.0, subst (λ (t : Option (List ℕ)). Gains k t front) (sym is.1) first)

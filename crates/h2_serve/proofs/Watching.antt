@@ -1,36 +1,39 @@
 -- A connection that is explained as its octets come, piece after piece.
-use Rattle.std.proofs.Common.{◌≡◌, ◌∙◌, ℕ, ◌+◌, ◌<◌, ◌^◌, Bool, true, false, List, [], ◌++◌, length, Option, Some, None, Result, Ok, Err, IfOk, refl, sym, ap, subst, arith}
+use Rattle.std.proofs.Common.{◌≡◌, ◌∙◌, ℕ, ◌+◌, ◌<◌, ◌^◌, Bool, true, false, List, [], ◌++◌, length, Option, Some, None, Result, Ok, Err, is_err, IfOk, refl, sym, ap, subst, arith}
+use Rattle.std.proofs.lemmas.Bool.{false≢true}
 use Rattle.std.proofs.lemmas.List.{append-nil}
 use Rattle.h2_spec.specs.State.{State}
 use Rattle.h2_conn.specs.Connection.{Connection, going, halted}
 use Rattle.h2_conn.specs.Runs.{Fed, Halts}
-use Rattle.h2_drive.specs.Drives.{HasNoItem, HasRead}
-use Rattle.h2_drive.specs.Wires.{grown}
-use Rattle.h2_drive.proofs.Exchanges.{fed-no_item}
-use Rattle.h2_drive.proofs.Halting.{sent-none}
+use Rattle.h2_serve.specs.Drives.{HasNoItem, HasRead}
+use Rattle.h2_serve.specs.Wires.{grown}
+use Rattle.h2_serve.proofs.Exchanges.{fed-no_item}
+use Rattle.h2_serve.proofs.Halting.{sent-none}
 use Rattle.std.specs.Io.KnownBytes.{Appends}
-use Rattle.h2_explain.specs.Explains.{IsExplanation}
+use Rattle.h2_explain.specs.Explains.{IsExplanation, not_written}
+use Rattle.h2_explain.specs.declared.run.ExplainFault.{ExplainFault}
 use Rattle.h2_explain.specs.Explaining as explaining
 use Rattle.h2_explain.specs.Explaining.{EndsAs, HasGained, IsBeginning, IsExplaining, IsNew, IsSummed, SaysOf, SaysSome}
 use Rattle.h2_explain.specs.declared.run.Form.{Form}
-use Rattle.h2_explain.specs.declared.explanation.Explanation.{Explanation}
+use Rattle.h2_explain.specs.declared.run_explainer.RunExplainer.{RunExplainer}
 use Rattle.h2_explain.specs.declared.run.Summary.{Summary}
 use Rattle.h2_explain.proofs.Steps.{new-begins, new-explains}
+use Rattle.h2_serve.specs.declared.explained_conn.Conclusion.{Conclusion}
 use Rattle.h2_serve.specs.declared.fault.ServeFault.{ServeFault}
 use Rattle.h2_serve.specs.declared.fault.TextFault.{TextFault}
 use Rattle.h2_serve.specs.Numbered.{PrintsPrefixed, fresh_after, gathered_text, prefix_of, prefixed}
-use Rattle.h2_serve.specs.Watched.{Concludes, GoesOn, IsWatched, Said, Shows, whole}
+use Rattle.h2_serve.specs.ExplainedConns.{Concludes, GoesOn, IsWatched, IsExplained, Shows, whole}
 use Rattle.h2_serve.specs.Passes.{prints-then}
 
 -- whatever comes, what was said so far is an explanation that is cut short
-pub cut-now : {A : Type 0} (form : Form) (s : State) (b octets text : List ℕ) (c : Connection) (e : Explanation A)
-    → Said false form s b c e text → IsExplanation form true s (b ++ octets) (text ++ [])
+pub cut-now : {A : Type 0} (form : Form) (s : State) (b octets text : List ℕ) (c : Connection) (e : RunExplainer A)
+    → IsExplained false form s b c e text → IsExplanation form true s (b ++ octets) (text ++ [])
 cut-now form s b octets text c e said =
     subst (λ (f : Form). IsExplanation f true s (b ++ octets) (text ++ [])) said.0 (said.2 octets true [] [] refl)
 
 -- ---- the start
 
-pub watched-new : {A : Type 0} (form : Form) (c : Connection) (e : Explanation A) → c ≡ going c.state [] → IsNew form e → HasNoItem c
+pub watched-new : {A : Type 0} (form : Form) (c : Connection) (e : RunExplainer A) → c ≡ going c.state [] → IsNew form e → HasNoItem c
     → IsWatched false c e 0
 watched-new form c e is new none = (
   is,
@@ -40,7 +43,7 @@ watched-new form c e is new none = (
   subst (λ (h : List ℕ). HasNoItem (going c.state h)) (sym new.held_is) (subst (λ (d : Connection). HasNoItem d) is none),
 )
 
-pub said-new : {A : Type 0} (form : Form) (c : Connection) (e : Explanation A) → c ≡ going c.state [] → IsNew form e → Said false form c.state [] c e []
+pub said-new : {A : Type 0} (form : Form) (c : Connection) (e : RunExplainer A) → c ≡ going c.state [] → IsNew form e → IsExplained false form c.state [] c e []
 said-new form c e is new = (
   new.form_is,
   subst (λ (d : Connection). IsExplaining c.state [] d e) (sym is) (new-explains form c.state e new),
@@ -54,7 +57,7 @@ gained-is : (begun items more : List ℕ) → begun ≡ [] → Some items ≡ So
 gained-is begun items more empty is = cc (subst (λ (h : List ℕ). Some items ≡ Some (h ++ more)) empty is)
 
 -- all of its items were explained
-pub goes-said : {A : Type 0} (P : List ℕ → Type 0) (c c' : Connection) (e e' : Explanation A) (piece begun items printed : List ℕ)
+pub goes-said : {A : Type 0} (P : List ℕ → Type 0) (c c' : Connection) (e e' : RunExplainer A) (piece begun items printed : List ℕ)
     → e'.form ≡ e.form → begun ≡ [] → printed ≡ items → explaining.GoesOn c e piece c' e'
     → SaysOf c e piece e' (Some begun) (Some items) → P printed → GoesOn false c e P piece c' e'
 goes-said P c c' e e' piece begun items printed same empty whole goes says p = λ form s b text said.
@@ -65,7 +68,7 @@ goes-said P c c' e e' piece begun items printed same empty whole goes says p = �
     )
 
 -- or only some, as memory was refused
-pub cut-said : {A : Type 0} (P : List ℕ → Type 0) (c c' : Connection) (e e' : Explanation A) (piece begun items printed : List ℕ)
+pub cut-said : {A : Type 0} (P : List ℕ → Type 0) (c c' : Connection) (e e' : RunExplainer A) (piece begun items printed : List ℕ)
     → begun ≡ [] → printed ≡ items → SaysSome c e piece (Some begun) (Some items) → P printed
     → GoesOn true c e P piece c' e'
 cut-said P c c' e e' piece begun items printed empty whole says p = λ form s b text said.
@@ -76,11 +79,11 @@ cut-said P c c' e e' piece begun items printed empty whole says p = λ form s b 
     )
 
 -- or none
-pub cut-before : {A : Type 0} (P : List ℕ → Type 0) (c c' : Connection) (e e' : Explanation A) (piece : List ℕ) → P [] → GoesOn true c e P piece c' e'
+pub cut-before : {A : Type 0} (P : List ℕ → Type 0) (c c' : Connection) (e e' : RunExplainer A) (piece : List ℕ) → P [] → GoesOn true c e P piece c' e'
 cut-before P c c' e e' piece p = λ form s b text said. ([], cut-now form s b piece text c e said, p)
 
 -- whether memory for some of the text was refused too
-pub cut-gathered : {A : Type 0} (P : List ℕ → Type 0) (c c' : Connection) (e e' : Explanation A) (piece begun items : List ℕ) (failed : Bool)
+pub cut-gathered : {A : Type 0} (P : List ℕ → Type 0) (c c' : Connection) (e e' : RunExplainer A) (piece begun items : List ℕ) (failed : Bool)
     → begun ≡ [] → (failed ≡ false → SaysSome c e piece (Some begun) (Some items)) → P (gathered_text failed items)
     → GoesOn true c e P piece c' e'
 cut-gathered P c c' e e' piece begun items true empty says p = cut-before P c c' e e' piece p
@@ -101,7 +104,7 @@ halts-early false s held piece out is = halts-before s held piece out
 halts-early true s held piece out is = cc
 
 -- what was watched goes on being watched
-pub watched-more : {A : Type 0} (failed : Bool) (c c' : Connection) (e e' : Explanation A) (came more came' : ℕ) (piece out out' : List ℕ)
+pub watched-more : {A : Type 0} (failed : Bool) (c c' : Connection) (e e' : RunExplainer A) (came more came' : ℕ) (piece out out' : List ℕ)
     → (whole failed c.state e.held.items).failed ≡ false → IsWatched failed c e came → c' ≡ going c'.state []
     → HasGained e more e' → came' ≡ came + more → came' < 2 ^ 63
     → Fed (going c.state e.held.items) piece out (going c'.state e'.held.items) out' → IsWatched failed c' e' came'
@@ -111,43 +114,49 @@ watched-more true c c' e e' came more came' piece out out' is watched ready gain
 
 -- ---- the end
 
-pub ends-as : {A : Type 0} (P : List ℕ → Type 0) (failed : Bool) (summary : Option Summary) (c : Connection) (e : Explanation A)
-    → failed ≡ false → Concludes false summary c e P → Concludes failed summary c e P
-ends-as P failed summary c e is ends = subst (λ (f : Bool). Concludes f summary c e P) (sym is) ends
+pub ends-as : {A : Type 0} (P : List ℕ → Type 0) (failed : Bool) (x : Conclusion) (c : Connection) (e : RunExplainer A)
+    → failed ≡ false → Concludes false x c e P → Concludes failed x c e P
+ends-as P failed x c e is ends = subst (λ (f : Bool). Concludes f x c e P) (sym is) ends
 
--- the end was explained, and this sums it up
-pub ends-said : {A : Type 0} (P : List ℕ → Type 0) (x : Summary) (c : Connection) (e : Explanation A) (begun items printed : List ℕ)
-    → begun ≡ [] → printed ≡ items → EndsAs false c e (Some begun) (Some items) → IsSummed c e x → P printed
-    → Concludes false (Some x) c e P
-ends-said P x c e begun items printed empty whole ends summed p = λ form s b text said.
-    let gained = ends s b text said.1 said.2 begun refl in (
-      gained.0,
-      (subst (λ (f : Form). IsExplanation f false s b (text ++ gained.0)) said.0 gained.2, summed s b said.1),
-      subst P (whole ∙ gained-is begun items gained.0 empty gained.1) p,
-    )
+-- where memory for the text of the end was refused, the end was not explained
+failed-cuts : {A : Type 0} (r : Result A ExplainFault) (failed : Bool) → failed ≡ not_written r → failed ≡ true → is_err r ≡ true
+failed-cuts (Ok x) failed is e = absurd (false≢true (sym is ∙ e))
+failed-cuts (Err fault) failed is e = refl
 
--- memory was refused for it, or for its text
-pub ends-gathered : {A : Type 0} (P : List ℕ → Type 0) (c : Connection) (e : Explanation A) (begun items : List ℕ) (failed : Bool)
-    → begun ≡ [] → (failed ≡ false → EndsAs true c e (Some begun) (Some items)) → P (gathered_text failed items)
-    → Concludes false None c e P
-ends-gathered P c e begun items true empty ends p = λ form s b text said. (
+-- the end was explained, or memory was refused for it, or for its text; and this sums it up
+gathered : {A : Type 0} (P : List ℕ → Type 0) (x : Summary) (c : Connection) (e : RunExplainer A) (begun items : List ℕ)
+    (cut failed : Bool) → begun ≡ [] → (failed ≡ true → cut ≡ true) → (failed ≡ false → EndsAs cut c e (Some begun) (Some items)) → IsSummed c e x
+    → P (gathered_text failed items) → Concludes false (record { is_cut = cut; summary = Some x }) c e P
+gathered P x c e begun items cut true empty cuts ends summed p = λ form s b text said. (
   [],
-  (subst (λ (o : List ℕ). IsExplanation form true s o (text ++ [])) (append-nil b) (cut-now form s b [] text c e said), tt),
+  (
+    subst (λ (f : Bool). IsExplanation form f s b (text ++ [])) (sym (cuts refl))
+        (subst (λ (o : List ℕ). IsExplanation form true s o (text ++ [])) (append-nil b) (cut-now form s b [] text c e said)),
+    summed s b said.1,
+  ),
   p,
 )
-ends-gathered P c e begun items false empty ends p = λ form s b text said.
+gathered P x c e begun items cut false empty cuts ends summed p = λ form s b text said.
     let gained = ends refl s b text said.1 said.2 begun refl in (
       gained.0,
-      (subst (λ (f : Form). IsExplanation f true s b (text ++ gained.0)) said.0 gained.2, tt),
+      (subst (λ (f : Form). IsExplanation f cut s b (text ++ gained.0)) said.0 gained.2, summed s b said.1),
       subst P (gained-is begun items gained.0 empty gained.1) p,
     )
 
+pub ends-gathered : {A : Type 0} (P : List ℕ → Type 0) (x : Summary) (c : Connection) (e : RunExplainer A) (begun items : List ℕ)
+    (r : Result (Unit {0}) ExplainFault) (cut failed : Bool) → cut ≡ is_err r → begun ≡ [] → failed ≡ not_written r
+    → (failed ≡ false → EndsAs (is_err r) c e (Some begun) (Some items)) → IsSummed c e x → P (gathered_text failed items)
+    → Concludes false (record { is_cut = cut; summary = Some x }) c e P
+ends-gathered P x c e begun items r cut failed is empty flag ends summed p =
+    subst (λ (f : Bool). Concludes false (record { is_cut = f; summary = Some x }) c e P) (sym is)
+    (gathered P x c e begun items (is_err r) failed empty (failed-cuts r failed flag) ends summed p)
+
 -- ---- all of it
 
-shown : {A : Type 0} (form : Form) (number : ℕ) (refused : Bool) (summary : Option Summary) (s : State) (octets : List ℕ) (c c' : Connection)
-    (e e' : Explanation A) (p q : List ℕ) (j k f g : Bool) (x y : Option TextFault) (l m n : Option (List ℕ))
+shown : {A : Type 0} (form : Form) (number : ℕ) (refused : Bool) (summary : Conclusion) (s : State) (octets : List ℕ) (c c' : Connection)
+    (e e' : RunExplainer A) (p q : List ℕ) (j k f g : Bool) (x y : Option TextFault) (l m n : Option (List ℕ))
     → p ≡ prefix_of form.json number → j ≡ form.json → f ≡ true → q ≡ p → k ≡ j
-    → Said false form s [] c e [] → GoesOn refused c e (λ more. PrintsPrefixed p j f x l more g y m) octets c' e'
+    → IsExplained false form s [] c e [] → GoesOn refused c e (λ more. PrintsPrefixed p j f x l more g y m) octets c' e'
     → Concludes refused summary c' e' (λ more. (y ≡ None) × Appends m n (prefixed q k g more))
     → Shows form number summary s l n octets
 shown form number refused summary s octets c c' e e' p q j k f g x y l m n pe je fe qe ke said goes ends =
@@ -165,11 +174,11 @@ shown form number refused summary s octets c c' e e' p q j k f g x y l m n pe je
     )
 
 -- the same of what was read, where its end was printed
-pub shown-read : {A : Type 0} (form : Form) (number : ℕ) (result : Result (Option Summary) ServeFault) (refused failed : Bool) (s : State)
-    (octets : List ℕ) (c c' : Connection) (e e' : Explanation A) (p q : List ℕ) (j k f g : Bool) (x y : Option TextFault)
+pub shown-read : {A : Type 0} (form : Form) (number : ℕ) (result : Result Conclusion ServeFault) (refused failed : Bool) (s : State)
+    (octets : List ℕ) (c c' : Connection) (e e' : RunExplainer A) (p q : List ℕ) (j k f g : Bool) (x y : Option TextFault)
     (l m n before after read read' : Option (List ℕ)) → l ≡ before → n ≡ after → read' ≡ grown read octets → failed ≡ refused
     → p ≡ prefix_of form.json number → j ≡ form.json → f ≡ true → q ≡ p → k ≡ j
-    → Said false form s [] c e [] → GoesOn refused c e (λ more. PrintsPrefixed p j f x l more g y m) octets c' e'
+    → IsExplained false form s [] c e [] → GoesOn refused c e (λ more. PrintsPrefixed p j f x l more g y m) octets c' e'
     → IfOk result (λ summary. Concludes failed summary c' e' (λ more. (y ≡ None) × Appends m n (prefixed q k g more)))
     → IfOk result (λ summary. HasRead (Shows form number summary s before after) read read')
 shown-read form number (Err fault) refused failed s octets c c' e e' p q j k f g x y l m n before after read read' lb na grew is pe je fe qe ke said goes ends = tt

@@ -2,6 +2,10 @@ pub mod Faults
 pub mod Lines
 pub mod Numbered
 pub mod Passes
+pub mod Ports
 pub mod Serves
 pub mod Shown
-pub mod Watched
+pub mod ExplainedConns
+pub mod Drives
+pub mod Sockets
+pub mod Wires

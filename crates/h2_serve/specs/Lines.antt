@@ -1,10 +1,10 @@
 -- The lines that a server prints.
 use Rattle.std.specs.Prelude.{ℕ, ◌+◌, ◌++◌, List, [], ◌∷◌, codes, decimal, Result, Ok, Err}
-use Rattle.h2_spec.specs.Show.{joined}
-use Rattle.h2_drive.specs.Drives.{fault_number}
-use Rattle.h2_drive.specs.declared.fault.DriveEnd.{DriveEnd}
-use Rattle.h2_drive.specs.declared.fault.DriveEnd.TheVariants.{Input, Goaway}
-use Rattle.h2_drive.specs.declared.fault.DriveFault.{DriveFault}
+use Rattle.h2_spec.specs.Texts.Show.{joined}
+use Rattle.h2_serve.specs.Drives.{fault_number}
+use Rattle.h2_serve.specs.declared.drive_fault.DriveEnd.{DriveEnd}
+use Rattle.h2_serve.specs.declared.drive_fault.DriveEnd.TheVariants.{Input, Goaway}
+use Rattle.h2_serve.specs.declared.drive_fault.DriveFault.{DriveFault}
 
 -- the port that is listened on
 unfoldable pub listening_line : ℕ → List ℕ

@@ -1,7 +1,7 @@
 -- The texts of a connection that is served, each line after its number.
 use Rattle.std.specs.Prelude.{◌≡◌, ℕ, ◌++◌, ◌==◌, Bool, true, false, List, [], ◌∷◌, Option, None, codes, decimal}
 use Rattle.std.specs.Io.KnownBytes.{Appends}
-use Rattle.h2_spec.specs.Show.{joined}
+use Rattle.h2_spec.specs.Texts.Show.{joined}
 use Rattle.h2_serve.specs.declared.fault.TextFault.{TextFault}
 
 -- what each line of a connection begins with: its number; in JSON its first member

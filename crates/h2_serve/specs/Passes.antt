@@ -4,9 +4,9 @@ use Rattle.std.proofs.lemmas.List.{append-nil}
 use Rattle.std.proofs.KnownBytes.{Appends-trans}
 use Rattle.std.specs.Io.KnownBytes.{Appends}
 use Rattle.h2_conn.specs.Connection.{Connection}
-use Rattle.h2_explain.specs.declared.explanation.Explanation.{Explanation}
+use Rattle.h2_explain.specs.declared.run_explainer.RunExplainer.{RunExplainer}
 use Rattle.h2_serve.specs.Numbered.{PrintsPrefixed, fresh_after, prefixed, prefixed_octet}
-use Rattle.h2_serve.specs.Watched.{GoesOn, Said}
+use Rattle.h2_serve.specs.ExplainedConns.{GoesOn, IsExplained}
 use Rattle.h2_serve.specs.declared.fault.TextFault.{TextFault}
 
 pub prefixed-append : (p : List ℕ) (json fresh : Bool) (a b : List ℕ)
@@ -52,22 +52,22 @@ prints-then p q json other f g h x y z k l m a b same also one two =
     (subst (λ (j : Bool). PrintsPrefixed q j g y l b h z m) also two))
 
 -- no octets came, and nothing was said
-pub goes-none : {A : Type 0} (P : List ℕ → Type 0) (c : Connection) (e : Explanation A) → P [] → GoesOn false c e P [] c e
+pub goes-none : {A : Type 0} (P : List ℕ → Type 0) (c : Connection) (e : RunExplainer A) → P [] → GoesOn false c e P [] c e
 goes-none P c e p = λ form s b text said. (
   [],
-  subst (λ (o : List ℕ). Said false form s o c e (text ++ [])) (sym (append-nil b))
-      (subst (λ (t : List ℕ). Said false form s b c e t) (sym (append-nil text)) said),
+  subst (λ (o : List ℕ). IsExplained false form s o c e (text ++ [])) (sym (append-nil b))
+      (subst (λ (t : List ℕ). IsExplained false form s b c e t) (sym (append-nil text)) said),
   p,
 )
 
-pub goes-more : {A : Type 0} (refused : Bool) (P Q R : List ℕ → Type 0) (c c' c'' : Connection) (e e' e'' : Explanation A)
+pub goes-more : {A : Type 0} (refused : Bool) (P Q R : List ℕ → Type 0) (c c' c'' : Connection) (e e' e'' : RunExplainer A)
     (a b : List ℕ) → ((x y : List ℕ) → P x → Q y → R (x ++ y)) → GoesOn false c e P a c' e'
     → GoesOn refused c' e' Q b c'' e'' → GoesOn refused c e R (a ++ b) c'' e''
 goes-more refused P Q R c c' c'' e e' e'' a b join one two = λ form s o text said.
     let first = one form s o text said in
     let second = two form s (o ++ a) (text ++ first.0) first.1 in (
       first.0 ++ second.0,
-      subst (λ (t : List ℕ). Said refused form s t c'' e'' (text ++ (first.0 ++ second.0))) (append_assoc o a b)
-          (subst (λ (t : List ℕ). Said refused form s ((o ++ a) ++ b) c'' e'' t) (append_assoc text first.0 second.0) second.1),
+      subst (λ (t : List ℕ). IsExplained refused form s t c'' e'' (text ++ (first.0 ++ second.0))) (append_assoc o a b)
+          (subst (λ (t : List ℕ). IsExplained refused form s ((o ++ a) ++ b) c'' e'' t) (append_assoc text first.0 second.0) second.1),
       join first.0 second.0 first.2 second.2,
     )

@@ -46,7 +46,7 @@ pub(crate) enum TextFault {
 }
 
 impl TextFault {
-    /// The same, as a fault of a server.
+    /// This fault of a connection, as a fault of a server.
     pub(crate) fn of_server(self) -> ServeFault
         ensures { is_of_printing result ≡ true }
     {

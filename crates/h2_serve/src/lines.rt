@@ -3,7 +3,7 @@
 ghost use Rattle.std.specs.Prelude.{Some};
 ghost use Rattle.h2_serve.specs.Lines.{end_line, listening_line, open_line};
 
-use h2_drive::{DriveEnd, DriveFault};
+use crate::{DriveEnd, DriveFault};
 use std::fmt;
 
 /// `listening PORT`.

@@ -6,7 +6,7 @@ ghost use Rattle.std.specs.Io.KnownBytes.{Appends};
 ghost use Rattle.h2_serve.specs.Numbered.{PrintsPrefixed, fresh_after, gathered_text, prefix_of, prefixed, prefixed_octet};
 
 use crate::fault::TextFault;
-use h2_device::{Gathered, Number, Text, texts};
+use h2_io::{Gathered, Number, Text, texts};
 use std::alloc::{AllocError, Global};
 use std::io::Write;
 

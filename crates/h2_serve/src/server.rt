@@ -1,28 +1,29 @@
-//! Connections of a TCP listener, one after another. Definitions: `specs/Lines.antt` and `specs/Serves.antt`.
+//! The clients of a port, one after another. Definitions: `specs/Lines.antt`, `specs/Ports.antt` and `specs/Serves.antt`.
 
-ghost use Rattle.std.specs.Prelude.{◌≡◌, ◌⊎◌, [], true, false, Ok, Err, IfErr, IfOk, IfSome, OnOk, OnErr};
+ghost use Rattle.std.specs.Prelude.{◌≡◌, ◌⊎◌, ◌++◌, [], ◌∷◌, None, true, false, Ok, Err, IfErr, IfOk, IfSome, OnOk, OnErr};
 ghost use Rattle.h2_spec.specs.State.{is_allowed, opening};
+ghost use Rattle.h2_spec.specs.Opening.{opening_octets};
 ghost use Rattle.h2_conn.specs.Connection.{going};
+ghost use Rattle.h2_serve.specs.Wires.{grown};
+ghost use Rattle.h2_serve.specs.Ports.{HandlesSome, Listening, ListensSome, localhost, start_of};
 ghost use Rattle.h2_serve.specs.Lines.{listening_line};
 ghost use Rattle.h2_serve.specs.Serves.{AcceptsAs, Gains, ListensAs, ServesAs, opening_fault};
 
+use crate::drive;
 use crate::fault::ServeFault;
 use crate::lines::{EndLine, ListeningLine};
+use crate::port::{Listener, Port, TcpClients};
 use h2_conn::{Conn, ConnFault};
-use h2_drive::{DriveEnd, DriveFault, Socket, drive};
-use h2_entries::book::Book;
 use h2_frame::{Outbox, Outgoing};
+use h2_request_book::book::Book;
 use h2_spec::connection::Config;
 use std::alloc::Global;
 use std::fmt::Display;
-use std::io::{ErrorKind, Write};
-use std::net::{IpAddr, Ipv4Addr, Net, SocketAddr, TcpListener, TcpStream};
+use std::io::Write;
+use std::net::TcpListener;
 
-/// The most turns of one connection; each is one read of at most 16,384 octets.
+/// The most turns of one connection; each is one read of at most 131,072 octets.
 pub(crate) const TURNS: u32 = 1_000_000;
-
-/// The most clients in a row that may go away before they are accepted.
-const ACCEPT_TRIES: u32 = 1_000;
 
 /// Writes a line, and flushes the output so that its reader sees the line at once.
 pub(crate) fn print<W: Write, D: Display + Drop>(output: &mut W, line: D) -> Result<(), ServeFault>
@@ -47,6 +48,7 @@ pub(crate) fn open<'b, O: Outgoing<'b, Global>>(
 ) -> Result<Conn<'b, Global>, ServeFault>
     ensures ok { OnOk result (is_allowed config ≡ true) }
     ensures opened { IfOk result (λ conn. conn ≡ going (opening book.now config) []) }
+    ensures sent { OnOk result (O.octets out.new ≡ O.octets out.old ++ opening_octets config) }
     ensures err { IfErr result (λ fault. fault ≡ opening_fault (is_allowed config)) }
 {
     match Conn::new(book, config, out) {
@@ -56,70 +58,30 @@ pub(crate) fn open<'b, O: Outgoing<'b, Global>>(
     }
 }
 
-/// Whether a connection that could not be accepted was lost with its client, so that the next one can be (Linux
-/// accept(2), "Error handling").
-fn is_lost_client(kind: ErrorKind) -> bool {
-    matches!(
-        kind,
-        ErrorKind::ConnectionAborted
-            | ErrorKind::ConnectionReset
-            | ErrorKind::HostUnreachable
-            | ErrorKind::NetworkUnreachable
-            | ErrorKind::NetworkDown
-    )
-}
-
-/// The next connection of a listener. Clients that went away before they were accepted are passed over.
-pub(crate) fn accept(listener: &TcpListener) -> Result<TcpStream, ServeFault>
-    ensures { IfErr result (λ fault. fault ≡ ServeFault.Socket) }
-{
-    for _ in 0..ACCEPT_TRIES {
-        match listener.accept() {
-            Ok((stream, _)) => return Ok(stream),
-            Err(error) if is_lost_client(error.kind()) => {}
-            Err(_) => return Err(ServeFault::Socket),
-        }
-    }
-    Err(ServeFault::Socket)
-}
-
-/// Drives a connection over a TCP connection to its end, and closes it.
-fn drive_to_end<'b>(
-    conn: &mut Conn<'b, Global>,
-    out: &mut Outbox<'b, Global>,
-    stream: TcpStream,
-) -> Result<DriveEnd, DriveFault> {
-    // Otherwise a small frame may be held back until the peer has acknowledged the one before. Where this fails, the
-    // connection is only slower.
-    let _unset = stream.set_nodelay(true);
-    let mut socket = Socket::new(stream);
-    let end = drive(conn, out, &mut socket, TURNS);
-    socket.close();
-    end
-}
-
-/// Accepts a connection, drives it to its end, and prints its line.
-fn serve_next<W: Write>(
+/// Accepts a client, drives its connection to its end, closes its wire, and prints its line.
+fn serve_next<L: Listener, W: Write>(
     alloc: Global,
-    listener: &TcpListener,
+    listener: &mut L,
     book: &Book<Global>,
     config: Config,
     number: u32,
     output: &mut W,
 ) -> Result<(), ServeFault>
     requires { is_allowed config ≡ true }
-    ensures { AcceptsAs number (W.contents output.old) (W.contents output.new) result }
+    ensures lines { AcceptsAs (start_of book.now config) number (W.contents output.old) (W.contents output.new) (L.events listener.old) (L.events listener.new) result }
+    ensures wires { HandlesSome (start_of book.now config) 1 (L.events listener.old) (L.events listener.new) }
 {
-    let stream = match accept(listener) {
-        Ok(stream) => stream,
-        Err(fault) => return Err(fault),
+    let mut wire = match listener.accept() {
+        Ok(wire) => wire,
+        Err(_) => return Err(ServeFault::Socket),
     };
     let mut out = Outbox::new(alloc);
     let mut conn = match open(book, config, &mut out) {
         Ok(conn) => conn,
         Err(fault) => return Err(fault),
     };
-    let end = drive_to_end(&mut conn, &mut out, stream);
+    let end = drive(&mut conn, &mut out, &mut wire, TURNS);
+    listener.close(wire);
     print(output, EndLine { number, end })
 }
 
@@ -140,9 +102,9 @@ fn serve_next<W: Write>(
 /// - `NoMemory` where there is no memory for a new connection.
 ///
 /// After `Socket` and `NoMemory` the lines of the connections before are printed.
-pub fn serve_on<W: Write>(
+pub fn serve_over<L: Listener, W: Write>(
     alloc: Global,
-    listener: &TcpListener,
+    listener: &mut L,
     book: &Book<Global>,
     config: Config,
     count: u32,
@@ -150,7 +112,9 @@ pub fn serve_on<W: Write>(
 ) -> Result<(), ServeFault>
     ensures refused { is_allowed config ≡ false → result ≡ Err ServeFault.BadConfig }
     ensures allowed { result ≡ Err ServeFault.BadConfig → is_allowed config ≡ false }
-    ensures lines { ServesAs count (W.contents output.old) (W.contents output.new) result }
+    ensures lines { ServesAs (start_of book.now config) count (W.contents output.old) (W.contents output.new)
+        (L.events listener.old) (L.events listener.new) result }
+    ensures wires { HandlesSome (start_of book.now config) count (L.events listener.old) (L.events listener.new) }
 {
     match open(book, config, &mut Vec::new(alloc)) {
         Ok(_) => {}
@@ -165,48 +129,76 @@ pub fn serve_on<W: Write>(
     Ok(())
 }
 
-/// Listens on `port` of 127.0.0.1, and prints `listening PORT`.
-///
-/// `Socket` where the port cannot be listened on: nothing was printed. `Write` where the line could not be written.
-pub(crate) fn listen<N: Net<Listener = TcpListener, Stream = TcpStream>, W: Write>(
-    net: &N,
-    port: u16,
-    output: &mut W,
-) -> Result<TcpListener, ServeFault>
-    ensures ok { OnOk result (Gains (W.contents output.old) (W.contents output.new) (listening_line port)) }
-    ensures err { IfErr result (λ fault. (fault ≡ ServeFault.Write)
-        ⊎ ((fault ≡ ServeFault.Socket) × (W.contents output.new ≡ W.contents output.old))) }
-{
-    let address = SocketAddr::new(IpAddr::V4(Ipv4Addr::LOCALHOST), port);
-    let Ok(listener) = TcpListener::bind(net, address) else {
-        return Err(ServeFault::Socket);
-    };
-    match print(output, ListeningLine(port)) {
-        Ok(()) => Ok(listener),
-        Err(fault) => Err(fault),
-    }
-}
-
-/// Listens on `port` of 127.0.0.1, prints `listening PORT`, and serves `count` connections as `serve_on` does.
+/// Serves `count` connections of a TCP listener as `serve_over` does.
 ///
 /// # Errors
 ///
-/// `Socket` where the port cannot be listened on: nothing was printed. Then those of `serve_on`, after the line
-/// `listening PORT`.
-pub fn listen_and_serve<N: Net<Listener = TcpListener, Stream = TcpStream>, W: Write>(
+/// Those of `serve_over`.
+pub fn serve_on<W: Write>(
     alloc: Global,
-    net: &N,
+    listener: &TcpListener,
+    book: &Book<Global>,
+    config: Config,
+    count: u32,
+    output: &mut W,
+) -> Result<(), ServeFault>
+    ensures refused { is_allowed config ≡ false → result ≡ Err ServeFault.BadConfig }
+    ensures allowed { result ≡ Err ServeFault.BadConfig → is_allowed config ≡ false }
+    ensures lines { ServesAs (start_of book.now config) count (W.contents output.old) (W.contents output.new) None None result }
+{
+    serve_over(
+        alloc,
+        &mut TcpClients::new(listener),
+        book,
+        config,
+        count,
+        output,
+    )
+}
+
+/// Listens on `port` of 127.0.0.1, and prints `listening PORT`.
+///
+/// `Socket` where the port cannot be listened on: nothing was printed. `Write` where the line could not be written.
+pub(crate) fn listen<P: Port, W: Write>(
+    net: &mut P,
+    port: u16,
+    output: &mut W,
+) -> Result<(), ServeFault>
+    ensures ok { OnOk result (Gains (W.contents output.old) (W.contents output.new) (listening_line port)) }
+    ensures err { IfErr result (λ fault. (fault ≡ ServeFault.Write)
+        ⊎ ((fault ≡ ServeFault.Socket) × (W.contents output.new ≡ W.contents output.old))) }
+    ensures wires { OnOk result (P.Listener.events net.new ≡ grown (P.Listener.events net.old) (Listening localhost port ∷ [])) }
+    ensures few { OnErr result ((P.Listener.events net.new ≡ P.Listener.events net.old)
+        ⊎ (P.Listener.events net.new ≡ grown (P.Listener.events net.old) (Listening localhost port ∷ []))) }
+{
+    match net.listen([127, 0, 0, 1], port) {
+        Ok(()) => print(output, ListeningLine(port)),
+        Err(_) => Err(ServeFault::Socket),
+    }
+}
+
+/// Listens on `port` of 127.0.0.1, prints `listening PORT`, and serves `count` connections as `serve_over` does.
+///
+/// # Errors
+///
+/// `Socket` where the port cannot be listened on: nothing was printed. Then those of `serve_over`, after the line
+/// `listening PORT`.
+pub fn listen_and_serve<P: Port, W: Write>(
+    alloc: Global,
+    net: &mut P,
     book: &Book<Global>,
     config: Config,
     port: u16,
     count: u32,
     output: &mut W,
 ) -> Result<(), ServeFault>
-    ensures { ListensAs (is_allowed config) port count (W.contents output.old) (W.contents output.new) result }
+    ensures lines { ListensAs (start_of book.now config) (is_allowed config) port count (W.contents output.old) (W.contents output.new)
+        (P.Listener.events net.old) (P.Listener.events net.new) result }
+    ensures wires { ListensSome (start_of book.now config) port count (P.Listener.events net.old) (P.Listener.events net.new) }
 {
-    let listener = match listen(net, port, output) {
-        Ok(listener) => listener,
+    match listen(net, port, output) {
+        Ok(()) => {}
         Err(fault) => return Err(fault),
-    };
-    serve_on(alloc, &listener, book, config, count, output)
+    }
+    serve_over(alloc, net, book, config, count, output)
 }

@@ -1,8 +1,8 @@
 -- A script that has a first bad line is read as that line's number and its least kind of fault.
 use Rattle.std.proofs.Common.{◌≡◌, ◌∙◌, ◌+◌, ◌==◌, ◌++◌, if◌then◌else◌, ℕ, Bool, true, false, suc, List, [], ◌∷◌, Result, Ok, Err, length, refl, sym, ap, ap₂, subst, arith, nat_lt, ltb-true, ltb-false}
 use Rattle.std.specs.List.{AllByRecursion}
-use Rattle.h2_spec.specs.Assemble.{assembled}
-use Rattle.h2_spec.specs.Script.{AreLines, Bad, IsLeastFault, IsReadingOf, Line, kind_number}
+use Rattle.h2_spec.specs.Texts.Assemble.{assembled}
+use Rattle.h2_spec.specs.Texts.Script.{AreLines, Bad, IsLeastFault, IsReadingOf, Line, kind_number}
 use Rattle.h2_spec.specs.declared.scripts.SyntaxKind.{SyntaxKind}
 use Rattle.h2_spec.specs.declared.scripts.SyntaxKind.TheVariants as kind
 use Rattle.h2_spec.proofs.ReadingLines.{script_read}

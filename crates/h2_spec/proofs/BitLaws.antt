@@ -3,8 +3,8 @@ use Rattle.std.proofs.Common.{◌≡◌, ℕ, zero, suc, ◌+◌, ◌-◌, ◌*�
 use Rattle.std.proofs.lemmas.List.{append-nil, replicate_more, take_more}
 use Rattle.std.proofs.lemmas.Nat.{pow-add, div-add-mod'}
 use Rattle.std.proofs.Math.Nat.{div-lt_iff_lt-mul, mul-le-mul_right}
-use Rattle.h2_spec.specs.HuffmanCode.{bits_of}
-use Rattle.h2_spec.specs.Huffman.{bits, ones, IsText}
+use Rattle.h2_spec.specs.Hpack.HuffmanCode.{bits_of}
+use Rattle.h2_spec.specs.Hpack.Huffman.{bits, ones, IsText}
 
 pub length-bits_of : (n v : ℕ) → length (bits_of n v) ≡ n
 unfolding bits_of

@@ -5,12 +5,12 @@ use Rattle.std.proofs.lemmas.List.{append-nil, drop-append-le, drop-drop, drop_a
 use Rattle.std.proofs.Math.Seq.{take-add}
 use Rattle.std.specs.List.{concat}
 use Rattle.std.specs.Prelude.{option_to_list, nat_le}
-use Rattle.h2_spec.specs.DynamicTable.{Table, field_at, resize}
-use Rattle.h2_spec.specs.Field.{Field, field}
-use Rattle.h2_spec.specs.Instruction.{Shape, Indexed, Update, Literal, Mode, NameRef, Str, instr_at, text_of}
-use Rattle.h2_spec.specs.Parse.{Front, Stop, One, Parsed, after_one, parse_first, parse_all}
+use Rattle.h2_spec.specs.Hpack.DynamicTable.{Table, field_at, resize}
+use Rattle.h2_spec.specs.Hpack.Field.{Field, field}
+use Rattle.h2_spec.specs.Hpack.Instruction.{Shape, Indexed, Update, Literal, Mode, NameRef, Str, instr_at, text_of}
+use Rattle.h2_spec.specs.Frames.Parse.{Front, Stop, One, Parsed, after_one, parse_first, parse_all}
 use Rattle.h2_spec.specs.Read.{Read, Whole, More, TooLong}
-use Rattle.h2_spec.specs.Block.{Fault, Integer, LateUpdate, LargeUpdate, MissingUpdate, DecoderState, Given, literal_result, index_fault, indexed_result, where_not_due, table_after, name_of, text_result, apply, taken_unless, instr_taken, next_instr, Outcome, Unfinished, Faulty, refused_by, outcome_of, fields_given, Progress, Decoded, has_fields, decoding, decoded, carried_on, carried_through, progress_after, progress_by, applied, ProgressWithin}
+use Rattle.h2_spec.specs.Hpack.Block.{Fault, Integer, LateUpdate, LargeUpdate, MissingUpdate, DecoderState, Given, literal_result, index_fault, indexed_result, where_not_due, table_after, name_of, text_result, apply, taken_unless, instr_taken, next_instr, Outcome, Unfinished, Faulty, refused_by, outcome_of, fields_given, Progress, Decoded, has_fields, decoding, decoded, carried_on, carried_through, progress_after, progress_by, applied, ProgressWithin}
 use Rattle.h2_spec.proofs.InstructionLaws.{Stays, Within, Takes, instr-stays, instr-within, instr-takes, whole-takes, whole-exact}
 use Rattle.h2_spec.proofs.ParseLaws as laws
 

@@ -2,7 +2,7 @@
 use Rattle.std.proofs.Common.{◌≡◌, ℕ, zero, suc, ◌<◌, Bool, true, false, eqb, List, [], ◌∷◌, ◌++◌, Option, Some, None, refl, arith}
 use Rattle.std.proofs.lemmas.Bool.Decides.{nat_tests}
 use Rattle.h2_spec.proofs.Computed.{all_below, below-at}
-use Rattle.h2_spec.specs.HuffmanCode.{code}
+use Rattle.h2_spec.specs.Hpack.HuffmanCode.{code}
 
 pub data Tree : Type 0 where
   bare : Tree

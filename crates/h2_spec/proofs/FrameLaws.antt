@@ -6,7 +6,7 @@ use Rattle.std.proofs.Math.Seq.{take-append_seam}
 use Rattle.std.specs.Prelude.{slice_range, nat_lt, nat_le}
 use Rattle.std.specs.List.{common_prefix_len}
 use Rattle.h2_spec.specs.declared.frames.Head.{Head}
-use Rattle.h2_spec.specs.Frame.{Frame, IsSendable, Preface, WholeFrame, NoItem, Got, frame_octets, head_sent, head_of, head_at, frame_item, next, preface}
+use Rattle.h2_spec.specs.Frames.Frame.{Frame, IsSendable, Preface, WholeFrame, NoItem, Got, frame_octets, head_sent, head_of, head_at, frame_item, next, preface}
 
 -- ---- frames
 

@@ -2,9 +2,9 @@
 use Rattle.std.proofs.Common.{◌≡◌, ℕ, zero, suc, ◌+◌, ◌-◌, ◌<◌, ◌≤◌, Bool, true, false, cond, List, [], ◌∷◌, ◌++◌, length, take, drop, refl, ap, sym, ◌∙◌, subst, arith, leb, leb-true, le-leb, length-append, length-drop}
 use Rattle.std.proofs.lemmas.List.{append-nil, take-append-le, drop-append-le, drop-take, length-take-le, take_all}
 use Rattle.std.proofs.Math.Seq.{take-add}
-use Rattle.h2_spec.specs.Integer.{IsReadOf, int_at}
+use Rattle.h2_spec.specs.Hpack.Integer.{IsReadOf, int_at}
 use Rattle.h2_spec.specs.Read.{Read, Whole, More, TooLong, read_map}
-use Rattle.h2_spec.specs.Instruction.{Str, Shape, Mode, IncrementalIndexing, WithoutIndexing, NeverIndexed, NameRef, Ref, Literal, Indexed, Update, Named, mode_prefix, read_past, read_then, octets_at, string_at, name_by, value_at, literal_at, instr_by, instr_at}
+use Rattle.h2_spec.specs.Hpack.Instruction.{Str, Shape, Mode, IncrementalIndexing, WithoutIndexing, NeverIndexed, NameRef, Ref, Literal, Indexed, Update, Named, mode_prefix, read_past, read_then, octets_at, string_at, name_by, value_at, literal_at, instr_by, instr_at}
 use Rattle.h2_spec.proofs.IntegerLaws as integers
 
 -- what is read to its end is read so with more octets after it

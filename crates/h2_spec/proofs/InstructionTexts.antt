@@ -1,8 +1,8 @@
 -- Instructions by their texts: each spelling is read, and what is written is a spelling.
 use Rattle.std.proofs.Common.{◌≡◌, ℕ, Bool, true, false, List, ◌++◌, length, take, Option, Some, None, if◌then◌else◌, refl, sym, ap, ◌∙◌, subst}
 use Rattle.std.proofs.lemmas.List.{length-take-le}
-use Rattle.h2_spec.specs.Huffman.{HuffRead, Text, Eos, Padding, IsHuffman, IsDecodingOf, huffman_text}
-use Rattle.h2_spec.specs.Instruction.{Mode, NameRef, Ref, Named, Indexed, Update, Literal, Str, TextStr, Shape, Instruction, instr_at, text_of, with_text, text_str, named_text, name_text, literal_text, instruction_of, instruction_at, RepresentsText, IsStringOf, IsNameOf, IsShapeOf, IsSpelling}
+use Rattle.h2_spec.specs.Hpack.Huffman.{HuffRead, Text, Eos, Padding, IsHuffman, IsDecodingOf, huffman_text}
+use Rattle.h2_spec.specs.Hpack.Instruction.{Mode, NameRef, Ref, Named, Indexed, Update, Literal, Str, TextStr, Shape, Instruction, instr_at, text_of, with_text, text_str, named_text, name_text, literal_text, instruction_of, instruction_at, RepresentsText, IsStringOf, IsNameOf, IsShapeOf, IsSpelling}
 use Rattle.h2_spec.specs.Read.{Read, Whole, More, TooLong, read_map}
 use Rattle.h2_spec.proofs.HuffmanLaws.{text_read, one_answer}
 use Rattle.h2_spec.proofs.InstructionLaws.{whole-stays, whole-exact, whole-takes}

@@ -3,9 +3,9 @@ use Rattle.std.proofs.Common.{◌≡◌, ℕ, zero, suc, ◌+◌, ◌-◌, ◌%�
 use Rattle.std.proofs.lemmas.Bool.{lt-leb}
 use Rattle.std.proofs.lemmas.List.{append-nil, drop_at, take_at}
 use Rattle.std.proofs.lemmas.Nat.{pow_pos}
-use Rattle.h2_spec.specs.Huffman.{IsText}
-use Rattle.h2_spec.specs.Integer.{int_at, groups_of, spell_int}
-use Rattle.h2_spec.specs.Instruction.{Mode, IncrementalIndexing, WithoutIndexing, NeverIndexed, NameRef, Ref, Named, Indexed, Update, Literal, Str, TextStr, Shape, Instruction, read_past, read_then, octets_at, string_at, mode_prefix, mode_high, name_by, value_at, literal_at, instr_by, instr_at, RepresentsText, IsStringOf, IsNameOf, IsShapeOf, IsSpelling, coded, coded_str, coded_name, shape_of, spell_string, spell_name, spell, IsSpellable, IsSpellableName, IsNameText, HasTexts}
+use Rattle.h2_spec.specs.Hpack.Huffman.{IsText}
+use Rattle.h2_spec.specs.Hpack.Integer.{int_at, groups_of, spell_int}
+use Rattle.h2_spec.specs.Hpack.Instruction.{Mode, IncrementalIndexing, WithoutIndexing, NeverIndexed, NameRef, Ref, Named, Indexed, Update, Literal, Str, TextStr, Shape, Instruction, read_past, read_then, octets_at, string_at, mode_prefix, mode_high, name_by, value_at, literal_at, instr_by, instr_at, RepresentsText, IsStringOf, IsNameOf, IsShapeOf, IsSpelling, coded, coded_str, coded_name, shape_of, spell_string, spell_name, spell, IsSpellable, IsSpellableName, IsNameText, HasTexts}
 use Rattle.h2_spec.specs.Read.{Whole, read_map}
 use Rattle.h2_spec.proofs.IntegerLaws.{spelled_read}
 use Rattle.h2_spec.proofs.SpellingLaws as spelling

@@ -5,7 +5,7 @@ use Rattle.std.proofs.lemmas.List.{length-take-le, append-nil}
 use Rattle.std.proofs.Math.Nat.{mod-lt, mod-add-mod, mod-eq_of_lt}
 use Rattle.std.specs.List.{AllByRecursion}
 use Rattle.h2_spec.specs.Read.{Read, Whole, More, TooLong}
-use Rattle.h2_spec.specs.Integer.{groups, IsContinuation, IsInt, IsUnfinished, IsTooLong, IsShortest, IsReadOf, scaled, groups_at, int_at, groups_of, spell_int}
+use Rattle.h2_spec.specs.Hpack.Integer.{groups, IsContinuation, IsInt, IsUnfinished, IsTooLong, IsShortest, IsReadOf, scaled, groups_at, int_at, groups_of, spell_int}
 
 -- the same of the groups after the prefix
 abbrev GroupsRead : ℕ → List ℕ → Read ℕ → Type 0

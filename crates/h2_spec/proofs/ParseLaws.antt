@@ -1,7 +1,7 @@
 -- Front all elements step by step, and from octets in pieces.
 use Rattle.std.proofs.Common.{◌≡◌, ℕ, zero, suc, ◌<◌, ◌≤◌, List, [], ◌++◌, length, drop, refl, sym, ap, arith, length-drop}
 use Rattle.std.proofs.lemmas.List.{drop-append-le}
-use Rattle.h2_spec.specs.Parse.{Front, Stop, One, Parsed, after_one, parse_first, parse_upto, parse_all}
+use Rattle.h2_spec.specs.Frames.Parse.{Front, Stop, One, Parsed, after_one, parse_first, parse_upto, parse_all}
 
 -- a thing takes at least one octet, and no more than there are
 abbrev pub Uses : {S E : Type 0} → List ℕ → Front S E → Type 0

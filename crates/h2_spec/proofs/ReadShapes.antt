@@ -1,7 +1,7 @@
 -- What is read has in its strings parts of the octets: a fact of octets that their parts keep is one of the strings.
 use Rattle.std.proofs.Common.{ℕ, zero, suc, Bool, true, false, List, [], ◌∷◌, ◌<◌, cond, length, take, drop, arith, nat_le}
-use Rattle.h2_spec.specs.Instruction.{Shape, Indexed, Update, Literal, Mode, NameRef, Ref, Named, Str, instr_at, instr_by, string_at, octets_at, read_then, read_past, name_by, literal_at, value_at, mode_prefix}
-use Rattle.h2_spec.specs.Integer.{int_at}
+use Rattle.h2_spec.specs.Hpack.Instruction.{Shape, Indexed, Update, Literal, Mode, NameRef, Ref, Named, Str, instr_at, instr_by, string_at, octets_at, read_then, read_past, name_by, literal_at, value_at, mode_prefix}
+use Rattle.h2_spec.specs.Hpack.Integer.{int_at}
 use Rattle.h2_spec.specs.Read.{Read, Whole, More, TooLong, read_map}
 
 abbrev pub OnRead : {A : Type 0} → (A → Type 0) → Read A → Type 0

@@ -2,9 +2,9 @@
 use Rattle.std.proofs.Common.{◌≡◌, ◌∙◌, ◌*◌, ◌<◌, ◌≤◌, ◌++◌, ◌==◌, ℕ, Bool, true, false, List, [], ◌∷◌, Option, Some, None, length, refl, sym, ap, arith, inl, inr, cond, option_map, option_and_then, subst, eqb-true, slice_index, append_assoc, lit≤}
 use Rattle.std.proofs.lemmas.Str.Parse.{digit_from_value}
 use Rattle.hex.proofs.HexLemmas.{decode_of-ok}
-use Rattle.h2_spec.specs.Assemble.{before, behind, index_of, instruction_at, is_quote, literal_at, name_at, number_at, numbered_at, octet_at, onwards, string_at, string_of, unescaped, value_at, with_octet}
-use Rattle.h2_spec.specs.Instruction.{Instruction, Indexed, Update, Literal, Mode, IncrementalIndexing, WithoutIndexing, NeverIndexed, NameRef, Ref, Named, TextStr}
-use Rattle.h2_spec.specs.Script.{cut_at, is_plain, max_u32, mode_letter, quote_of, SaysCharacter, SaysInstruction, SaysName, SaysNumber, SaysOctet, SaysString, SaysText}
+use Rattle.h2_spec.specs.Texts.Assemble.{before, behind, index_of, instruction_at, is_quote, literal_at, name_at, number_at, numbered_at, octet_at, onwards, string_at, string_of, unescaped, value_at, with_octet}
+use Rattle.h2_spec.specs.Hpack.Instruction.{Instruction, Indexed, Update, Literal, Mode, IncrementalIndexing, WithoutIndexing, NeverIndexed, NameRef, Ref, Named, TextStr}
+use Rattle.h2_spec.specs.Texts.Script.{cut_at, is_plain, max_u32, mode_letter, quote_of, SaysCharacter, SaysInstruction, SaysName, SaysNumber, SaysOctet, SaysString, SaysText}
 use Rattle.h2_spec.proofs.ReadingWords.{IsEnd, before_end, cut_back, cut_here, map_some, number_back, number_read, octet_back, octet_read, onwards_end, then_some, whole}
 use Rattle.h2_spec.proofs.ScriptTexts.{number_lacks, text_lacks}
 

@@ -3,8 +3,8 @@ use Rattle.std.proofs.Common.{◌≡◌, ◌≢◌, ◌∙◌, ◌+◌, ◌<◌,
 use Rattle.std.specs.List.{AllByRecursion}
 use Rattle.std.proofs.lemmas.List.{length-append}
 use Rattle.std.proofs.lemmas.Slice.Eq.{bytes_eq-Decides}
-use Rattle.h2_spec.specs.Assemble.{◌>>=◌, assembled, fitting, frame_at, frame_of, line_then, lines_at, octet_at, octets_at, payload_at, raw_at, statement_at, stream_at, type_at, wanted, with_front, words_at}
-use Rattle.h2_spec.specs.Script.{Payload, Statement, Nothing, Preface, Raw, AFrame, AreLines, Bad, FourParts, HasFault, HasParts, IsFrameLine, IsLeastFault, IsReadingOf, Line, Says, SaysOctet, SaysPayload, SaysSomeOctets, SaysStream, SaysType, Script, cut_at, first_cut, first_word, kind_number, lines_of, octets_of, parts_of, payload_octets, second_cut, third_cut}
+use Rattle.h2_spec.specs.Texts.Assemble.{◌>>=◌, assembled, fitting, frame_at, frame_of, line_then, lines_at, octet_at, octets_at, payload_at, raw_at, statement_at, stream_at, type_at, wanted, with_front, words_at}
+use Rattle.h2_spec.specs.Texts.Script.{Payload, Statement, Nothing, Preface, Raw, AFrame, AreLines, Bad, FourParts, HasFault, HasParts, IsFrameLine, IsLeastFault, IsReadingOf, Line, Says, SaysOctet, SaysPayload, SaysSomeOctets, SaysStream, SaysType, Script, cut_at, first_cut, first_word, kind_number, lines_of, octets_of, parts_of, payload_octets, second_cut, third_cut}
 use Rattle.h2_spec.specs.declared.scripts.SyntaxKind.{SyntaxKind}
 use Rattle.h2_spec.specs.declared.scripts.SyntaxKind.TheVariants as kind
 use Rattle.h2_spec.proofs.ReadingParts.{payload_back, payload_read, stream_back, stream_read, type_back, type_read}

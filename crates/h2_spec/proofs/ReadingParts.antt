@@ -3,9 +3,9 @@ use Rattle.std.proofs.Common.{◌≡◌, ◌∙◌, ◌+◌, ◌-◌, ◌<◌, �
 use Rattle.std.proofs.Math.Seq.{take-append_seam}
 use Rattle.std.proofs.lemmas.List.{length-append}
 use Rattle.std.proofs.lemmas.Slice.Eq.{bytes_eq-Decides}
-use Rattle.h2_spec.specs.Assemble.{all_at, before, behind, each_at, instruction_at, is_reserved, number_at, octet_at, octets_at, one_and, onwards, pair_of, payload_at, setting_at, setting_of, stream_at, type_at}
-use Rattle.h2_spec.specs.FrameType.{type_names}
-use Rattle.h2_spec.specs.Script.{cut_at, Payload, Empty, Octets, Pairs, Increment, Code, Instructions, max_stream, max_u32, SaysEach, SaysInstruction, SaysNumber, SaysPayload, SaysSetting, SaysStream, SaysType}
+use Rattle.h2_spec.specs.Texts.Assemble.{all_at, before, behind, each_at, instruction_at, is_reserved, number_at, octet_at, octets_at, one_and, onwards, pair_of, payload_at, setting_at, setting_of, stream_at, type_at}
+use Rattle.h2_spec.specs.Frames.FrameType.{type_names}
+use Rattle.h2_spec.specs.Texts.Script.{cut_at, Payload, Empty, Octets, Pairs, Increment, Code, Instructions, max_stream, max_u32, SaysEach, SaysInstruction, SaysNumber, SaysPayload, SaysSetting, SaysStream, SaysType}
 use Rattle.h2_spec.proofs.ReadingInstructions.{Reads, behind_back, instruction_back, instruction_read, moved, two_digits}
 use Rattle.h2_spec.proofs.ReadingWords.{IsEnd, before_end, cut_back, cut_here, map_some, number_back, number_read, octet_back, octet_read, octets_back, octets_read, onwards_end, then_some, whole}
 use Rattle.h2_spec.proofs.ScriptTexts.{Lacks, append_lacks, cons_lacks, number_lacks}

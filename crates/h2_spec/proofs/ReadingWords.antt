@@ -11,8 +11,8 @@ use Rattle.std.proofs.lemmas.Str.Parse.{digit_from_value}
 use Rattle.hex.specs.Hex.{decode_of, decode_sized}
 use Rattle.hex.specs.declared.FromHexError.{FromHexError}
 use Rattle.hex.proofs.HexLemmas.{decode_of-ok, decode_sized-ok, decode_sized-twice}
-use Rattle.h2_spec.specs.Assemble.{before, decoded, number_at, octet_at, octets_at, onwards, scanned, up_to}
-use Rattle.h2_spec.specs.Script.{cut_at, SaysNumber, SaysOctet, SaysSomeOctets}
+use Rattle.h2_spec.specs.Texts.Assemble.{before, decoded, number_at, octet_at, octets_at, onwards, scanned, up_to}
+use Rattle.h2_spec.specs.Texts.Script.{cut_at, SaysNumber, SaysOctet, SaysSomeOctets}
 use Rattle.h2_spec.proofs.ScriptTexts.{Lacks}
 
 -- ---- a value, or none

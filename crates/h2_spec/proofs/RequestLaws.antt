@@ -5,10 +5,10 @@ use Rattle.std.specs.List.{list_any}
 use Rattle.std.proofs.lemmas.Slice.Eq.{bytes_eq-Decides}
 use Rattle.std.proofs.lemmas.Bool.Decides.{nat_tests, leb_tells}
 use Rattle.std.proofs.Math.Nat.{eq-or-lt_of_le}
-use Rattle.h2_spec.specs.Field.{Field}
-use Rattle.h2_spec.specs.Request.{is_pseudo, is_named, has_bad_name, has_bad_value, is_unknown_pseudo, is_of_connection, has_bad_te, is_content_length, is_digits, decimal_value, has_bad_length, is_other_length, is_late_pseudo, is_double_pseudo, value_named, is_connect, lacks_pseudo, any_two, malformed, malformed_trailers}
-use Rattle.h2_spec.specs.Answer.{response_block}
-use Rattle.h2_spec.specs.Reasons.{SomeField, SomeTwo, IsReason, IsTrailersReason, IsLeast, IsValueNamed, bad_name, bad_value, late_pseudo, unknown_pseudo, double_pseudo, no_method, connect_without_authority, connect_with_scheme, connect_with_path, no_scheme, no_path, empty_path, connection_field, bad_te, bad_length, two_lengths, bad_trailer_name, bad_trailer_value, trailer_pseudo, trailer_of_connection, bad_trailer_te}
+use Rattle.h2_spec.specs.Hpack.Field.{Field}
+use Rattle.h2_spec.specs.Requests.Request.{is_pseudo, is_named, has_bad_name, has_bad_value, is_unknown_pseudo, is_of_connection, has_bad_te, is_content_length, is_digits, decimal_value, has_bad_length, is_other_length, is_late_pseudo, is_double_pseudo, value_named, is_connect, lacks_pseudo, any_two, malformed, malformed_trailers}
+use Rattle.h2_spec.specs.Requests.Answer.{response_block}
+use Rattle.h2_spec.specs.Requests.Reasons.{SomeField, SomeTwo, IsReason, IsTrailersReason, IsLeast, IsValueNamed, bad_name, bad_value, late_pseudo, unknown_pseudo, double_pseudo, no_method, connect_without_authority, connect_with_scheme, connect_with_path, no_scheme, no_path, empty_path, connection_field, bad_te, bad_length, two_lengths, bad_trailer_name, bad_trailer_value, trailer_pseudo, trailer_of_connection, bad_trailer_te}
 
 -- ---- tests
 

@@ -7,9 +7,9 @@ use Rattle.std.proofs.lemmas.List.{get_or-drop}
 use Rattle.std.proofs.lemmas.List.Elements.{All-append, All-cons}
 use Rattle.hex.specs.Hex.{IsBytes, is_hex_digit}
 use Rattle.hex.proofs.HexLemmas.{decode_of-ok}
-use Rattle.h2_spec.specs.Instruction.{Instruction, Indexed, Update, Literal, Mode, IncrementalIndexing, WithoutIndexing, NeverIndexed, NameRef, Ref, Named, TextStr}
-use Rattle.h2_spec.specs.FrameType.{type_names}
-use Rattle.h2_spec.specs.Script.{Payload, Empty, Octets, Pairs, Increment, Code, Instructions, AFrame, is_plain, mode_letter, quote_of, Says, SaysCharacter, SaysEach, SaysInstruction, SaysName, SaysNumber, SaysOctets, SaysPayload, SaysSetting, SaysStream, SaysString, SaysText, SaysType}
+use Rattle.h2_spec.specs.Hpack.Instruction.{Instruction, Indexed, Update, Literal, Mode, IncrementalIndexing, WithoutIndexing, NeverIndexed, NameRef, Ref, Named, TextStr}
+use Rattle.h2_spec.specs.Frames.FrameType.{type_names}
+use Rattle.h2_spec.specs.Texts.Script.{Payload, Empty, Octets, Pairs, Increment, Code, Instructions, AFrame, is_plain, mode_letter, quote_of, Says, SaysCharacter, SaysEach, SaysInstruction, SaysName, SaysNumber, SaysOctets, SaysPayload, SaysSetting, SaysStream, SaysString, SaysText, SaysType}
 
 -- ---- no octet of a text is c
 

@@ -3,8 +3,8 @@ use Rattle.std.proofs.Common.{◌≡◌, ℕ, zero, suc, ◌+◌, ◌-◌, ◌*�
 use Rattle.std.proofs.Math.Seq.{take-add, take-append-add}
 use Rattle.std.proofs.Math.Nat.{pow-le-pow_right}
 use Rattle.std.proofs.lemmas.List.{length-replicate, take_at, take-replicate, length-take-le, length-drop, append_cancel_left}
-use Rattle.h2_spec.specs.HuffmanCode.{bits_of}
-use Rattle.h2_spec.specs.Huffman.{bits, codes, ones, IsText, IsHuffman, number_of_bits, octets_of_bits, filled, spell_huffman}
+use Rattle.h2_spec.specs.Hpack.HuffmanCode.{bits_of}
+use Rattle.h2_spec.specs.Hpack.Huffman.{bits, codes, ones, IsText, IsHuffman, number_of_bits, octets_of_bits, filled, spell_huffman}
 use Rattle.h2_spec.proofs.BitLaws.{length-bits_of, bits_of-add}
 
 number_small : (bs : List Bool) → number_of_bits bs < 2 ^ length bs

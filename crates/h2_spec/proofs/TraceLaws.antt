@@ -6,10 +6,10 @@ use Rattle.std.proofs.lemmas.List.Sums.{common_prefix_len-le}
 use Rattle.std.proofs.Math.ListN.{get_or-append}
 use Rattle.std.specs.List.{common_prefix_len}
 use Rattle.std.specs.Prelude.{slice_range}
-use Rattle.h2_spec.specs.Parse.{Parsed, parse_all}
+use Rattle.h2_spec.specs.Frames.Parse.{Parsed, parse_all}
 use Rattle.h2_spec.specs.declared.errors.ErrorCode.{ErrorCode}
 use Rattle.h2_spec.specs.declared.frames.Head.{Head}
-use Rattle.h2_spec.specs.Frame.{Next, NoItem, Got, next, Preface, BadPreface, WholeFrame, Oversize, head_of, frame_item, preface_item, preface}
+use Rattle.h2_spec.specs.Frames.Frame.{Next, NoItem, Got, next, Preface, BadPreface, WholeFrame, Oversize, head_of, frame_item, preface_item, preface}
 use Rattle.h2_spec.specs.State.{State}
 use Rattle.h2_spec.specs.declared.connection.Phase.{Phase}
 use Rattle.h2_spec.specs.declared.connection.Phase.TheVariants as phase

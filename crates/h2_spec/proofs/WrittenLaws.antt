@@ -9,17 +9,17 @@ use Rattle.std.proofs.lemmas.Slice.Eq.{bytes_eq-Decides, starts_is}
 use Rattle.std.proofs.lemmas.Bool.{eq-eqb}
 use Rattle.hex.specs.Hex.{IsBytes, encode_lower}
 use Rattle.hex.proofs.HexLemmas.{decode_of-encode_lower}
-use Rattle.h2_spec.specs.Frame.{head_of, preface}
-use Rattle.h2_spec.specs.FrameType.{RST_STREAM, SETTINGS, WINDOW_UPDATE}
-use Rattle.h2_spec.specs.Huffman.{HuffRead, Text, Eos, Padding, IsDecodingOf, IsText, huffman_text}
-use Rattle.h2_spec.specs.Instruction.{Shape, Instruction, Indexed, Update, Literal, Mode, NameRef, Ref, Named, Str, TextStr, instruction_at, instruction_of, literal_text, name_text as name_by_text, text_str, text_of, with_text, instr_at}
+use Rattle.h2_spec.specs.Frames.Frame.{head_of, preface}
+use Rattle.h2_spec.specs.Frames.FrameType.{RST_STREAM, SETTINGS, WINDOW_UPDATE}
+use Rattle.h2_spec.specs.Hpack.Huffman.{HuffRead, Text, Eos, Padding, IsDecodingOf, IsText, huffman_text}
+use Rattle.h2_spec.specs.Hpack.Instruction.{Shape, Instruction, Indexed, Update, Literal, Mode, NameRef, Ref, Named, Str, TextStr, instruction_at, instruction_of, literal_text, name_text as name_by_text, text_str, text_of, with_text, instr_at}
 use Rattle.h2_spec.specs.Octets.{big_endian, four_octets}
-use Rattle.h2_spec.specs.Parse.{Front, Stop, One, parse_first, parse_upto, parse_all}
-use Rattle.h2_spec.specs.Payload.{setting_pairs}
+use Rattle.h2_spec.specs.Frames.Parse.{Front, Stop, One, parse_first, parse_upto, parse_all}
+use Rattle.h2_spec.specs.Frames.Payload.{setting_pairs}
 use Rattle.h2_spec.specs.Read.{Read, Whole, More, TooLong, read_map}
-use Rattle.h2_spec.specs.FrameType.{type_names}
-use Rattle.h2_spec.specs.Script.{Payload, Empty, Octets, Pairs, Increment, Code, Instructions, Statement, Nothing, Preface, Raw, Says, SaysCharacter, SaysEach, SaysInstruction, SaysName, SaysNumber, SaysOctet, SaysPayload, SaysSetting, SaysStream, SaysString, SaysText, SaysType, Script, instruction_octets, is_plain, max_u32, octets_of, payload_octets, setting_octets, stream_octets}
-use Rattle.h2_spec.specs.Written.{block_said, character_text, each_text, first_said, frame_front, frame_said, instruction_text, instructions_in, is_fragment, is_writable, line_text, name_text, next_said, or_octets, payload_said, payload_text, rest_text, setting_text, statement_text, stream_text, string_text, type_text, written}
+use Rattle.h2_spec.specs.Frames.FrameType.{type_names}
+use Rattle.h2_spec.specs.Texts.Script.{Payload, Empty, Octets, Pairs, Increment, Code, Instructions, Statement, Nothing, Preface, Raw, Says, SaysCharacter, SaysEach, SaysInstruction, SaysName, SaysNumber, SaysOctet, SaysPayload, SaysSetting, SaysStream, SaysString, SaysText, SaysType, Script, instruction_octets, is_plain, max_u32, octets_of, payload_octets, setting_octets, stream_octets}
+use Rattle.h2_spec.specs.Texts.Written.{block_said, character_text, each_text, first_said, frame_front, frame_said, instruction_text, instructions_in, is_fragment, is_writable, line_text, name_text, next_said, or_octets, payload_said, payload_text, rest_text, setting_text, statement_text, stream_text, string_text, type_text, written}
 use Rattle.h2_spec.proofs.HuffmanLaws.{text_read}
 use Rattle.h2_spec.proofs.ReadShapes.{IsWholeName, IsWholeShape, OnRead, first_whole}
 use Rattle.h2_spec.proofs.ScriptTexts.{Lacks, append_lacks, bytes_after, bytes_below, frame_lacks, literal_lacks, octets_lack}

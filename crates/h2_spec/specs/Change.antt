@@ -5,7 +5,7 @@ use Rattle.h2_spec.specs.declared.connection.ConnectionState.{ConnectionState}
 use Rattle.h2_spec.specs.declared.connection.Phase.TheVariants as phase
 use Rattle.h2_spec.specs.declared.errors.ErrorCode.{ErrorCode}
 use Rattle.h2_spec.specs.declared.ignored.Ignored.{Ignored}
-use Rattle.h2_spec.specs.declared.reactions.Answering.{Answering}
+use Rattle.h2_spec.specs.declared.reactions.AnswerStart.{AnswerStart}
 use Rattle.h2_spec.specs.declared.reactions.Change.{Change}
 use Rattle.h2_spec.specs.declared.reactions.ConnectionFrame.{ConnectionFrame}
 use Rattle.h2_spec.specs.declared.reactions.ConnectionFrame.TheVariants.{NoConnectionFrame, SettingsAck, PingAck, Credit}
@@ -19,14 +19,14 @@ use Rattle.h2_spec.specs.declared.streams.StreamState.{StreamState}
 use Rattle.h2_spec.specs.declared.streams.StreamState.TheVariants.{Idle, Skipped, BothOpen, HalfRemote, HalfLocal, Ended, PeerReset, WeReset}
 use Rattle.h2_spec.specs.declared.streams.Stream.{Stream}
 use Rattle.h2_spec.specs.Octets.{big_endian}
-use Rattle.h2_spec.specs.FrameType.{HEADERS, RST_STREAM, SETTINGS, PING, GOAWAY, WINDOW_UPDATE, END_STREAM, END_HEADERS, ACK}
-use Rattle.h2_spec.specs.Frame.{Frame}
-use Rattle.h2_spec.specs.Cause.{code_of}
-use Rattle.h2_spec.specs.Errors.{code_number}
+use Rattle.h2_spec.specs.Frames.FrameType.{HEADERS, RST_STREAM, SETTINGS, PING, GOAWAY, WINDOW_UPDATE, END_STREAM, END_HEADERS, ACK}
+use Rattle.h2_spec.specs.Frames.Frame.{Frame}
+use Rattle.h2_spec.specs.Causes.Cause.{code_of}
+use Rattle.h2_spec.specs.Causes.Errors.{code_number}
 use Rattle.h2_spec.specs.Window.{is_above_max}
 use Rattle.h2_spec.specs.Stream.{is_live, not_live, put}
 use Rattle.h2_spec.specs.State.{State, OpenBlock}
-use Rattle.h2_spec.specs.Answer.{Answer, Entry, picked, response_block}
+use Rattle.h2_spec.specs.Requests.Answer.{Answer, Entry, picked, response_block}
 
 -- ---- rules of one stream
 
@@ -58,7 +58,7 @@ abbrev pub with_size_update_pending : ConnectionState → Bool → ConnectionSta
 with_size_update_pending core size_update_pending = record core { peer = record core.peer { size_update_pending = size_update_pending } }
 
 -- the answer that begins on a stream, if one does: its block begins with a table size update where one is pending
-abbrev pub answer_begun : Bool → ℕ → Option Pick → Option Answering
+abbrev pub answer_begun : Bool → ℕ → Option Pick → Option AnswerStart
 answer_begun pending id None = None
 answer_begun pending id (Some pick) = Some (record { id = id; pick = pick; size_update_pending = pending })
 
@@ -175,7 +175,7 @@ stream_frames (Reset id cause) = rst_stream id (code_of cause) ∷ []
 stream_frames (StreamCredit id n) = window_update id n ∷ []
 
 -- HEADERS of an answer that begins
-abbrev pub answer_frames : List Entry → Option Answering → List Frame
+abbrev pub answer_frames : List Entry → Option AnswerStart → List Frame
 answer_frames book None = []
 answer_frames book (Some a) = response a.size_update_pending a.id (picked book a.pick) ∷ []
 

@@ -7,8 +7,8 @@ use Rattle.h2_spec.specs.declared.connection.Phase.TheVariants as phase
 use Rattle.h2_spec.specs.declared.frames.FrameType.{FrameType}
 use Rattle.h2_spec.specs.declared.frames.FrameType.TheVariants.{Data, Headers, Priority, RstStream, Settings, PushPromise, Ping, Goaway, WindowUpdate, Continuation, Unknown}
 use Rattle.h2_spec.specs.declared.frames.Head.{Head}
-use Rattle.h2_spec.specs.Cause.{first_of}
-use Rattle.h2_spec.specs.FrameType.{CONTINUATION, SETTINGS, ACK, frame_type, has}
+use Rattle.h2_spec.specs.Causes.Cause.{first_of}
+use Rattle.h2_spec.specs.Frames.FrameType.{CONTINUATION, SETTINGS, ACK, frame_type, has}
 
 -- inside a block on this stream, what is no CONTINUATION of it (6.10)
 unfoldable pub interrupts : Option ℕ → Head → Bool

@@ -15,7 +15,7 @@ use Rattle.h2_spec.specs.declared.reactions.StreamOutcome.{StreamOutcome}
 use Rattle.h2_spec.specs.declared.streams.Stream.{Stream}
 use Rattle.h2_spec.specs.Window.{given_back}
 use Rattle.h2_spec.specs.Change.{only_counts, ignoring, with_outcome, outcome_without_frame, stream_error, unless_broken}
-use Rattle.h2_spec.specs.StreamEnds.{peer_ended}
+use Rattle.h2_spec.specs.Requests.StreamEnds.{peer_ended}
 
 -- ---- on the connection
 

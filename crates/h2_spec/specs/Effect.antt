@@ -1,5 +1,5 @@
 -- What one item does to a connection (RFC 9113, 5 and 6).
-use Rattle.std.specs.Prelude.{ℕ, List, length, ◌==◌, if◌then◌else◌, Option, Some, None, Result, Ok, Err}
+use Rattle.std.specs.Prelude.{ℕ, Bool, List, length, ◌==◌, if◌then◌else◌, Option, Some, None, Result, Ok, Err}
 use Rattle.h2_spec.specs.declared.causes.Cause.{Cause}
 use Rattle.h2_spec.specs.declared.causes.Cause.TheVariants as cause
 use Rattle.h2_spec.specs.declared.connection.Config.{Config}
@@ -19,12 +19,12 @@ use Rattle.h2_spec.specs.declared.reactions.StreamOutcome.{StreamOutcome}
 use Rattle.h2_spec.specs.declared.reactions.Verdict.{Verdict}
 use Rattle.h2_spec.specs.declared.streams.StreamState.TheVariants.{PeerReset}
 use Rattle.h2_spec.specs.declared.streams.Stream.{Stream}
-use Rattle.h2_spec.specs.FrameType.{ACK, END_STREAM, END_HEADERS, has}
-use Rattle.h2_spec.specs.Frame.{Item, Preface, BadPreface, WholeFrame, Oversize}
-use Rattle.h2_spec.specs.Payload.{DataPart, HeadersPart, Part, OfData, OfHeaders, OfPriority, OfRstStream, OfSettings, OfSettingsAck, OfPushPromise, OfPing, OfGoaway, OfWindowUpdate, OfContinuation, OfUnknown, part_as, part_of}
-use Rattle.h2_spec.specs.Block.{decoded}
-use Rattle.h2_spec.specs.Request.{malformed, malformed_trailers, declared_length, request_of}
-use Rattle.h2_spec.specs.Answer.{Entry, picked, pick_of, response_block}
+use Rattle.h2_spec.specs.Frames.FrameType.{ACK, END_STREAM, END_HEADERS, has}
+use Rattle.h2_spec.specs.Frames.Frame.{Item, Preface, BadPreface, WholeFrame, Oversize}
+use Rattle.h2_spec.specs.Frames.Payload.{DataPart, HeadersPart, Part, OfData, OfHeaders, OfPriority, OfRstStream, OfSettings, OfSettingsAck, OfPushPromise, OfPing, OfGoaway, OfWindowUpdate, OfContinuation, OfUnknown, part_as, part_of}
+use Rattle.h2_spec.specs.Hpack.Block.{decoded}
+use Rattle.h2_spec.specs.Requests.Request.{malformed, malformed_trailers, declared_length, request_of}
+use Rattle.h2_spec.specs.Requests.Answer.{Entry, picked, pick_of, response_block}
 use Rattle.h2_spec.specs.Stream.{not_live, stream_at}
 use Rattle.h2_spec.specs.State.{State, OpenBlock}
 use Rattle.h2_spec.specs.Change.{Step, only_counts, ignoring, with_outcome, outcome_without_frame, broken, made, frames_of, shifted, received}
@@ -33,7 +33,7 @@ use Rattle.h2_spec.specs.ReactionTable.{Cell, DataRule, Take, Refuse, Count, Res
 use Rattle.h2_spec.specs.Data.{data_taken, data_refused, data_counted}
 use Rattle.h2_spec.specs.WindowUpdate.{window_outcome, connection_window}
 use Rattle.h2_spec.specs.SettingsFrame.{settings_rule, acknowledged}
-use Rattle.h2_spec.specs.Headers.{FrameEffect, Breaks, Makes, makes, request_outcome, trailers_outcome, block_opens, continuation}
+use Rattle.h2_spec.specs.Requests.Headers.{FrameEffect, Breaks, Makes, makes, request_outcome, trailers_outcome, block_opens, continuation}
 
 -- a frame is ignored for this reason, and nothing changes
 abbrev pub ignore : ConnectionState → Ignored → Reaction
@@ -84,27 +84,75 @@ unfoldable pub on_window : ConnectionState → ℕ → Stream → Reaction
 unfolding with_outcome window_outcome
 on_window core increment st = run_cell ConnectionError (ignore core) (λ rule. window_rule rule core increment st) (window_cell (increment == 0) st.kind)
 
+-- ---- PING, GOAWAY and PUSH_PROMISE
+
+-- PING (6.7): its octets are sent back, unless it is an answer itself, which is ignored
+abbrev pub on_ping : ConnectionState → (is_answer : Bool) → List ℕ → Reaction
+on_ping core is_answer octets = if is_answer then ignore core PingAcknowledgement else Continues (record (only_counts core) { connection_frame = PingAck octets })
+
+-- GOAWAY (6.8): the last stream and the code of the latest one are kept
+abbrev pub on_goaway : ConnectionState → ℕ → ℕ → Reaction
+on_goaway core last code = Continues (only_counts (record core { goaway = Some (last, code) }))
+
+-- PUSH_PROMISE, which a client may not send (8.4)
+abbrev pub on_push_promise : Reaction
+on_push_promise = ConnectionError cause.PushPromiseFromClient
+
+-- ---- the rules on a state: DATA, RST_STREAM and WINDOW_UPDATE on a stream by its number
+
+-- DATA on a stream
+abbrev pub data_at : State → ℕ → ReceivedData → Reaction
+data_at s id d = let st = stream_at s.core.last s.streams id in on_data s.config s.core (body_length s.book st) d st
+
+-- RST_STREAM on a stream
+abbrev pub reset_at : State → ℕ → Reaction
+reset_at s id = on_reset s.core (stream_at s.core.last s.streams id)
+
+-- WINDOW_UPDATE on a stream
+abbrev pub window_at : State → ℕ → ℕ → Reaction
+window_at s id increment = on_window s.core increment (stream_at s.core.last s.streams id)
+
+-- WINDOW_UPDATE, on the connection or on a stream
+abbrev pub on_window_update : State → ℕ → ℕ → Reaction
+on_window_update s id increment = if id == 0 then connection_window s.core increment else window_at s id increment
+
+-- SETTINGS without ACK
+abbrev pub on_settings : State → List (ℕ × ℕ) → Reaction
+on_settings s pairs = settings_rule s.streams s.core pairs
+
+-- SETTINGS with ACK
+abbrev pub on_settings_ack : State → Reaction
+on_settings_ack s = acknowledged s.config s.core
+
 -- ---- HEADERS
 
 -- HEADERS by their cell of the table (6.2)
 abbrev pub on_headers : State → Head → HeadersPart → Cell Purpose → FrameEffect
 on_headers s h part cell = run_cell Breaks (λ reason. Makes s (ignoring reason (only_counts s.core))) (λ purpose. block_opens s purpose h part) cell
 
+-- HEADERS on the stream that their head names
+abbrev pub headers_at : State → Head → HeadersPart → FrameEffect
+headers_at s h part = on_headers s h part (headers_cell h.stream (stream_at s.core.last s.streams h.stream).kind)
+
+-- CONTINUATION (6.10)
+abbrev pub on_continuation : State → Head → List ℕ → FrameEffect
+on_continuation s h fragment = continuation s s.block fragment (has h.flags END_HEADERS)
+
 -- ---- a frame that has passed the checks, by what it holds
 
 -- a frame, by what it holds
 abbrev pub frame_effect : State → Head → List ℕ → Part → FrameEffect
-frame_effect s h p (OfData part) = let st = stream_at s.core.last s.streams h.stream in makes s (on_data s.config s.core (body_length s.book st) (incoming h p part) st)
-frame_effect s h p (OfHeaders part) = on_headers s h part (headers_cell h.stream (stream_at s.core.last s.streams h.stream).kind)
+frame_effect s h p (OfData part) = makes s (data_at s h.stream (incoming h p part))
+frame_effect s h p (OfHeaders part) = headers_at s h part
 frame_effect s h p OfPriority = makes s (ignore s.core Priority)
-frame_effect s h p (OfRstStream code) = makes s (on_reset s.core (stream_at s.core.last s.streams h.stream))
-frame_effect s h p (OfSettings pairs) = makes s (settings_rule s.streams s.core pairs)
-frame_effect s h p OfSettingsAck = makes s (acknowledged s.config s.core)
-frame_effect s h p OfPushPromise = Breaks cause.PushPromiseFromClient
-frame_effect s h p (OfPing octets) = makes s (if has h.flags ACK then ignore s.core PingAcknowledgement else Continues (record (only_counts s.core) { connection_frame = PingAck octets }))
-frame_effect s h p (OfGoaway last code) = makes s (Continues (only_counts (record s.core { goaway = Some (last, code) })))
-frame_effect s h p (OfWindowUpdate increment) = makes s (if h.stream == 0 then connection_window s.core increment else on_window s.core increment (stream_at s.core.last s.streams h.stream))
-frame_effect s h p (OfContinuation fragment) = continuation s s.block fragment (has h.flags END_HEADERS)
+frame_effect s h p (OfRstStream code) = makes s (reset_at s h.stream)
+frame_effect s h p (OfSettings pairs) = makes s (on_settings s pairs)
+frame_effect s h p OfSettingsAck = makes s (on_settings_ack s)
+frame_effect s h p OfPushPromise = makes s on_push_promise
+frame_effect s h p (OfPing octets) = makes s (on_ping s.core (has h.flags ACK) octets)
+frame_effect s h p (OfGoaway last code) = makes s (on_goaway s.core last code)
+frame_effect s h p (OfWindowUpdate increment) = makes s (on_window_update s h.stream increment)
+frame_effect s h p (OfContinuation fragment) = on_continuation s h fragment
 frame_effect s h p OfUnknown = makes s (ignore s.core UnknownType)
 
 -- ---- an item

@@ -1,9 +1,9 @@
 -- What the server sends before it reads anything (RFC 9113, 3.4).
 use Rattle.std.specs.Prelude.{ℕ, List, [], ◌++◌, ◌==◌, if◌then◌else◌}
-use Rattle.h2_spec.specs.FrameType.{SETTINGS}
-use Rattle.h2_spec.specs.Frame.{Frame, frame_octets}
+use Rattle.h2_spec.specs.Frames.FrameType.{SETTINGS}
+use Rattle.h2_spec.specs.Frames.Frame.{Frame, frame_octets}
 use Rattle.h2_spec.specs.Settings.{SETTINGS_HEADER_TABLE_SIZE, SETTINGS_MAX_CONCURRENT_STREAMS, SETTINGS_INITIAL_WINDOW_SIZE, SETTINGS_MAX_FRAME_SIZE, SETTINGS_MAX_HEADER_LIST_SIZE, initial_local_settings}
-use Rattle.h2_spec.specs.Headers.{max_list}
+use Rattle.h2_spec.specs.Requests.Headers.{max_list}
 use Rattle.h2_spec.specs.Octets.{big_endian}
 use Rattle.h2_spec.specs.declared.connection.Config.{Config}
 

@@ -3,14 +3,14 @@
 -- shorter or equal, which has END_STREAM where nothing waits any more.
 use Rattle.std.specs.Prelude.{ℕ, zero, suc, ◌-◌, Bool, false, List, [], ◌∷◌, ◌++◌, length, min, take, drop, nat_le, ◌==◌, if◌then◌else◌, pos, ◌-ℤ◌}
 use Rattle.h2_spec.specs.declared.streams.Stream.{Stream}
-use Rattle.h2_spec.specs.FrameType.{DATA, END_STREAM}
-use Rattle.h2_spec.specs.Frame.{Frame}
+use Rattle.h2_spec.specs.Frames.FrameType.{DATA, END_STREAM}
+use Rattle.h2_spec.specs.Frames.Frame.{Frame}
 use Rattle.h2_spec.specs.Window.{sendable}
 use Rattle.h2_spec.specs.Stream.{octets_waiting}
 use Rattle.h2_spec.specs.State.{State}
-use Rattle.h2_spec.specs.Answer.{Entry, picked}
+use Rattle.h2_spec.specs.Requests.Answer.{Entry, picked}
 use Rattle.h2_spec.specs.Change.{Step, flag_if}
-use Rattle.h2_spec.specs.StreamEnds.{server_ended, with_body_remaining}
+use Rattle.h2_spec.specs.Requests.StreamEnds.{server_ended, with_body_remaining}
 
 -- what a stream sends, where this much of the connection's window is left by those before it
 unfoldable pub allowance : ℕ → Stream → ℕ

@@ -9,10 +9,10 @@ use Rattle.h2_spec.specs.declared.connection.Purpose.{Purpose}
 use Rattle.h2_spec.specs.declared.errors.ErrorCode.{ErrorCode}
 use Rattle.h2_spec.specs.declared.flow.LocalSettings.{LocalSettings}
 use Rattle.h2_spec.specs.declared.streams.Stream.{Stream}
-use Rattle.h2_spec.specs.Field.{Field}
-use Rattle.h2_spec.specs.DynamicTable.{Table}
+use Rattle.h2_spec.specs.Hpack.Field.{Field}
+use Rattle.h2_spec.specs.Hpack.DynamicTable.{Table}
 use Rattle.h2_spec.specs.Settings.{initial, initial_local_settings}
-use Rattle.h2_spec.specs.Answer.{Entry}
+use Rattle.h2_spec.specs.Requests.Answer.{Entry}
 
 -- how far a field block is decoded: what it is for, its fields, whether it still has to begin with a size update, and
 -- the octets of an instruction that is not whole

@@ -1,7 +1,7 @@
 -- A whole run: the items of octets one by one, each with what it does and what is sent (RFC 9113, 3.4 to 6).
 use Rattle.std.specs.Prelude.{◌≡◌, ℕ, ◌<◌, ◌≤◌, true, false, List, [], ◌++◌, length, flat_map}
-use Rattle.h2_spec.specs.Parse.{Front, Stop, One, parse_all}
-use Rattle.h2_spec.specs.Frame.{Frame, Item, Next, NoItem, Got, next, frames_octets, frame_octets}
+use Rattle.h2_spec.specs.Frames.Parse.{Front, Stop, One, parse_all}
+use Rattle.h2_spec.specs.Frames.Frame.{Frame, Item, Next, NoItem, Got, next, frames_octets, frame_octets}
 use Rattle.h2_spec.specs.State.{State}
 use Rattle.h2_spec.specs.declared.connection.Phase.{Phase}
 use Rattle.h2_spec.specs.declared.connection.Phase.TheVariants.{Preface, Settings, Running, Ended}

@@ -1,10 +1,10 @@
 //! Why this server answers with a connection error or a stream error (RFC 9113, 5.4): a cause for each place of the
-//! written table where one arises. Definitions: `specs/Cause.antt`, `specs/CauseWords.antt`.
+//! written table where one arises. Definitions: `specs/Causes/Cause.antt`, `specs/Causes/CauseWords.antt`.
 
 ghost use Rattle.std.specs.Prelude.{◌≡◌, map, slice_get, Some};
-ghost use Rattle.h2_spec.specs.Cause.{code_of};
-ghost use Rattle.h2_spec.specs.CauseWords.{all_causes, cause_client_duty, cause_client_section, cause_name, cause_section, cause_sentence, cause_server_duty, is_must};
-ghost use Rattle.h2_spec.specs.Rules.{text_of};
+ghost use Rattle.h2_spec.specs.Causes.Cause.{code_of};
+ghost use Rattle.h2_spec.specs.Causes.CauseWords.{all_causes, cause_client_duty, cause_client_section, cause_name, cause_section, cause_sentence, cause_server_duty};
+ghost use Rattle.h2_spec.specs.Causes.Rules.{text_of};
 
 use crate::errors::ErrorCode;
 use crate::rules::{ClientDuty, ServerDuty, client_duty_at, server_duty_at, text_at};
@@ -571,7 +571,7 @@ static SERVER_DUTIES: [ServerDuty; 76] = [
 /// The sentence of each cause, in their order.
 static SENTENCES: [&str; 76] = [
     "the octets are not the connection preface",
-    "the first frame behind the preface has to be SETTINGS",
+    "the first frame after the preface has to be SETTINGS",
     "the first SETTINGS is the client's own and has no ACK",
     "the frame is longer than this server takes",
     "the frame is longer than this server takes",
@@ -630,7 +630,7 @@ static SENTENCES: [&str; 76] = [
     "the list of fields has more than 65536 octets",
     "the name of a field is empty or has an octet that names may not have",
     "the value of a field has an octet that values may not have, or a blank at an end",
-    "a pseudo-field is behind a regular field",
+    "a pseudo-field is after a regular field",
     "a pseudo-field is not one of a request",
     "a pseudo-field is there twice",
     "a pseudo-field is missing or empty, or CONNECT has one that it may not have",
@@ -821,13 +821,6 @@ impl Cause {
         ensures { result.now ≡ cause_sentence self }
     {
         text_at(sentences(), place_of(self))
-    }
-
-    /// Whether the RFC demands this error of whoever receives; else it is allowed, or a choice of this server.
-    pub fn is_must(self) -> bool
-        ensures { result ≡ is_must self }
-    {
-        self.server_duty().is_must()
     }
 }
 

@@ -1,7 +1,7 @@
-//! Error codes, and what the small types of this crate refuse (RFC 9113, 7). Definitions: `specs/Errors.antt`.
+//! Error codes, and what the small types of this crate refuse (RFC 9113, 7). Definitions: `specs/Causes/Errors.antt`.
 
 ghost use Rattle.std.specs.Prelude.{◌≡◌};
-ghost use Rattle.h2_spec.specs.Errors.{code_number, fault_number};
+ghost use Rattle.h2_spec.specs.Causes.Errors.{code_number, fault_number};
 
 use crate::causes::Cause;
 use thiserror::Error;

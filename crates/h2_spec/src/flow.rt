@@ -97,7 +97,7 @@ impl Window {
     }
 }
 
-/// The same as questions and new values, for rules that answer a changed record.
+/// As questions and new values, for rules that return a changed record.
 impl Window {
     /// Whether it holds fewer octets than these.
     pub fn is_below(self, count: u32) -> bool
@@ -134,15 +134,6 @@ impl Window {
         ensures { result ≡ int_lt (pos max_window) (self +ℤ (pos to -ℤ pos from)) }
     {
         from < to && self.overflows(to - from)
-    }
-
-    /// Where the initial window goes from one value to another; it may become negative (RFC 9113, 6.9.2).
-    pub fn moved(self, from: u32, to: u32) -> Window
-        requires most { (self +ℤ (pos to -ℤ pos from)) ≤ℤ pos max_window }
-        requires least { pos from ≤ℤ (self +ℤ pos max_window) }
-        ensures { result ≡ self +ℤ (pos to -ℤ pos from) }
-    {
-        self.shifted(i64::from(to) - i64::from(from))
     }
 
     /// With this many octets more, or fewer where the number is negative; it may become negative, not below
@@ -265,7 +256,7 @@ impl Settings {
         }
     }
 
-    /// Applies one setting, and answers by how much the initial window changes; other identifiers change nothing (RFC
+    /// Applies one setting, and returns by how much the initial window changes; other identifiers change nothing (RFC
     /// 9113, 6.5.2).
     ///
     /// `BadSetting` with the cause where the value is not allowed; then the settings stay as they are.

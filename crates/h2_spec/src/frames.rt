@@ -1,9 +1,9 @@
-//! Heads of frames, frame types and flags (RFC 9113, 4.1 and 6). Definitions: `specs/FrameType.antt`,
-//! `specs/Frame.antt`.
+//! Heads of frames, frame types and flags (RFC 9113, 4.1 and 6). Definitions: `specs/Frames/FrameType.antt`,
+//! `specs/Frames/Frame.antt`.
 
 ghost use Rattle.std.specs.Prelude.{◌≡◌, ◌<◌, option_map, slice_get};
-ghost use Rattle.h2_spec.specs.FrameType.{frame_type, type_names, type_number, has};
-ghost use Rattle.h2_spec.specs.FrameType as spec;
+ghost use Rattle.h2_spec.specs.Frames.FrameType.{frame_type, type_names, type_number, has};
+ghost use Rattle.h2_spec.specs.Frames.FrameType as spec;
 ghost use Rattle.std.specs.Str.{bytes_eq};
 
 /// What a client sends first (RFC 9113, 3.4).

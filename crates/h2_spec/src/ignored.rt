@@ -1,9 +1,9 @@
-//! Why a frame is ignored, where it is no error (RFC 9113, 4.1, 5.1 and 6). Definitions: `specs/Ignored.antt`,
-//! `specs/IgnoredWords.antt`.
+//! Why a frame is ignored, where it is no error (RFC 9113, 4.1, 5.1 and 6). Definitions: `specs/Causes/Ignored.antt`,
+//! `specs/Causes/IgnoredWords.antt`.
 
 ghost use Rattle.std.specs.Prelude.{◌≡◌, map, slice_get, Some};
-ghost use Rattle.h2_spec.specs.IgnoredWords.{all_reasons, ignored_client_duty, ignored_client_section, ignored_name, ignored_section, ignored_sentence, ignored_server_duty, is_demanded};
-ghost use Rattle.h2_spec.specs.Rules.{text_of};
+ghost use Rattle.h2_spec.specs.Causes.IgnoredWords.{all_reasons, ignored_client_duty, ignored_client_section, ignored_name, ignored_section, ignored_sentence, ignored_server_duty};
+ghost use Rattle.h2_spec.specs.Causes.Rules.{text_of};
 
 use crate::rules::{ClientDuty, ServerDuty, client_duty_at, server_duty_at, text_at};
 use std::fmt;
@@ -247,13 +247,6 @@ impl Ignored {
         ensures { result.now ≡ ignored_sentence self }
     {
         text_at(sentences(), place_of(self))
-    }
-
-    /// Whether the RFC demands that the frame is no error; else it is allowed, or a choice of this server.
-    pub fn is_must(self) -> bool
-        ensures { result ≡ is_demanded self }
-    {
-        self.server_duty().is_must()
     }
 }
 

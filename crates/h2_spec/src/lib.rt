@@ -1,5 +1,5 @@
 //! What everything means: the words that definitions and code share, and the definitions (`specs/`). Their laws are
-//! in `h2_laws`; in `proofs/` here are the lemmas that code is proved with.
+//! in `h2_spec_laws`; in `proofs/` here are the lemmas that code is proved with.
 #![tactic(auto)]
 
 pub mod causes;

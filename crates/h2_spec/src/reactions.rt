@@ -1,4 +1,4 @@
-//! What a rule answers: a connection error, or a small change with at most one frame of each place in the order of
+//! What a rule returns: a connection error, or a small change with at most one frame of each place in the order of
 //! sending. Definitions: `specs/Change.antt`.
 
 use crate::causes::Cause;
@@ -42,7 +42,7 @@ pub enum StreamFrame {
 
 /// An answer that begins: HEADERS is sent.
 #[derive(Clone, Copy)]
-pub struct Answering {
+pub struct AnswerStart {
     /// The stream's identifier.
     pub id: u32,
     /// The answer.
@@ -51,7 +51,7 @@ pub struct Answering {
     pub size_update_pending: bool,
 }
 
-/// What a rule of one stream answers: its record, what is sent on it, and the answer that begins.
+/// What a rule of one stream returns: its record, what is sent on it, and the answer that begins.
 #[derive(Clone, Copy)]
 pub struct StreamOutcome {
     /// The record after it.
@@ -74,7 +74,7 @@ pub struct Change {
     /// The frame that is sent on a stream, after that.
     pub stream_frame: StreamFrame,
     /// The answer whose HEADERS are sent after both, if one begins.
-    pub answer: Option<Answering>,
+    pub answer: Option<AnswerStart>,
     /// Why the item is ignored, if it is; nothing changes then but what the reason leaves to change.
     pub ignored: Option<Ignored>,
 }

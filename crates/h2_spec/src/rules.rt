@@ -1,10 +1,10 @@
 //! What the RFC asks of both sides where a rule is broken, or a frame is ignored: the words of the table of rules.
-//! Definitions: `specs/Rules.antt`.
+//! Definitions: `specs/Causes/Rules.antt`.
 
 ghost use Rattle.std.specs.Prelude.{◌≡◌, ℕ, List, map, slice_get, Some};
 ghost use Rattle.h2_spec.specs.declared.rules.ClientDuty.{ClientDuty};
 ghost use Rattle.h2_spec.specs.declared.rules.ServerDuty.{ServerDuty};
-ghost use Rattle.h2_spec.specs.Rules.{client_words, is_demand, server_words, text_of};
+ghost use Rattle.h2_spec.specs.Causes.Rules.{client_words, server_words, text_of};
 
 /// What a client did, by the RFC.
 #[derive(Clone, Copy)]
@@ -45,16 +45,6 @@ pub enum ServerDuty {
 }
 
 impl ServerDuty {
-    /// Whether the RFC demands it.
-    pub fn is_must(self) -> bool
-        ensures { result ≡ is_demand self }
-    {
-        match self {
-            ServerDuty::Must => true,
-            ServerDuty::May | ServerDuty::Own => false,
-        }
-    }
-
     /// The duty in words.
     pub fn words(self) -> &'static str
         ensures { result.now ≡ server_words self }

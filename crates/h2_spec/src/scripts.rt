@@ -1,4 +1,4 @@
-//! Why a line of a script is refused. Definitions: `specs/Script.antt`, `specs/Assemble.antt`.
+//! Why a line of a script is refused. Definitions: `specs/Texts/Script.antt`, `specs/Texts/Assemble.antt`.
 
 /// What is wrong with a line of a script; where several are, the least is reported.
 #[derive(Clone, Copy, Debug)]

@@ -1,10 +1,10 @@
 //! Cases of a cause, or of a reason to ignore a frame, for which the RFC says something else than for its other cases.
 //! Which case an item is depends on its values and on what came before; `explain` has them. Definitions:
-//! `specs/SpecialCases.antt`.
+//! `specs/Causes/SpecialCases.antt`.
 
 ghost use Rattle.std.specs.Prelude.{◌≡◌, map, slice_get, Some};
-ghost use Rattle.h2_spec.specs.Rules.{text_of};
-ghost use Rattle.h2_spec.specs.SpecialCases.{all_special_cases, special_client_duty, special_client_section, special_name, special_section, special_sentence, special_server_duty};
+ghost use Rattle.h2_spec.specs.Causes.Rules.{text_of};
+ghost use Rattle.h2_spec.specs.Causes.SpecialCases.{all_special_cases, special_client_duty, special_client_section, special_name, special_section, special_sentence, special_server_duty};
 
 use crate::rules::{ClientDuty, ServerDuty, client_duty_at, server_duty_at, text_at};
 
@@ -120,7 +120,7 @@ static SERVER_DUTIES: [ServerDuty; 12] = [
 /// The sentence of each case, in their order.
 static SENTENCES: [&str; 12] = [
     "as many streams are open as this server allows; the client has not acknowledged that limit yet",
-    "behind a CONTINUATION without END_HEADERS only CONTINUATION on its stream may follow",
+    "after a CONTINUATION without END_HEADERS only CONTINUATION on its stream may follow",
     "while a field block is open, frames of unknown types may not come either",
     "the name of a field is empty",
     "CONNECT has to have :method and :authority, and neither :scheme nor :path",

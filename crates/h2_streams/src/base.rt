@@ -150,6 +150,8 @@ impl<A: Allocator> Base<A> {
         own.take_in(records, front);
     }
 
+    // When a place is made again, its own records are compared with the shared list. If all are there, the
+    // list is shared once more; if not, one list is made of both.
     /// Whether one's own records are all in the place of shared ones, and are the same as those. A list that says no has
     /// others, or is not looked at further.
     fn has_all(&self, own: &[Stream]) -> bool

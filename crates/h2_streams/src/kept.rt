@@ -171,7 +171,7 @@ impl<A: Allocator + Copy> SharedList<A> {
         }
     }
 
-    /// The same; this list's records are given. A patch takes 16 octets for each step and a whole list 8 for each
+    /// As `next`, where this list's records are given. A patch takes 16 octets for each step and a whole list 8 for each
     /// record: where the patches of one whole list would take more than another, that is made.
     fn after(
         &self,

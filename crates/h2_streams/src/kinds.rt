@@ -3,7 +3,7 @@
 
 ghost use Rattle.std.specs.Prelude.{◌≡◌};
 ghost use Rattle.h2_spec.specs.Stream as spec;
-ghost use Rattle.h2_spec.specs.StreamEnds as ends;
+ghost use Rattle.h2_spec.specs.Requests.StreamEnds as ends;
 ghost use Rattle.h2_streams.specs.Kept as kept;
 
 use h2_spec::flow::{Credit, Window};
@@ -69,7 +69,7 @@ pub(crate) fn peer_closed(stream: Stream) -> Stream
 
 /// The stream after the server's last frame: nothing waits any more, and it ends where the peer's side has ended (RFC
 /// 9113, 5.1).
-#[tactic(auto, unfolding(h2_spec::specs::StreamEnds::server_ended))]
+#[tactic(auto, unfolding(h2_spec::specs::Requests::StreamEnds::server_ended))]
 pub fn server_ended(stream: Stream) -> Stream
     ensures value { result ≡ ends.server_ended stream }
     ensures id { result.id ≡ stream.id }

@@ -28,6 +28,8 @@ use indexmap::IndexMap;
 use std::alloc::{AllocError, Allocator};
 use std::marker::Model;
 
+// A map and a rising list beside the records: places of live streams, identifiers of those that can send.
+// Without the second each of 1,000 waiting streams would be looked at for each item.
 /// Records in a list of their own.
 ///
 /// The record of a live stream is found by one look-up in a map. That of another stream is found by binary search over
@@ -207,6 +209,7 @@ impl<A: Allocator> OwnRecords<A> {
         record_in(&self.live, self.records.as_slice(), self.recent, id)
     }
 
+    // Tries the place found last before the map, and compares it too, so it may be any number.
     /// Looks the stream's record up, so that the calls that come next find it at once. Nothing changes.
     pub(crate) fn look_up(&mut self, id: u32)
         ensures { self.new ≡ self.old }

@@ -8,7 +8,7 @@ ghost use Rattle.std.specs.Prelude.{◌≡◌, false, not, take, ◌<◌, ◌≤
 ghost use Rattle.std.specs.List.{AllByRecursion, filter, list_any};
 ghost use Rattle.std.specs.Option.{option_copied};
 ghost use Rattle.h2_spec.specs.Stream as spec;
-ghost use Rattle.h2_spec.specs.StreamEnds as ends;
+ghost use Rattle.h2_spec.specs.Requests.StreamEnds as ends;
 ghost use Rattle.h2_spec.specs.Change as changes;
 ghost use Rattle.h2_streams.specs.Greatest.{IsGreatest};
 ghost use Rattle.h2_streams.specs.Kept as kept;

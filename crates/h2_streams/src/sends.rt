@@ -114,6 +114,8 @@ fn are_sends_of(sends: &[Window], streams: &[Stream]) -> bool
     true
 }
 
+// Send windows are a list apart in a checkpoint: one SETTINGS of 15 octets moves all of them, and 1,000
+// records would be copied for it.
 /// The send windows of the records.
 fn sends_of<A: Allocator>(streams: &[Stream], alloc: A) -> Result<Vec<Window, A>, AllocError>
     ensures { IfOk result (λ sends. sends.items ≡ map spec.send_of streams.now) }

@@ -2,7 +2,7 @@
 use Rattle.std.proofs.Common.{◌≡◌, ℕ, ◌+◌, ◌<◌, List, [], ◌∷◌, ◌++◌, length, get_or, take, ap, ◌∙◌, sym, Some, slice_get}
 use Rattle.std.proofs.lemmas.List.{take_more}
 use Rattle.std.proofs.lemmas.Option.{get_or_from_slice_get}
-use Rattle.h2_spec.specs.Field.{Field}
+use Rattle.h2_spec.specs.Hpack.Field.{Field}
 
 -- one more copied
 pub copied_more : (xs ys : List Field) (i : ℕ) (x y : Field) → ys ≡ take i xs → i < length xs → slice_get xs i ≡ Some x → y ≡ x → ys ++ y ∷ [] ≡ take (i + 1) xs

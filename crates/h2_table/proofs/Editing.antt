@@ -3,8 +3,8 @@ use Rattle.std.proofs.Common.{◌≡◌, ℕ, zero, suc, ◌+◌, ◌-◌, ◌<�
 use Rattle.std.proofs.lemmas.List.{get_or_append_left, take_more, take_all, append_assoc, length-take}
 use Rattle.std.proofs.lemmas.Option.{slice_get-get_or, slice_get_within, slice_get_past, get_or_from_slice_get}
 use Rattle.circular_buffer.proofs.Places.{slice_get-append_right, slice_get-take}
-use Rattle.h2_spec.specs.Field.{Field, size}
-use Rattle.h2_spec.specs.DynamicTable.{Table, total_size, fit, entry_at, insert, resize}
+use Rattle.h2_spec.specs.Hpack.Field.{Field, size}
+use Rattle.h2_spec.specs.Hpack.DynamicTable.{Table, total_size, fit, entry_at, insert, resize}
 use Rattle.h2_spec.proofs.TableLaws.{fit-cons, fit-none, fit-zero, fit-evict, total_size-append, total_size-length}
 use Rattle.h2_table.specs.Held.{places_for}
 

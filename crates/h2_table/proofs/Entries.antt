@@ -2,7 +2,7 @@
 use Rattle.std.proofs.Common.{◌≡◌, ◌≤◌, ℕ, List, [], ◌++◌, length, take, drop, refl, ap, arith, length-append}
 use Rattle.std.proofs.Math.Seq.{take-append_seam, drop-append_seam}
 use Rattle.std.proofs.lemmas.List.{append-nil, take_all, drop_all}
-use Rattle.h2_spec.specs.Field.{field}
+use Rattle.h2_spec.specs.Hpack.Field.{field}
 
 pub joined-shown : (name value octets apart : List ℕ) → octets ≡ name ++ value → apart ≡ [] → field (take (length name) octets) (drop (length name) octets ++ apart) ≡ field name value
 joined-shown name value octets apart e a = rw (e, a, take-append_seam name value, drop-append_seam name value, append-nil value) refl

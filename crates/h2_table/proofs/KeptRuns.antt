@@ -1,7 +1,7 @@
 -- Runs of a kept table, one after another.
 use Rattle.std.proofs.Common.{◌≡◌, ℕ, zero, suc, ◌+◌, ◌<◌, ◌≤◌, List, [], ◌∷◌, ◌++◌, length, take, drop, get_or, ap, ◌∙◌, sym, arith, length-append, append_assoc, take-add}
 use Rattle.std.proofs.lemmas.List.{append-nil, take_more}
-use Rattle.h2_spec.specs.Field.{Field}
+use Rattle.h2_spec.specs.Hpack.Field.{Field}
 use Rattle.h2_table.specs.Runs.{entries_in}
 
 -- one run more

@@ -3,8 +3,8 @@ use Rattle.std.proofs.Common.{◌≡◌, ℕ, suc, ◌+◌, ◌-◌, ◌<◌, �
 use Rattle.std.proofs.lemmas.List.{take_more, take_all, length-take-le}
 use Rattle.std.proofs.lemmas.Option.{slice_get_within, get_or_from_slice_get, slice_get-get_or}
 use Rattle.circular_buffer.specs.Buffer.{last_item}
-use Rattle.h2_spec.specs.Field.{Field, size}
-use Rattle.h2_spec.specs.DynamicTable.{total_size, fit}
+use Rattle.h2_spec.specs.Hpack.Field.{Field, size}
+use Rattle.h2_spec.specs.Hpack.DynamicTable.{total_size, fit}
 use Rattle.h2_spec.proofs.TableLaws.{fit-evict, total_size-append, total_size-length}
 use Rattle.h2_table.specs.Held.{places_for}
 

@@ -1,7 +1,7 @@
 -- How a dynamic table is held: a ring of places for its entries, and a running size.
 use Rattle.std.specs.Prelude.{◌≡◌, ℕ, ◌≤◌, ◌/◌, List, max}
-use Rattle.h2_spec.specs.Field.{Field}
-use Rattle.h2_spec.specs.DynamicTable.{total_size}
+use Rattle.h2_spec.specs.Hpack.Field.{Field}
+use Rattle.h2_spec.specs.Hpack.DynamicTable.{total_size}
 
 -- the places of a ring: each entry counts 32 octets or more
 abbrev pub places_for : ℕ → ℕ

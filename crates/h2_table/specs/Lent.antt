@@ -1,7 +1,7 @@
 -- Fields that a table lends.
 use Rattle.std.specs.Prelude.{◌≡◌}
-use Rattle.h2_spec.specs.Field.{Field, field}
-use Rattle.h2_mark.specs.Mark.{mark_of}
+use Rattle.h2_spec.specs.Hpack.Field.{Field, field}
+use Rattle.h2_hpack_validity.specs.Mark.{mark_of}
 use Rattle.h2_table.specs.declared.lent.LentField.{LentField}
 
 -- the field that is lent with its mark

@@ -1,7 +1,7 @@
 -- The marks of the static table's entries.
 use Rattle.std.specs.Prelude.{false}
-use Rattle.h2_mark.specs.declared.mark.KnownName.{KnownName}
-use Rattle.h2_mark.specs.declared.mark.FieldMark.{FieldMark}
+use Rattle.h2_hpack_validity.specs.declared.mark.KnownName.{KnownName}
+use Rattle.h2_hpack_validity.specs.declared.mark.FieldMark.{FieldMark}
 
 -- the mark of an entry with this name: none of them is malformed
 abbrev pub mark_with : KnownName → FieldMark

@@ -1,14 +1,14 @@
 //! The dynamic table of one decoder (RFC 7541, 2.3.2 and 4): what enters, what is evicted, and what is found.
 //! Its entries are in a ring, the newest at the front; beside it runs what they count. The ring has places for as many
 //! entries as the limit or the maximum lets in, whichever is larger.
-//! The definitions are `Table`, `insert` and `resize` of `h2_spec`, specs/DynamicTable.antt.
+//! The definitions are `Table`, `insert` and `resize` of `h2_spec`, specs/Hpack/DynamicTable.antt.
 
 ghost use Rattle.std.specs.Prelude.{◌≡◌, ◌<◌, ◌≤◌, [], ◌∷◌, ◌++◌, ◌↔◌, length, option_map, true, Ok, OnOk, OnErr, IfOk, IfErr, IfSome, IsErr, nat_lt};
 ghost use Rattle.circular_buffer.specs.Buffer.{buffer};
-ghost use Rattle.h2_spec.specs.DynamicTable.{IsLongestFit, fit, insert, resize, total_size, entry_at};
-ghost use Rattle.h2_spec.specs.Field.{field};
+ghost use Rattle.h2_spec.specs.Hpack.DynamicTable.{IsLongestFit, fit, insert, resize, total_size, entry_at};
+ghost use Rattle.h2_spec.specs.Hpack.Field.{field};
 ghost use Rattle.h2_table.specs.Held.{places_for};
-ghost use Rattle.h2_list.specs.Lent.{lent_field};
+ghost use Rattle.h2_hpack_list.specs.Lent.{lent_field};
 ghost use Rattle.h2_table.specs.Lent.{field_lent, IsMarked};
 ghost use Rattle.h2_table.specs.declared.fault.TableFault.TheVariants as faults;
 
@@ -38,7 +38,7 @@ pub struct DynTable<A: Allocator> {
 }
 
 impl<A: Allocator> Model for DynTable<A> {
-    ghost use Rattle.h2_spec.specs.DynamicTable.{LimitedTable};
+    ghost use Rattle.h2_spec.specs.Hpack.DynamicTable.{LimitedTable};
     ghost use Rattle.h2_table.specs.Held.{IsHeld};
 
     ghost Value = { LimitedTable };
@@ -145,7 +145,7 @@ impl<A: Allocator> DynTable<A> {
     /// # Errors
     ///
     /// `OverLimit` where `n` is above the limit; the table is as it was. No memory is taken.
-    #[tactic(auto, unfolding(h2_spec::specs::DynamicTable::resize))]
+    #[tactic(auto, unfolding(h2_spec::specs::Hpack::DynamicTable::resize))]
     pub fn set_max(&mut self, n: u64) -> Result<(), TableFault>
         ensures over_limit { IsErr result ↔ (self.old.limit < n) }
         ensures resized { OnOk result (self.new ≡ record self.old { table = resize self.old.table n }) }
@@ -162,6 +162,8 @@ impl<A: Allocator> DynTable<A> {
         Ok(())
     }
 
+    // Needs no memory: the ring has a place for each 32 octets of the larger of limit and maximum, and an
+    // entry counts at least 32.
     /// Adds a field as the newest entry, once the oldest ones have made space for it; one that counts more than the
     /// maximum empties the table and is no error (RFC 7541, 4.4). No memory is taken.
     pub fn insert(&mut self, name: Vec<u8, A>, value: Vec<u8, A>)
@@ -181,6 +183,8 @@ impl<A: Allocator> DynTable<A> {
 }
 
 impl<A: Allocator + Copy> DynTable<A> {
+    // A lower limit evicts nothing: the peer refers to the entries until it has sent its size update (RFC
+    // 7541, 4.2).
     /// Sets the limit of the maximum to `n` octets. Entries and maximum stay; where the maximum is above the limit then,
     /// a size update is due (RFC 7541, 4.2).
     ///

@@ -1,14 +1,14 @@
 //! An edit of a dynamic table (RFC 7541, 2.3.2 and 4): the entries that were added, and how many of the table's own
 //! remain. The table does not change until the edit is committed, which needs no memory; an edit that is never
 //! committed changes nothing. So a field block can be decoded without a copy of the table. The definitions are `Table`,
-//! `insert` and `resize` of `h2_spec`, specs/DynamicTable.antt, and those of `specs/Edits.antt`.
+//! `insert` and `resize` of `h2_spec`, specs/Hpack/DynamicTable.antt, and those of `specs/Edits.antt`.
 
 ghost use Rattle.std.specs.Prelude.{◌≡◌, ◌<◌, ◌≤◌, [], ◌∷◌, ◌++◌, ◌↔◌, length, take, option_map, true, OnOk, OnErr, IfOk, IfErr, IfSome, IsErr};
 ghost use Rattle.std.specs.VecDeque.{deque_len, deque_capacity};
 ghost use Rattle.circular_buffer.specs.Buffer.{buffer};
-ghost use Rattle.h2_spec.specs.DynamicTable.{fit, insert, resize, total_size, entry_at};
-ghost use Rattle.h2_spec.specs.Field.{field};
-ghost use Rattle.h2_mark.specs.Mark.{mark_of};
+ghost use Rattle.h2_spec.specs.Hpack.DynamicTable.{fit, insert, resize, total_size, entry_at};
+ghost use Rattle.h2_spec.specs.Hpack.Field.{field};
+ghost use Rattle.h2_hpack_validity.specs.Mark.{mark_of};
 ghost use Rattle.h2_table.specs.Edits.{IsEdit, edited};
 ghost use Rattle.h2_table.specs.Lent.{field_lent, IsMarked};
 ghost use Rattle.h2_table.specs.declared.fault.TableFault.TheVariants as faults;
@@ -18,7 +18,7 @@ use crate::entry::TableEntry;
 use crate::fault::TableFault;
 use crate::lent::LentField;
 use circular_buffer::HeapCircularBuffer;
-use h2_mark::FieldMark;
+use h2_hpack_validity::FieldMark;
 use std::alloc::{AllocError, Allocator};
 use std::collections::VecDeque;
 use std::marker::Model;
@@ -30,6 +30,8 @@ const SPARE_ENTRIES: usize = 8;
 /// times what they count.
 const SPARE_OCTETS: usize = 128;
 
+// Plain data beside its table, which each call is given. A value with both was moved at each fragment, 80
+// instructions.
 /// An edit of a dynamic table, without the table: the added entries, the newest first, how many of the table's own
 /// entries remain, what both count together, and the maximum. Besides it has the memory of some entries that were
 /// evicted.

@@ -1,11 +1,11 @@
 //! An entry of the dynamic table: a name and a value that the table owns, and their mark.
-//! Contracts see it as the record `Field` of the definitions (`h2_spec`, specs/Field.antt).
+//! Contracts see it as the record `Field` of the definitions (`h2_spec`, specs/Hpack/Field.antt).
 
 ghost use Rattle.std.specs.Prelude.{◌≡◌, ◌++◌, IfOk};
-ghost use Rattle.h2_mark.specs.Mark.{mark_of};
-ghost use Rattle.h2_spec.specs.Field.{field};
+ghost use Rattle.h2_hpack_validity.specs.Mark.{mark_of};
+ghost use Rattle.h2_spec.specs.Hpack.Field.{field};
 
-use h2_mark::FieldMark;
+use h2_hpack_validity::FieldMark;
 use h2_spec::octets::{octets_from, octets_up_to};
 use std::alloc::{AllocError, Allocator};
 use std::marker::Model;
@@ -24,8 +24,8 @@ pub struct TableEntry<A: Allocator> {
 
 impl<A: Allocator> Model for TableEntry<A> {
     ghost use Rattle.std.specs.Prelude.{◌≡◌, ◌<◌, ◌≤◌, ◌++◌, [], drop, length, take};
-    ghost use Rattle.h2_mark.specs.Mark.{mark_of};
-    ghost use Rattle.h2_spec.specs.Field as spec;
+    ghost use Rattle.h2_hpack_validity.specs.Mark.{mark_of};
+    ghost use Rattle.h2_spec.specs.Hpack.Field as spec;
 
     ghost Value = { spec.Field };
 

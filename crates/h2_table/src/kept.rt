@@ -6,14 +6,14 @@
 ghost use Rattle.std.specs.Prelude.{◌≡◌, ◌+◌, ◌-◌, ◌^◌, ◌<◌, ◌≤◌, ◌++◌, [], drop, take, true, IfOk, OnOk, length, option_map, slice_get};
 ghost use Rattle.std.specs.Option.{option_copied};
 ghost use Rattle.circular_buffer.specs.Buffer.{buffer};
-ghost use Rattle.h2_list.specs.Lent.{lent_field};
+ghost use Rattle.h2_hpack_list.specs.Lent.{lent_field};
 ghost use Rattle.h2_table.specs.Runs.{entries_in};
 
 use crate::dynamic_table::{DynTable, places_for, put_oldest};
 use crate::entry::TableEntry;
 use circular_buffer::HeapCircularBuffer;
-use h2_list::{FieldList, FoldedFields};
-use h2_mark::FieldMark;
+use h2_hpack_list::{FieldList, FoldedFields};
+use h2_hpack_validity::FieldMark;
 use std::alloc::{AllocError, Allocator};
 use std::marker::Model;
 use std::rc::Rc;
@@ -30,7 +30,7 @@ struct Run<A: Allocator> {
 
 impl<A: Allocator> Model for Run<A> {
     ghost use Rattle.std.specs.Prelude.{◌≤◌, List, length, take};
-    ghost use Rattle.h2_spec.specs.Field.{Field};
+    ghost use Rattle.h2_spec.specs.Hpack.Field.{Field};
 
     ghost Value = { List Field };
 
@@ -88,6 +88,8 @@ fn is_same<A: Allocator>(field: Option<(&[u8], &[u8])>, entry: Option<&TableEntr
     }
 }
 
+// Runs of entries that don't change. Which runs may be the table's is guessed by the count of insertions, and
+// compared.
 /// A dynamic table as it was: its entries, the newest first, the maximum and the limit.
 #[derive(Drop)]
 pub struct KeptTable<A: Allocator> {
@@ -101,7 +103,7 @@ pub struct KeptTable<A: Allocator> {
 
 impl<A: Allocator> Model for KeptTable<A> {
     ghost use Rattle.std.specs.Prelude.{◌≡◌, ◌≤◌};
-    ghost use Rattle.h2_spec.specs.DynamicTable.{LimitedTable, total_size};
+    ghost use Rattle.h2_spec.specs.Hpack.DynamicTable.{LimitedTable, total_size};
     ghost use Rattle.h2_table.specs.Runs.{entries_in};
 
     ghost Value = { LimitedTable };

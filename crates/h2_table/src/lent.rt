@@ -1,6 +1,6 @@
 //! A field that a table lends, with its mark. That the mark is the field's is `IsMarked` of specs/Lent.antt.
 
-use h2_mark::FieldMark;
+use h2_hpack_validity::FieldMark;
 
 /// The name and the value of an entry, and what it can be malformed for by itself.
 #[derive(Clone, Copy)]

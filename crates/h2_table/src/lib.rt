@@ -1,5 +1,5 @@
 //! The header tables of HPACK (RFC 7541, 2.3 and 4): the static table, and the dynamic table of one decoder. A
-//! `circular_buffer` has the dynamic table's entries, the newest at the front, each with its mark (`h2_mark`) beside
+//! `circular_buffer` has the dynamic table's entries, the newest at the front, each with its mark (`h2_hpack_validity`) beside
 //! it. The definitions are in `h2_spec`: StaticTable and DynamicTable; what a table holds privately, in
 //! `specs/Held.antt`.
 #![tactic(auto)]

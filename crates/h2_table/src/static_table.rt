@@ -1,18 +1,19 @@
 //! The static table (RFC 7541, 2.3.1 and Appendix A): 61 fields that every decoder knows. The definition is
-//! `static_field` of `h2_spec`, specs/StaticTable.antt, and the marks of the entries are those that `mark_of` of
-//! `h2_mark`, specs/Mark.antt, computes.
+//! `static_field` of `h2_spec`, specs/Hpack/StaticTable.antt, and the marks of the entries are those that `mark_of` of
+//! `h2_hpack_validity`, specs/Mark.antt, computes.
 
 ghost use Rattle.std.specs.Prelude.{◌≡◌, option_map, map, slice_get, Some, IfSome};
-ghost use Rattle.h2_spec.specs.Field.{Field};
-ghost use Rattle.h2_spec.specs.StaticTable as spec;
-ghost use Rattle.h2_mark.specs.Mark.{mark_of};
-ghost use Rattle.h2_list.specs.Lent.{lent_field};
+ghost use Rattle.h2_spec.specs.Hpack.Field.{Field};
+ghost use Rattle.h2_spec.specs.Hpack.StaticTable as spec;
+ghost use Rattle.h2_hpack_validity.specs.Mark.{mark_of};
+ghost use Rattle.h2_hpack_list.specs.Lent.{lent_field};
 ghost use Rattle.h2_table.specs.Lent.{field_lent, IsMarked};
 ghost use Rattle.h2_table.specs.StaticMarks.{mark_with};
 
 use crate::lent::LentField;
-use h2_mark::{FieldMark, KnownName};
+use h2_hpack_validity::{FieldMark, KnownName};
 
+// Text, since a proof goes through 61 pairs of texts in a second, through octets in seven.
 /// The entries in order, the first at index 1.
 static ENTRIES: [(&str, &str); 61] = [
     (":authority", ""),
@@ -144,7 +145,7 @@ static KNOWN: [KnownName; 61] = [
 ];
 
 /// The table as a slice; read here alone, so that no other proof goes through its entries.
-#[tactic(auto, unfolding(h2_spec::specs::StaticTable::static_entries))]
+#[tactic(auto, unfolding(h2_spec::specs::Hpack::StaticTable::static_entries))]
 fn entries() -> &'static [(&'static str, &'static str)]
     ensures { map lent_field result.now ≡ spec.static_entries }
 {
@@ -188,7 +189,7 @@ pub fn static_entry(i: usize) -> Option<LentField<'static>>
 }
 
 /// The names of the table's entries as a slice; read here alone, as `entries` is.
-#[tactic(auto, unfolding(h2_spec::specs::StaticTable::static_entries, h2_mark::specs::Mark::mark_of, h2_mark::specs::Mark::known_of))]
+#[tactic(auto, unfolding(h2_spec::specs::Hpack::StaticTable::static_entries, h2_hpack_validity::specs::Mark::mark_of, h2_hpack_validity::specs::Mark::known_of))]
 fn known_names() -> &'static [KnownName]
     ensures { map mark_with result.now ≡ map mark_of spec.static_entries }
 {

@@ -1,9 +1,9 @@
 use Rattle.std.proofs.Common.{refl, sym, ap, subst, ◌∙◌}
 use Rattle.h2_spec.specs.declared.connection.Purpose.{Purpose}
 use Rattle.h2_spec.specs.declared.reactions.Change.{Change}
-use Rattle.h2_spec.specs.Headers as rule
-use Rattle.h2_rules.specs.Open.{state_of}
-use Rattle.h2_rules.specs.Sound.{IsSoundChange, in_force}
+use Rattle.h2_spec.specs.Requests.Headers as rule
+use Rattle.h2_conn_rules.specs.Open.{state_of}
+use Rattle.h2_conn_rules.specs.Sound.{IsSoundChange, in_force}
 use Rattle.h2_conn.proofs.block_end.block_ends.Goals as goal
 
 pub returns-in-Request-clause-rule : goal.returns-in-Request-clause-rule

@@ -1,5 +1,5 @@
 use Rattle.std.proofs.Common.{length, ap}
-use Rattle.h2_spec.specs.Answer.{Answer}
+use Rattle.h2_spec.specs.Requests.Answer.{Answer}
 use Rattle.h2_conn.proofs.block_end.body_length.Goals as goal
 
 pub returns : goal.returns

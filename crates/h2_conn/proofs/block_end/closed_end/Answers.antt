@@ -1,7 +1,7 @@
 use Rattle.std.proofs.Common.{refl, sym, ap, subst, ◌∙◌, max}
 use Rattle.h2_spec.specs.declared.reactions.StreamOutcome.{StreamOutcome}
 use Rattle.h2_streams.specs.Put.{CanPut}
-use Rattle.h2_rules.specs.Sound.{IsCalm, in_force}
+use Rattle.h2_conn_rules.specs.Sound.{IsCalm, in_force}
 use Rattle.h2_conn.proofs.BlockLaws.{reset-put}
 use Rattle.h2_conn.proofs.block_end.closed_end.Goals as goal
 

@@ -2,11 +2,11 @@ use Rattle.std.proofs.Common.{sym, ap, subst, ◌∙◌, length, nat_le}
 use Rattle.h2_spec.specs.declared.connection.ConnectionState.{ConnectionState}
 use Rattle.h2_spec.specs.declared.connection.Purpose.{Purpose}
 use Rattle.h2_spec.specs.declared.reactions.StreamOutcome.{StreamOutcome}
-use Rattle.h2_spec.specs.Answer.{picked}
+use Rattle.h2_spec.specs.Requests.Answer.{picked}
 use Rattle.h2_spec.specs.Change.{only_counts, with_outcome}
-use Rattle.h2_spec.specs.Headers as rule
+use Rattle.h2_spec.specs.Requests.Headers as rule
 use Rattle.h2_spec.specs.Stream.{live_count}
-use Rattle.h2_rules.specs.Open.{IsOpenAt, state_of}
+use Rattle.h2_conn_rules.specs.Open.{IsOpenAt, state_of}
 use Rattle.h2_conn.proofs.BlockLaws.{same-opening}
 use Rattle.h2_conn.proofs.RequestOutcomeLaws.{opens-rule}
 use Rattle.h2_conn.proofs.block_end.opening.Goals as goal

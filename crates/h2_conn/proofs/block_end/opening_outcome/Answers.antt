@@ -1,6 +1,6 @@
 use Rattle.std.proofs.Common.{ℕ, Bool, length, ap, ◌∙◌}
-use Rattle.h2_spec.specs.Answer.{Answer, picked}
-use Rattle.h2_spec.specs.Headers.{request_outcome}
+use Rattle.h2_spec.specs.Requests.Answer.{Answer, picked}
+use Rattle.h2_spec.specs.Requests.Headers.{request_outcome}
 use Rattle.h2_conn.proofs.block_end.opening_outcome.Goals as goal
 
 pub returns-clause-rule : goal.returns-clause-rule

@@ -2,11 +2,11 @@ use Rattle.std.proofs.Common.{refl, sym, ap, subst, ◌∙◌, length}
 use Rattle.h2_spec.specs.declared.connection.ConnectionState.{ConnectionState}
 use Rattle.h2_spec.specs.declared.reactions.Change.{Change}
 use Rattle.h2_spec.specs.declared.reactions.StreamOutcome.{StreamOutcome}
-use Rattle.h2_spec.specs.Answer.{picked}
+use Rattle.h2_spec.specs.Requests.Answer.{picked}
 use Rattle.h2_spec.specs.Change.{only_counts, with_outcome}
-use Rattle.h2_spec.specs.Headers.{request_outcome}
+use Rattle.h2_spec.specs.Requests.Headers.{request_outcome}
 use Rattle.h2_spec.specs.Stream.{live_count}
-use Rattle.h2_rules.specs.Sound.{IsCalm}
+use Rattle.h2_conn_rules.specs.Sound.{IsCalm}
 use Rattle.h2_conn.proofs.BlockLaws.{opening-put, same-opening}
 use Rattle.h2_conn.proofs.block_end.request_ends.Goals as goal
 

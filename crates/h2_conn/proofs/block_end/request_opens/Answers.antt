@@ -2,10 +2,10 @@ use Rattle.std.proofs.Common.{ℕ, refl, sym, ap, subst, ◌∙◌, length}
 use Rattle.h2_spec.specs.declared.connection.ConnectionState.{ConnectionState}
 use Rattle.h2_spec.specs.declared.reactions.Change.{Change}
 use Rattle.h2_spec.specs.declared.reactions.StreamOutcome.{StreamOutcome}
-use Rattle.h2_spec.specs.Answer.{Answer, picked}
+use Rattle.h2_spec.specs.Requests.Answer.{Answer, picked}
 use Rattle.h2_spec.specs.Change.{only_counts, with_outcome}
-use Rattle.h2_rules.specs.Plain.{opened}
-use Rattle.h2_rules.specs.Sound.{IsCalm}
+use Rattle.h2_conn_rules.specs.Plain.{opened}
+use Rattle.h2_conn_rules.specs.Sound.{IsCalm}
 use Rattle.h2_conn.proofs.BlockLaws.{opening-put}
 use Rattle.h2_conn.proofs.block_end.request_opens.Goals as goal
 

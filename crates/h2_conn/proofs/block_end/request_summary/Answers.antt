@@ -3,10 +3,10 @@ use Rattle.std.specs.Option.{option_map}
 use Rattle.h2_spec.specs.declared.causes.Cause.{Cause}
 use Rattle.h2_spec.specs.declared.reactions.BlockSummary.{BlockSummary}
 use Rattle.h2_spec.specs.declared.streams.Pick.{Pick}
-use Rattle.h2_spec.specs.Answer.{pick_of}
-use Rattle.h2_spec.specs.Block.{list_size}
-use Rattle.h2_spec.specs.Request.{Request, declared_length, request_cause, request_fault, request_of}
-use Rattle.h2_entries.specs.Asked.{asked}
+use Rattle.h2_spec.specs.Requests.Answer.{pick_of}
+use Rattle.h2_spec.specs.Hpack.Block.{list_size}
+use Rattle.h2_spec.specs.Requests.Request.{Request, declared_length, request_cause, request_fault, request_of}
+use Rattle.h2_request_book.specs.Asked.{asked}
 use Rattle.h2_conn.proofs.block_end.request_summary.Goals as goal
 
 abbrev summary : ℕ → Option Cause → Option ℕ → Pick → BlockSummary

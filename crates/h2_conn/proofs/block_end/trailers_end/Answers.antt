@@ -1,16 +1,16 @@
 use Rattle.std.proofs.Common.{◌≡◌, true, refl, sym, ap, subst, ◌∙◌, length}
 use Rattle.h2_spec.specs.declared.reactions.Change.{Change}
 use Rattle.h2_spec.specs.declared.reactions.StreamOutcome.{StreamOutcome}
-use Rattle.h2_spec.specs.Answer.{picked}
-use Rattle.h2_spec.specs.Block.{list_size}
+use Rattle.h2_spec.specs.Requests.Answer.{picked}
+use Rattle.h2_spec.specs.Hpack.Block.{list_size}
 use Rattle.h2_spec.specs.Change.{only_counts, with_outcome}
-use Rattle.h2_spec.specs.Headers.{trailers_outcome}
-use Rattle.h2_spec.specs.Request.{trailers_fault}
+use Rattle.h2_spec.specs.Requests.Headers.{trailers_outcome}
+use Rattle.h2_spec.specs.Requests.Request.{trailers_fault}
 use Rattle.h2_spec.specs.declared.streams.Stream.{Stream}
 use Rattle.h2_spec.specs.Stream.{is_live, kind_of, stream_at}
-use Rattle.h2_rules.specs.Sound.{HasBody, IsCalm, IsSoundStream, in_force}
+use Rattle.h2_conn_rules.specs.Sound.{HasBody, IsCalm, IsSoundStream, in_force}
 use Rattle.h2_conn.proofs.RequestOutcomeLaws.{trailers-turn}
-use Rattle.h2_rules.proofs.SoundLaws.{found-sound, live-put, live-recorded, peer-open-live}
+use Rattle.h2_conn_rules.proofs.SoundLaws.{found-sound, live-put, live-recorded, peer-open-live}
 use Rattle.h2_conn.proofs.block_end.trailers_end.Goals as goal
 
 pub returns-clause-rule : goal.returns-clause-rule

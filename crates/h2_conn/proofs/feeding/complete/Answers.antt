@@ -1,7 +1,7 @@
 use Rattle.std.proofs.Common.{◌≡◌, ◌∙◌, ◌++◌, ◌+◌, ℕ, List, [], length, take, drop, ap, arith, length-drop}
 use Rattle.std.proofs.lemmas.Result.{IfOk-from_err}
 use Rattle.h2_frame.specs.Rest.{Rest}
-use Rattle.h2_spec.specs.Frame.{NoItem}
+use Rattle.h2_spec.specs.Frames.Frame.{NoItem}
 use Rattle.h2_spec.specs.Trace.{left_by, next_item}
 use Rattle.h2_conn.specs.Connection.{going}
 use Rattle.h2_conn.specs.Runs.{TakesOne}

@@ -1,6 +1,6 @@
 use Rattle.std.proofs.Common.{◌≡◌, ◌++◌, ◌≤◌, take, length}
 use Rattle.std.specs.Prelude.{◌-◌}
-use Rattle.h2_spec.specs.Frame.{NoItem}
+use Rattle.h2_spec.specs.Frames.Frame.{NoItem}
 use Rattle.h2_spec.specs.Trace.{next_item}
 use Rattle.h2_conn.specs.Connection.{Fits}
 use Rattle.h2_conn.proofs.feeding.complete.Given as goal

@@ -1,5 +1,5 @@
 use Rattle.std.proofs.Common.{rules, ◌∙◌, drop, subst, sym}
-use Rattle.h2_spec.specs.Frame.{WholeFrame}
+use Rattle.h2_spec.specs.Frames.Frame.{WholeFrame}
 use Rattle.h2_frame.specs.Items.{with_more}
 use Rattle.h2_frame.specs.Rest.{Rest}
 use Rattle.h2_conn.specs.Connection.{Fits}

@@ -1,5 +1,5 @@
 use Rattle.std.proofs.Common.{◌≡◌, ◌++◌, ℕ, List, sym, subst}
-use Rattle.h2_spec.specs.Frame.{NoItem}
+use Rattle.h2_spec.specs.Frames.Frame.{NoItem}
 use Rattle.h2_spec.specs.Trace.{next_item}
 use Rattle.h2_frame.specs.Items.{with_more}
 use Rattle.h2_conn.proofs.FeedingLaws.{fits-more, fits-past}

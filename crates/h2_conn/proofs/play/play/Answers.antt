@@ -1,7 +1,7 @@
 use Rattle.std.proofs.Common.{◌∙◌, ap, append_assoc}
 use Rattle.std.proofs.lemmas.Result.{IfOk-weaker}
 use Rattle.std.proofs.Math.Seq.{take-append_seam}
-use Rattle.h2_spec.specs.View.{view}
+use Rattle.h2_spec.specs.Texts.View.{view}
 use Rattle.h2_conn.specs.Connection.{Connection}
 use Rattle.h2_conn.proofs.GrantedLaws.{shown-within}
 use Rattle.h2_conn.proofs.play.play.Goals as goal

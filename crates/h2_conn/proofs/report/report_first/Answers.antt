@@ -42,3 +42,20 @@ returns-in-Ok-clause-report g c =
     let goes : is_ended c.args.state.now.core.phase ≡ false = rw c.phase-phase.ensures at (sym c.is_ended.ensures ∙ c.if-is_ended.false) in
     let found = rw (c.awaits_preface.ensures, c.phase-phase.ensures, c.limit.ensures.value) at c.in-Some.ensures.item in
     rw (item-is c.args.state.now c.args.octets.now goes, ← found, c.item_head.ensures, c.in-Ok.ensures.verdict) refl
+
+pub returns-in-Ok-clause-fields : goal.returns-in-Ok-clause-fields
+returns-in-Ok-clause-fields g c =
+    let goes : is_ended c.args.state.now.core.phase ≡ false = rw c.phase-phase.ensures at (sym c.is_ended.ensures ∙ c.if-is_ended.false) in
+    let found = rw (c.awaits_preface.ensures, c.phase-phase.ensures, c.limit.ensures.value) at c.in-Some.ensures.item in
+    rw (item-is c.args.state.now c.args.octets.now goes, ← found) c.in-Ok.ensures.fields
+
+pub returns-in-None-clause-fields : goal.returns-in-None-clause-fields
+returns-in-None-clause-fields g c =
+    let goes : is_ended c.args.state.now.core.phase ≡ false = rw c.phase-phase.ensures at (sym c.is_ended.ensures ∙ c.if-is_ended.false) in
+    let none = rw (c.awaits_preface.ensures, c.phase-phase.ensures, c.limit.ensures.value) at c.in-None.ensures.item in
+    rw (item-is c.args.state.now c.args.octets.now goes, ← none) tt
+
+pub returns-then-is_ended-clause-fields : goal.returns-then-is_ended-clause-fields
+returns-then-is_ended-clause-fields g c =
+    let ended : is_ended c.args.state.now.core.phase ≡ true = rw c.phase-phase.ensures at (sym c.is_ended.ensures ∙ c.if-is_ended.true) in
+    rw (item-over c.args.state.now c.args.octets.now ended) tt

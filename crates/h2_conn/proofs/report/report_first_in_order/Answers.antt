@@ -1,6 +1,6 @@
 use Rattle.std.proofs.Common.{sym, ap, subst}
 use Rattle.h2_spec.specs.State.{State}
-use Rattle.h2_rules.specs.Sound.{IsSoundState}
+use Rattle.h2_conn_rules.specs.Sound.{IsSoundState}
 use Rattle.h2_conn.specs.Blocks.{IsOpenFor}
 use Rattle.h2_conn.proofs.FirstLaws.{taken-follows}
 use Rattle.h2_conn.proofs.FollowsLaws.{ordered}

@@ -1,7 +1,7 @@
 use Rattle.std.proofs.Common.{◌≡◌, drop}
 use Rattle.std.specs.List.{list_any}
 use Rattle.std.specs.Prelude.{map}
-use Rattle.h2_spec.specs.Debug.{matches}
+use Rattle.h2_spec.specs.Texts.Debug.{matches}
 use Rattle.h2_spec.specs.Trace.{Event}
 use Rattle.h2_debug.specs.Breakpoints.{break_of}
 use Rattle.h2_debug.specs.Items.{IsItem}

@@ -1,6 +1,6 @@
 use Rattle.std.proofs.Common.{rules, ◌≡◌, ◌∙◌, ◌+◌, ◌-◌, Some, None, ap, arith, drop, take, length}
 use Rattle.std.proofs.lemmas.List.{take_all}
-use Rattle.h2_spec.specs.Frame.{head_at}
+use Rattle.h2_spec.specs.Frames.Frame.{head_at}
 use Rattle.h2_debug.proofs.BreakLaws.{frame-behind, frame-found, frame-read, length-frame}
 use Rattle.h2_debug.proofs.breakpoints.first_frame.Goals as goal
 

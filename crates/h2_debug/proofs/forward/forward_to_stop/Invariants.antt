@@ -1,6 +1,6 @@
 use Rattle.std.proofs.Common.{◌≡◌, ◌≤◌, ◌+◌, ◌-◌, length}
 use Rattle.std.specs.Prelude.{map}
-use Rattle.h2_spec.specs.Debug.{stop}
+use Rattle.h2_spec.specs.Texts.Debug.{stop}
 use Rattle.h2_debug.specs.Breakpoints.{break_of}
 use Rattle.h2_debug.specs.Places.{IsReached, events}
 use Rattle.h2_debug.proofs.forward.forward_to_stop.Given as goal

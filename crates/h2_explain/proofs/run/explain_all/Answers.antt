@@ -12,14 +12,14 @@ returns-in-Ok-clause-summary g c =
     let s = c.args.conn.now.state in
     let e = c.args.explanation.now in
     let start = subst (λ (d : Connection). IsExplaining s [] d e) (sym c.requires.new) (new-explains e.form s e c.requires.fresh) in
-    IfOk-weaker c.end.result _ _ (λ r h. h s c.args.octets.now (c.in-Ok.ensures.goes s [] start)) c.end.ensures.summary
+    IfOk-weaker c.conclude.result _ _ (λ r h. h s c.args.octets.now (c.in-Ok.ensures.goes s [] start)) c.conclude.ensures.summary
 
 pub returns-in-Ok-clause-run : goal.returns-in-Ok-clause-run
 returns-in-Ok-clause-run g c =
     let s = c.args.conn.now.state in
     let e = c.args.explanation.now in
     let start = subst (λ (d : Connection). IsExplaining s [] d e) (sym c.requires.new) (new-explains e.form s e c.requires.fresh) in
-    IfOk-weaker c.end.result _ _ (λ r h. all-run s c.args.octets.now c.take_piece.new.conn c.take_piece.new.self (c.in-Ok.ensures.goes s [] start)) c.end.ensures.summary
+    IfOk-weaker c.conclude.result _ _ (λ r h. all-run s c.args.octets.now c.take_piece.new.conn c.take_piece.new.self (c.in-Ok.ensures.goes s [] start)) c.conclude.ensures.summary
 
 pub returns-in-Ok-clause-gains : goal.returns-in-Ok-clause-gains
 returns-in-Ok-clause-gains g c = λ well.
@@ -27,10 +27,10 @@ returns-in-Ok-clause-gains g c = λ well.
     let e = c.args.explanation.now in
     let b = c.args.octets.now in
     let start = subst (λ (d : Connection). IsExplaining s [] d e) (sym c.requires.new) (new-explains e.form s e c.requires.fresh) in
-    subst (λ (f : Form). Gains (λ (text : List ℕ). IsExplanation f (is_err c.end.result) s b text) (g.O.Output.written c.args.output.now) (g.O.Output.written c.end.new.output)) c.in-Ok.ensures.form
-    (gains-then (λ (text : List ℕ). IsBeginning s b c.take_piece.new.self text) _ (g.O.Output.written c.args.output.now) (g.O.Output.written c.take_piece.new.output) (g.O.Output.written c.end.new.output)
+    subst (λ (f : Form). Gains (λ (text : List ℕ). IsExplanation f (is_err c.conclude.result) s b text) (g.O.Output.written c.args.output.now) (g.O.Output.written c.conclude.new.output)) c.in-Ok.ensures.form
+    (gains-then (λ (text : List ℕ). IsBeginning s b c.take_piece.new.self text) _ (g.O.Output.written c.args.output.now) (g.O.Output.written c.take_piece.new.output) (g.O.Output.written c.conclude.new.output)
     (c.in-Ok.ensures.gains s [] [] start (new-begins e.form s e c.requires.fresh))
-    (λ text begins. c.end.ensures.gains well s b text (c.in-Ok.ensures.goes s [] start) begins))
+    (λ text begins. c.conclude.ensures.gains well s b text (c.in-Ok.ensures.goes s [] start) begins))
 
 pub returns-clause-gains : goal.returns-clause-gains
 returns-clause-gains g c = λ well.

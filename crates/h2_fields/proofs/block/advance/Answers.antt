@@ -1,11 +1,11 @@
 use Rattle.std.proofs.Common.{◌++◌, ℕ, List, length, take, IfErr, arith, refl, ap, ◌∙◌, sym, subst, rules}
 use denote.Enum.Bare.{same_true}
-use Rattle.h2_instruction.specs.contracts.fault.BlockFault.{the_type}
-use Rattle.h2_spec.specs.Block.{Decoded, Unfinished, decoded, progress_with}
-use Rattle.h2_spec.specs.DynamicTable.{LimitedTable}
-use Rattle.h2_spec.specs.Instruction.{instr_at}
+use Rattle.h2_hpack_instruction.specs.contracts.fault.BlockFault.{the_type}
+use Rattle.h2_spec.specs.Hpack.Block.{Decoded, Unfinished, decoded, progress_with}
+use Rattle.h2_spec.specs.Hpack.DynamicTable.{LimitedTable}
+use Rattle.h2_spec.specs.Hpack.Instruction.{instr_at}
 use Rattle.h2_table.specs.Edits.{edited}
-use Rattle.h2_instruction.specs.declared.fault.BlockFault.TheVariants as faults
+use Rattle.h2_hpack_instruction.specs.declared.fault.BlockFault.TheVariants as faults
 use Rattle.h2_fields.specs.Applied.{IsStopped}
 use Rattle.h2_fields.specs.Rests.{RestChange}
 use Rattle.h2_fields.proofs.Outcomes.{ok_also, other_err, same_err}

@@ -1,8 +1,8 @@
 use Rattle.std.proofs.Common.{arith, ◌≡◌, ℕ, ◌<◌, ◌≤◌, List, length, take, ap, ◌∙◌, sym, None, slice_get}
 use Rattle.std.proofs.lemmas.Result.{IfOk-from_err}
 use Rattle.std.proofs.lemmas.List.{take-take, take_all}
-use Rattle.h2_spec.specs.Field.{Field, field}
-use Rattle.h2_list.proofs.ListParts.{some-at}
+use Rattle.h2_spec.specs.Hpack.Field.{Field, field}
+use Rattle.h2_hpack_list.proofs.ListParts.{some-at}
 use Rattle.h2_table.proofs.Copied.{copied_more}
 use Rattle.h2_fields.proofs.block.copy_rest.Goals as goal
 use Rattle.h2_fields.proofs.block.copy_rest.Goals.{in-Some+in_ok-field+in_ok-push, in_default}

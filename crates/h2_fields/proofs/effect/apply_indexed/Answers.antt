@@ -2,7 +2,7 @@ use Rattle.std.proofs.Common.{Some, Ok, refl, ap, sym, ◌∙◌}
 use Rattle.h2_table.specs.Lent.{field_lent}
 use Rattle.h2_spec.proofs.BlockLaws.{applied-indexed_due, applied-indexed, applied-no_index}
 use Rattle.h2_fields.specs.Applied.{progress_in}
-use Rattle.h2_instruction.specs.Faults.{refusal}
+use Rattle.h2_hpack_instruction.specs.Faults.{refusal}
 use Rattle.h2_fields.proofs.effect.apply_indexed.Goals as goal
 
 pub returns-then-is_due-clause-applied : goal.returns-then-is_due-clause-applied

@@ -1,11 +1,11 @@
 use Rattle.std.proofs.Common.{◌∷◌, [], inl, inr, refl, ap, sym, ◌∙◌}
 use Rattle.std.proofs.lemmas.Result.{err_from_is_err_and}
-use Rattle.h2_spec.specs.Block.{FieldsSoFar, table_after}
+use Rattle.h2_spec.specs.Hpack.Block.{FieldsSoFar, table_after}
 use Rattle.h2_spec.proofs.BlockLaws.{applied-literal_due}
 use Rattle.h2_table.specs.Edits.{edited}
 use Rattle.h2_fields.specs.Applied.{progress_in}
-use Rattle.h2_instruction.specs.Faults.{refusal}
-use Rattle.h2_instruction.specs.Shapes.{mode_of, name_of, string_of}
+use Rattle.h2_hpack_instruction.specs.Faults.{refusal}
+use Rattle.h2_hpack_instruction.specs.Shapes.{mode_of, name_of, string_of}
 use Rattle.h2_fields.proofs.Applying.{literal-refused, literal-applied, not_entered}
 use Rattle.h2_fields.proofs.effect.apply_literal.Goals as goal
 

@@ -1,9 +1,9 @@
 use Rattle.std.proofs.Common.{refl, ap}
-use Rattle.h2_spec.specs.Block.{has_fields}
+use Rattle.h2_spec.specs.Hpack.Block.{has_fields}
 use Rattle.h2_spec.proofs.BlockLaws.{applied-update, applied-update_late, applied-update_large}
 use Rattle.h2_table.specs.Edits.{EditOf}
 use Rattle.h2_fields.specs.Applied.{progress_in}
-use Rattle.h2_instruction.specs.Faults.{refusal}
+use Rattle.h2_hpack_instruction.specs.Faults.{refusal}
 use Rattle.h2_fields.proofs.Applying.{not-false, not-true, not_above}
 use Rattle.h2_fields.proofs.effect.apply_update.Goals as goal
 

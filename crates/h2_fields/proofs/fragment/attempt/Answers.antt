@@ -1,7 +1,7 @@
 use Rattle.std.proofs.Common.{◌≡◌, ◌≢◌, rules, ap, ◌∙◌, sym, subst}
-use Rattle.h2_spec.specs.Block.{FieldsSoFar, decoded, progress_with}
-use Rattle.h2_spec.specs.DynamicTable.{Table}
-use Rattle.h2_instruction.specs.declared.fault.BlockFault.TheVariants as faults
+use Rattle.h2_spec.specs.Hpack.Block.{FieldsSoFar, decoded, progress_with}
+use Rattle.h2_spec.specs.Hpack.DynamicTable.{Table}
+use Rattle.h2_hpack_instruction.specs.declared.fault.BlockFault.TheVariants as faults
 use Rattle.h2_table.specs.Edits.{edited}
 use Rattle.h2_fields.specs.Applied.{IsStopped}
 use Rattle.h2_fields.specs.declared.collected.Savepoint.{Savepoint}

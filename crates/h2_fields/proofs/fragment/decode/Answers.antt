@@ -1,13 +1,13 @@
 use Rattle.std.proofs.Common.{◌≡◌, ◌==◌, true, ℕ, Err, refl, ap, ◌∙◌, sym, subst, arith, length, drop, ◌+◌, length-drop}
 use Rattle.std.proofs.lemmas.Bool.{eqb-true}
 use Rattle.std.proofs.lemmas.Result.{IfOk-from_err, err_from_is_err_and}
-use Rattle.h2_spec.specs.Instruction as spec
-use Rattle.h2_spec.specs.Instruction.{Indexed, instr_at}
+use Rattle.h2_spec.specs.Hpack.Instruction as spec
+use Rattle.h2_spec.specs.Hpack.Instruction.{Indexed, instr_at}
 use Rattle.h2_spec.proofs.BlockLaws.{leads-start, leads-step, leads-more}
 use Rattle.h2_fields.specs.Applied.{progress_in}
-use Rattle.h2_instruction.specs.Resume.{IfMore, IsPoint, IsRest, IsTaken, huffman_octets}
-use Rattle.h2_instruction.specs.Shapes.{shape_of, read_of}
-use Rattle.h2_instruction.specs.declared.shape.Shape.{Shape}
+use Rattle.h2_hpack_instruction.specs.Resume.{IfMore, IsPoint, IsRest, IsTaken, huffman_octets}
+use Rattle.h2_hpack_instruction.specs.Shapes.{shape_of, read_of}
+use Rattle.h2_hpack_instruction.specs.declared.shape.Shape.{Shape}
 use Rattle.h2_fields.specs.Rests.{IsCounted}
 use Rattle.h2_fields.proofs.Counting.{counts, counts-rest}
 use Rattle.h2_fields.proofs.Outcomes.{if_err}

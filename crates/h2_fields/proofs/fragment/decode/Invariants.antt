@@ -1,7 +1,7 @@
 use Rattle.std.proofs.Common.{◌≡◌, ◌+◌, ◌-◌, ◌≤◌, length, drop}
 use Rattle.h2_table.specs.Edits.{IsEdit}
 use Rattle.h2_fields.specs.Applied.{Grows, progress_in}
-use Rattle.h2_instruction.specs.Resume.{IsPoint}
+use Rattle.h2_hpack_instruction.specs.Resume.{IsPoint}
 use Rattle.h2_fields.specs.Rests.{IsCounted}
 use Rattle.h2_spec.proofs.BlockLaws.{LeadsTo}
 use Rattle.h2_fields.proofs.fragment.decode.Given as goal

@@ -1,8 +1,8 @@
 use Rattle.std.proofs.Common.{◌≡◌, ◌≤◌, ◌++◌, ℕ, List, [], Err, length, drop, ap, ◌∙◌, sym, subst, arith, length-drop}
-use Rattle.h2_spec.specs.Block.{Decoded, FieldsSoFar, Unfinished, progress_with}
-use Rattle.h2_spec.specs.Instruction.{instr_at}
-use Rattle.h2_instruction.specs.Resume.{IsRest}
-use Rattle.h2_instruction.specs.declared.fault.BlockFault.TheVariants as faults
+use Rattle.h2_spec.specs.Hpack.Block.{Decoded, FieldsSoFar, Unfinished, progress_with}
+use Rattle.h2_spec.specs.Hpack.Instruction.{instr_at}
+use Rattle.h2_hpack_instruction.specs.Resume.{IsRest}
+use Rattle.h2_hpack_instruction.specs.declared.fault.BlockFault.TheVariants as faults
 use Rattle.h2_table.specs.Edits.{edited}
 use Rattle.h2_fields.specs.Rests.{RestChange}
 use Rattle.h2_fields.specs.declared.collected.Savepoint.{Savepoint}

@@ -1,13 +1,13 @@
 use Rattle.std.proofs.Common.{◌≡◌, ◌≤◌, ◌++◌, ℕ, List, Bool, true, false, Err, if◌then◌else◌, length, take, drop, refl, ap, sym, subst, ◌∙◌, arith, length-append, length-drop}
 use Rattle.std.proofs.Math.Seq.{take-append_seam, take-length}
-use Rattle.h2_spec.specs.Block.{Decoded, Unfinished, decoded, progress_with}
-use Rattle.h2_spec.specs.Instruction.{instr_at}
-use Rattle.h2_instruction.specs.Resume.{IsPoint, IsRest}
-use Rattle.h2_instruction.specs.declared.fault.BlockFault.TheVariants as faults
+use Rattle.h2_spec.specs.Hpack.Block.{Decoded, Unfinished, decoded, progress_with}
+use Rattle.h2_spec.specs.Hpack.Instruction.{instr_at}
+use Rattle.h2_hpack_instruction.specs.Resume.{IsPoint, IsRest}
+use Rattle.h2_hpack_instruction.specs.declared.fault.BlockFault.TheVariants as faults
 use Rattle.h2_table.specs.Edits.{edited}
 use Rattle.h2_fields.specs.Applied.{IsStopped}
 use Rattle.h2_fields.specs.Rests.{IsCounted, RestChange}
-use Rattle.h2_instruction.proofs.Resting.{point-stays}
+use Rattle.h2_hpack_instruction.proofs.Resting.{point-stays}
 use Rattle.h2_fields.proofs.Counting.{ticked}
 use Rattle.h2_fields.proofs.Outcomes.{no_fault, same_fault}
 use Rattle.h2_fields.proofs.Stopping.{grows-start, memory-stopped}

@@ -1,5 +1,5 @@
 use Rattle.std.proofs.Common.{◌≡◌, ◌++◌, ℕ, List, OnOk, IfErr, length, ◌∙◌, sym, subst}
-use Rattle.h2_spec.specs.Block.{Decoded, Unfinished, decoded, progress_with}
+use Rattle.h2_spec.specs.Hpack.Block.{Decoded, Unfinished, decoded, progress_with}
 use Rattle.h2_table.specs.Edits.{edited}
 use Rattle.h2_fields.specs.Applied.{IsStopped}
 use Rattle.h2_fields.specs.Rests.{IsTicked}

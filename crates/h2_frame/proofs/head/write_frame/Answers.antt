@@ -1,7 +1,7 @@
 use Rattle.std.proofs.Common.{◌≡◌, ◌∙◌, ◌<◌, ◌^◌, ◌++◌, ℕ, List, length, drop, false, Some, Result, Ok, Err, sym, ap, arith}
 use Rattle.std.proofs.Math.Seq.{drop-append_seam}
 use Rattle.std.specs.Prelude.{OnOk}
-use Rattle.h2_spec.specs.Frame.{frame_octets, frame_of, head_at, head_sent}
+use Rattle.h2_spec.specs.Frames.Frame.{frame_octets, frame_of, head_at, head_sent}
 use Rattle.h2_spec.specs.declared.frames.Head.{Head}
 use Rattle.h2_spec.proofs.FrameLaws.{head_at-frame_octets}
 use Rattle.h2_frame.proofs.head.write_frame.Goals as goal

@@ -1,5 +1,5 @@
 use Rattle.std.proofs.Common.{rules}
-use Rattle.h2_spec.specs.Payload.{data_part}
+use Rattle.h2_spec.specs.Frames.Payload.{data_part}
 use Rattle.h2_frame.proofs.payload.data_of.Goals as goal
 
 pub returns-then-frame-fixed : goal.returns-then-frame-fixed

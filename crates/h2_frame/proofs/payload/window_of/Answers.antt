@@ -1,5 +1,5 @@
 use Rattle.std.proofs.Common.{rules}
-use Rattle.h2_spec.specs.Payload.{window_part}
+use Rattle.h2_spec.specs.Frames.Payload.{window_part}
 use Rattle.h2_frame.proofs.payload.window_of.Goals as goal
 
 pub returns : goal.returns

@@ -1,6 +1,6 @@
 use Rattle.std.proofs.Common.{arith}
 use Rattle.std.proofs.lemmas.Grind.{elements}
-use Rattle.h2_spec.specs.Frame.{next}
+use Rattle.h2_spec.specs.Frames.Frame.{next}
 use Rattle.h2_frame.proofs.splitter.preface_item.Goals as goal
 
 pub returns-clause-item : goal.returns-clause-item

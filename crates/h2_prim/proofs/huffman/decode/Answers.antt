@@ -1,6 +1,6 @@
 use Rattle.std.proofs.Common.{arith, refl, ◌≡◌, ◌+◌, ◌-◌, ◌*◌, ◌/◌, length, take, get_or, subst}
 use Rattle.std.proofs.lemmas.List.{take_all}
-use Rattle.h2_spec.specs.Huffman.{bits}
+use Rattle.h2_spec.specs.Hpack.Huffman.{bits}
 use Rattle.h2_prim.specs.States.{Represents}
 use Rattle.h2_prim.proofs.Reading.{starts, octet_more, length-bits-take}
 use Rattle.h2_prim.proofs.huffman.decode.Goals as goal

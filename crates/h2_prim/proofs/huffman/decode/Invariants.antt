@@ -1,5 +1,5 @@
 use Rattle.std.proofs.Common.{◌≤◌, ◌*◌, ◌/◌, take, length}
-use Rattle.h2_spec.specs.Huffman.{bits}
+use Rattle.h2_spec.specs.Hpack.Huffman.{bits}
 use Rattle.h2_prim.specs.States.{Represents, IsRow}
 use Rattle.h2_prim.proofs.huffman.decode.Given as goal
 

@@ -1,4 +1,4 @@
-use Rattle.h2_spec.specs.Huffman.{huffman_text}
+use Rattle.h2_spec.specs.Hpack.Huffman.{huffman_text}
 use Rattle.std.proofs.Common.{arith, ◌≡◌, ◌+◌, ◌≤◌, ◌∙◌, ap, take, Some}
 use Rattle.h2_prim.proofs.Reading.{refused, accepted, appended, stay}
 use Rattle.h2_prim.proofs.huffman.huff_append.Goals as goal

@@ -1,6 +1,6 @@
 use Rattle.std.proofs.Common.{arith, ◌≡◌, ◌+◌, ap, sym, ◌∙◌, refl, length, take}
 use Rattle.std.proofs.lemmas.List.{take_all}
-use Rattle.h2_spec.specs.Huffman.{codes}
+use Rattle.h2_spec.specs.Hpack.Huffman.{codes}
 use Rattle.h2_spec.proofs.SpellingLaws.{length-spell_huffman}
 use Rattle.h2_prim.proofs.Writing.{counted}
 use Rattle.h2_prim.proofs.huffman.huff_len.Goals as goal

@@ -1,5 +1,5 @@
 use Rattle.std.proofs.Common.{◌≡◌, ◌≤◌, ◌*◌, take, length}
-use Rattle.h2_spec.specs.Huffman.{codes}
+use Rattle.h2_spec.specs.Hpack.Huffman.{codes}
 use Rattle.h2_prim.proofs.huffman.huff_len.Given as goal
 
 abbrev pub invariant-loop-octet : goal.invariant-loop-octet

@@ -1,6 +1,6 @@
 use Rattle.std.proofs.Common.{arith, refl, ◌++◌, ◌/◌, ◌%◌, [], take, get_or}
-use Rattle.h2_spec.specs.HuffmanCode.{bits_of}
-use Rattle.h2_spec.specs.Huffman.{bits}
+use Rattle.h2_spec.specs.Hpack.HuffmanCode.{bits_of}
+use Rattle.h2_spec.specs.Hpack.Huffman.{bits}
 use Rattle.h2_prim.specs.States.{emitted}
 use Rattle.h2_prim.proofs.Reading.{starts, stepped, halves, octet_more}
 use Rattle.h2_prim.proofs.huffman.state_after.Goals as goal

@@ -1,5 +1,5 @@
 use Rattle.std.proofs.Common.{◌/◌}
-use Rattle.h2_spec.specs.HuffmanCode.{bits_of}
+use Rattle.h2_spec.specs.Hpack.HuffmanCode.{bits_of}
 use Rattle.h2_prim.proofs.Reading.{stepped_at}
 use Rattle.h2_prim.proofs.huffman.step.Goals as goal
 

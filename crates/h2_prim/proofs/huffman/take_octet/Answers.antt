@@ -1,5 +1,5 @@
 use Rattle.std.proofs.Common.{arith, ◌≡◌, ◌+◌, ◌/◌, ◌++◌, length, take, length-append}
-use Rattle.h2_spec.specs.HuffmanCode.{bits_of}
+use Rattle.h2_spec.specs.Hpack.HuffmanCode.{bits_of}
 use Rattle.h2_spec.proofs.BitLaws.{length-bits_of}
 use Rattle.h2_prim.proofs.Reading.{halves, has_enough}
 use Rattle.h2_prim.proofs.huffman.take_octet.Goals as goal

@@ -1,6 +1,6 @@
 use Rattle.std.proofs.Common.{arith, ◌≡◌, ◌+◌, ◌-◌, ◌*◌, ◌<◌, ◌^◌, ◌++◌, ◌∷◌, [], ap, ◌∙◌, sym, subst, ℕ, take, length, refl}
 use Rattle.std.proofs.lemmas.List.{take_all}
-use Rattle.h2_spec.specs.Huffman.{codes}
+use Rattle.h2_spec.specs.Hpack.Huffman.{codes}
 use Rattle.h2_spec.proofs.BitLaws.{join-small, pow-pos, octets_all}
 use Rattle.h2_spec.proofs.SpellingLaws.{length-spell_huffman}
 use Rattle.h2_prim.specs.Written.{Written}

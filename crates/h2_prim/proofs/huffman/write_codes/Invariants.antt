@@ -1,6 +1,6 @@
 use Rattle.std.proofs.Common.{◌≡◌, ◌+◌, ◌*◌, ◌<◌, ◌^◌, take, length}
 use Rattle.std.specs.Vec.{vec_len, vec_capacity}
-use Rattle.h2_spec.specs.Huffman.{codes}
+use Rattle.h2_spec.specs.Hpack.Huffman.{codes}
 use Rattle.h2_prim.specs.Written.{Written}
 use Rattle.h2_prim.proofs.huffman.write_codes.Given as goal
 

@@ -1,5 +1,5 @@
 use Rattle.std.proofs.Common.{◌≡◌, ◌<◌, ◌≤◌, ◌-◌, ◌^◌, drop}
-use Rattle.h2_spec.specs.Integer.{groups_at, scaled}
+use Rattle.h2_spec.specs.Hpack.Integer.{groups_at, scaled}
 use Rattle.h2_prim.proofs.integer.read_groups.Given as goal
 
 abbrev pub invariant-loop-i : goal.invariant-loop-i

@@ -1,6 +1,6 @@
 use Rattle.std.proofs.Common.{◌≡◌, ◌∙◌, ℕ, ◌+◌, ◌*◌, ◌%◌, ap, arith}
 use Rattle.h2_spec.specs.Read.{Whole, More, TooLong}
-use Rattle.h2_spec.specs.Integer.{scaled}
+use Rattle.h2_spec.specs.Hpack.Integer.{scaled}
 use Rattle.h2_prim.proofs.integer.read_int.Goals as goal
 use Rattle.h2_prim.proofs.Groups.{int_at-low, int_at-full, int_at-none, read-is}
 

@@ -1,6 +1,6 @@
 use Rattle.std.proofs.Common.{arith, refl, ◌∙◌, ◌++◌}
 use Rattle.std.specs.Vec.{vec_len, vec_capacity}
-use Rattle.h2_spec.specs.Integer.{groups_of}
+use Rattle.h2_spec.specs.Hpack.Integer.{groups_of}
 use Rattle.h2_prim.proofs.Groups.{one_group, last_group}
 use Rattle.h2_prim.proofs.integer.write_groups.Goals as goal
 

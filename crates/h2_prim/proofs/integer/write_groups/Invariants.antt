@@ -1,6 +1,6 @@
 use Rattle.std.proofs.Common.{◌++◌}
 use Rattle.std.specs.Vec.{vec_len, vec_capacity}
-use Rattle.h2_spec.specs.Integer.{groups_of}
+use Rattle.h2_spec.specs.Hpack.Integer.{groups_of}
 use Rattle.h2_prim.proofs.Groups.{Left}
 use Rattle.h2_prim.proofs.integer.write_groups.Given as goal
 

@@ -1,5 +1,5 @@
 use Rattle.std.proofs.Common.{arith, ap, sym, ◌∙◌, ◌++◌, ◌≤◌, ◌-◌, ◌^◌, ◌≡◌, ◌+◌, ◌∷◌, [], append_assoc}
-use Rattle.h2_spec.specs.Integer.{groups_of, spell_int}
+use Rattle.h2_spec.specs.Hpack.Integer.{groups_of, spell_int}
 use Rattle.h2_prim.proofs.Groups.{write_fits, spell-short, spell-long}
 use Rattle.h2_prim.proofs.integer.write_int.Goals as goal
 

@@ -1,7 +1,7 @@
 use Rattle.std.proofs.Common.{◌≡◌, List, ℕ, Result, Ok, Err, subst, rules}
 use Rattle.std.specs.Prelude.{IfErr, IfOk}
-use Rattle.h2_spec.specs.Assemble.{assembled}
-use Rattle.h2_spec.specs.Script.{IsReadingOf, Script}
+use Rattle.h2_spec.specs.Texts.Assemble.{assembled}
+use Rattle.h2_spec.specs.Texts.Script.{IsReadingOf, Script}
 use Rattle.h2_spec.proofs.ReadingLines.{script_read}
 use Rattle.h2_script.specs.Readings.{Assembles, NamesBadLine}
 use Rattle.h2_script.specs.declared.fault.ScriptFault.{ScriptFault}

@@ -1,6 +1,6 @@
 use Rattle.std.proofs.Common.{◌∙◌, List, ℕ, [], sym, ap, arith}
-use Rattle.h2_spec.specs.Assemble.{lines_at, with_front}
-use Rattle.h2_spec.specs.Script.{lines_of}
+use Rattle.h2_spec.specs.Texts.Assemble.{lines_at, with_front}
+use Rattle.h2_spec.specs.Texts.Script.{lines_of}
 use Rattle.h2_script.proofs.Lines.{added, ended, lines_cut, lines_last, refused}
 use Rattle.h2_script.proofs.assembler.assemble_lines.Goals as goal
 

@@ -1,6 +1,6 @@
 use Rattle.std.proofs.Common.{◌≡◌, ◌+◌, ◌≤◌, length}
-use Rattle.h2_spec.specs.Assemble.{lines_at, with_front}
-use Rattle.h2_spec.specs.Script.{lines_of}
+use Rattle.h2_spec.specs.Texts.Assemble.{lines_at, with_front}
+use Rattle.h2_spec.specs.Texts.Script.{lines_of}
 use Rattle.h2_script.proofs.assembler.assemble_lines.Given as goal
 
 abbrev pub invariant-loop-line : goal.invariant-loop-line

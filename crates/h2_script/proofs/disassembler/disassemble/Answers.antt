@@ -1,7 +1,7 @@
 use Rattle.std.proofs.Common.{◌≡◌, ◌∙◌, ◌++◌, List, ℕ, ap, arith, sym, subst, true, length, string_bytes}
-use Rattle.h2_spec.specs.Parse.{parse_all}
-use Rattle.h2_spec.specs.Script.{Script}
-use Rattle.h2_spec.specs.Written.{written}
+use Rattle.h2_spec.specs.Frames.Parse.{parse_all}
+use Rattle.h2_spec.specs.Texts.Script.{Script}
+use Rattle.h2_spec.specs.Texts.Written.{written}
 use Rattle.h2_spec.proofs.WrittenLaws.{written_again}
 use Rattle.h2_script.specs.Texts.{said_text}
 use Rattle.h2_script.proofs.disassembler.disassemble.Goals as goal

@@ -1,5 +1,5 @@
 use Rattle.std.proofs.Common.{◌≡◌, ◌∙◌, ◌+◌, ◌-◌, ◌++◌, List, ℕ, suc, ap, sym, arith, length, string_bytes, append_assoc, false}
-use Rattle.h2_spec.specs.Written.{line_text}
+use Rattle.h2_spec.specs.Texts.Written.{line_text}
 use Rattle.h2_script.specs.Texts.{said_text}
 use Rattle.h2_script.proofs.Written.{said_one}
 use Rattle.h2_script.proofs.disassembler.push_all.Goals as goal

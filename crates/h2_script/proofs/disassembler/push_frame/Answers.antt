@@ -1,7 +1,7 @@
 use Rattle.std.proofs.Common.{◌≡◌, ◌∙◌, ◌++◌, ◌∷◌, [], List, ℕ, Result, Ok, Err, OnOk, ap, append_assoc, cond, string_bytes}
 use Rattle.std.specs.Result.{is_ok}
 use Rattle.hex.specs.Hex.{encode_lower}
-use Rattle.h2_spec.specs.Written.{payload_said, payload_text, statement_text, frame_said, stream_text, type_text}
+use Rattle.h2_spec.specs.Texts.Written.{payload_said, payload_text, statement_text, frame_said, stream_text, type_text}
 use Rattle.h2_script.specs.Texts.{head_text}
 use Rattle.h2_script.proofs.Written.{step}
 use Rattle.h2_script.proofs.disassembler.push_frame.Goals as goal

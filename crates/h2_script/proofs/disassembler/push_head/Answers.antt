@@ -1,6 +1,6 @@
 use Rattle.std.proofs.Common.{◌∷◌, ◌++◌, [], List, ℕ, string_bytes}
 use Rattle.hex.specs.Hex.{encode_lower}
-use Rattle.h2_spec.specs.Written.{stream_text, type_text}
+use Rattle.h2_spec.specs.Texts.Written.{stream_text, type_text}
 use Rattle.h2_script.proofs.Written.{step}
 use Rattle.h2_script.proofs.disassembler.push_head.Goals as goal
 

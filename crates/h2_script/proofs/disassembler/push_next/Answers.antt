@@ -1,8 +1,8 @@
 use Rattle.std.proofs.Common.{◌∙◌, sym, refl, arith}
 use Rattle.std.proofs.lemmas.List.{length-drop}
 use Rattle.std.proofs.lemmas.Result.{IfOk-from_err}
-use Rattle.h2_spec.specs.Script.{Preface}
-use Rattle.h2_spec.specs.Written.{frame_said}
+use Rattle.h2_spec.specs.Texts.Script.{Preface}
+use Rattle.h2_spec.specs.Texts.Written.{frame_said}
 use Rattle.h2_script.proofs.Written.{frame_short, head_nine, next_frame, next_none, next_preface, payload_long, preface_long}
 use Rattle.h2_script.proofs.disassembler.push_next.Goals as goal
 

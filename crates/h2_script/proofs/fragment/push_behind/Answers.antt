@@ -1,6 +1,6 @@
 use Rattle.std.proofs.Common.{◌≡◌, ◌∙◌, ◌<◌, ◌++◌, List, ℕ, ap, length, arith, string_bytes}
-use Rattle.h2_instruction.specs.Instructions.{instr_of}
-use Rattle.h2_spec.specs.Written.{instruction_text}
+use Rattle.h2_hpack_instruction.specs.Instructions.{instr_of}
+use Rattle.h2_spec.specs.Texts.Written.{instruction_text}
 use Rattle.h2_script.proofs.Fragments.{adds_first, adds_more, adds_on}
 use Rattle.h2_script.proofs.fragment.push_behind.Goals.{then-not-is_empty+in_ok-push_str, else-not-is_empty}
 use Rattle.h2_script.proofs.fragment.push_behind.Goals as goal

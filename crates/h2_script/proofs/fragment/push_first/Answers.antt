@@ -1,6 +1,6 @@
 use Rattle.std.proofs.Common.{string_bytes}
-use Rattle.h2_instruction.specs.Instructions.{instr_of}
-use Rattle.h2_spec.specs.Instruction.{instruction_at}
+use Rattle.h2_hpack_instruction.specs.Instructions.{instr_of}
+use Rattle.h2_spec.specs.Hpack.Instruction.{instruction_at}
 use Rattle.h2_script.proofs.Fragments.{read_writable, says_first}
 use Rattle.h2_script.proofs.fragment.push_first.Goals as goal
 

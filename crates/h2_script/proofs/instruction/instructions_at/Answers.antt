@@ -1,5 +1,5 @@
 use Rattle.std.proofs.Common.{◌≡◌, ◌+◌, ◌-◌, ◌<◌, suc, ap, sym, length, Some, Option, option_map, subst}
-use Rattle.h2_spec.specs.Script.{Instructions, Payload}
+use Rattle.h2_spec.specs.Texts.Script.{Instructions, Payload}
 use Rattle.h2_script.specs.Readings.{IsBuilt}
 use Rattle.h2_script.proofs.Eachs.{none_left, some_left, turn}
 use Rattle.h2_script.proofs.Instructions.{reaches_last, reaches_more, reaches_none, reaches_other}

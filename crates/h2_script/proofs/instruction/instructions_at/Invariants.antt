@@ -1,6 +1,6 @@
 use Rattle.std.proofs.Common.{◌≡◌, ◌-◌, ◌+◌, List, ℕ, length, option_map, flat_map}
-use Rattle.h2_spec.specs.Assemble.{all_at, instruction_at}
-use Rattle.h2_spec.specs.Script.{instruction_octets}
+use Rattle.h2_spec.specs.Texts.Assemble.{all_at, instruction_at}
+use Rattle.h2_spec.specs.Texts.Script.{instruction_octets}
 use Rattle.h2_script.specs.Each.{behind_each}
 use Rattle.h2_script.specs.Readings.{WrittenOut}
 use Rattle.h2_script.proofs.instruction.instructions_at.Given as goal

@@ -1,6 +1,6 @@
 use Rattle.std.proofs.Common.{◌≡◌, Some}
-use Rattle.h2_instruction.specs.Instructions.{instr_of}
-use Rattle.h2_spec.specs.Assemble.{instruction_at}
+use Rattle.h2_hpack_instruction.specs.Instructions.{instr_of}
+use Rattle.h2_spec.specs.Texts.Assemble.{instruction_at}
 use Rattle.h2_script.proofs.Instructions.{adds_one}
 use Rattle.h2_script.proofs.Long.{long_instruction}
 use Rattle.h2_script.proofs.instruction.push_first.Goals as goal

@@ -1,5 +1,5 @@
 use Rattle.std.proofs.Common.{◌∙◌, ap, append-nil, sym, subst, Ok, None, Result, Some}
-use Rattle.h2_spec.specs.Script.{Statement}
+use Rattle.h2_spec.specs.Texts.Script.{Statement}
 use Rattle.h2_spec.specs.declared.scripts.SyntaxKind.{SyntaxKind}
 use Rattle.h2_script.specs.Readings.{Adds, with_octets}
 use Rattle.h2_script.proofs.Lines.{statement_nothing, statement_words}

@@ -1,5 +1,5 @@
 use Rattle.std.proofs.Common.{◌∙◌, ℕ, drop, ◌<◌, ◌+◌, ◌*◌, ap, sym, arith}
-use Rattle.h2_spec.specs.Assemble.{scanned}
+use Rattle.h2_spec.specs.Texts.Assemble.{scanned}
 use Rattle.h2_script.proofs.Scans.{power_more, scan_digit, scan_end, scan_high, scan_low}
 use Rattle.h2_script.proofs.number.digits_at.Goals as goal
 

@@ -1,5 +1,5 @@
 use Rattle.std.proofs.Common.{◌≡◌, ◌<◌, ◌^◌, drop}
-use Rattle.h2_spec.specs.Assemble.{scanned}
+use Rattle.h2_spec.specs.Texts.Assemble.{scanned}
 use Rattle.h2_script.proofs.number.digits_at.Given as goal
 
 abbrev pub invariant-loop-digit : goal.invariant-loop-digit

@@ -1,5 +1,5 @@
 use Rattle.std.proofs.Common.{sym, ap, option_map}
-use Rattle.h2_spec.specs.Script.{Code}
+use Rattle.h2_spec.specs.Texts.Script.{Code}
 use Rattle.h2_script.proofs.payload.code_at.Goals as goal
 
 pub returns-in_ok-four_octets-in-Some : goal.returns-in_ok-four_octets-in-Some

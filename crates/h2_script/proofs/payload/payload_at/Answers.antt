@@ -1,8 +1,8 @@
 use Rattle.std.proofs.Common.{◌∙◌, Option, option_map, subst}
 use Rattle.std.specs.Prelude.{IfOk}
 use Rattle.std.proofs.lemmas.Result.{IfOk-from_err}
-use Rattle.h2_spec.specs.Assemble.{all_at, octets_at, setting_at}
-use Rattle.h2_spec.specs.Script.{Octets, Pairs, Payload}
+use Rattle.h2_spec.specs.Texts.Assemble.{all_at, octets_at, setting_at}
+use Rattle.h2_spec.specs.Texts.Script.{Octets, Pairs, Payload}
 use Rattle.h2_script.specs.Readings.{IsBuilt}
 use Rattle.h2_script.proofs.Payloads.{octets_said, payload_code, payload_hex, payload_increment, payload_instructions, payload_settings, settings_said}
 use Rattle.h2_script.proofs.payload.payload_at.Goals as goal

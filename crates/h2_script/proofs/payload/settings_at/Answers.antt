@@ -1,6 +1,6 @@
 use Rattle.std.proofs.Common.{◌≡◌, ◌∙◌, ◌+◌, ◌-◌, ◌<◌, List, ℕ, suc, ap, sym, arith, length, [], Some}
-use Rattle.h2_spec.specs.Assemble.{setting_at}
-use Rattle.h2_spec.specs.Script.{setting_octets}
+use Rattle.h2_spec.specs.Texts.Assemble.{setting_at}
+use Rattle.h2_spec.specs.Texts.Script.{setting_octets}
 use Rattle.h2_script.specs.Each.{behind_each}
 use Rattle.h2_script.proofs.Eachs.{each_last, each_more, each_none, each_other, none_left, some_left, turn}
 use Rattle.h2_script.proofs.payload.settings_at.Goals as goal

@@ -1,6 +1,6 @@
 use Rattle.std.proofs.Common.{◌≡◌, ◌-◌, ◌+◌, length, option_map, flat_map}
-use Rattle.h2_spec.specs.Assemble.{all_at, setting_at}
-use Rattle.h2_spec.specs.Script.{setting_octets}
+use Rattle.h2_spec.specs.Texts.Assemble.{all_at, setting_at}
+use Rattle.h2_spec.specs.Texts.Script.{setting_octets}
 use Rattle.h2_script.specs.Each.{behind_each}
 use Rattle.h2_script.proofs.payload.settings_at.Given as goal
 

@@ -1,7 +1,7 @@
 use Rattle.std.proofs.Common.{◌≡◌, ◌∙◌, ◌-◌, ◌++◌, ◌∷◌, List, ℕ, length, drop, ap, sym, arith, string_bytes, length-drop}
 use Rattle.h2_spec.specs.Octets.{four_octets, two_octets}
-use Rattle.h2_spec.specs.Payload.{setting_pairs}
-use Rattle.h2_spec.specs.Written.{each_text, setting_text}
+use Rattle.h2_spec.specs.Frames.Payload.{setting_pairs}
+use Rattle.h2_spec.specs.Texts.Written.{each_text, setting_text}
 use Rattle.h2_script.proofs.Written.{comma, pairs_last, pairs_more}
 use Rattle.h2_script.proofs.said.push_settings.Goals as goal
 

@@ -1,6 +1,6 @@
 use Rattle.std.proofs.Common.{◌≡◌, ◌≤◌, ◌%◌, ◌++◌, length, string_bytes}
-use Rattle.h2_spec.specs.Payload.{setting_pairs}
-use Rattle.h2_spec.specs.Written.{each_text, setting_text}
+use Rattle.h2_spec.specs.Frames.Payload.{setting_pairs}
+use Rattle.h2_spec.specs.Texts.Written.{each_text, setting_text}
 use Rattle.h2_script.proofs.said.push_settings.Given as goal
 
 abbrev pub decreases-loop-rest : goal.decreases-loop-rest

@@ -1,5 +1,5 @@
 use Rattle.std.proofs.Common.{◌≡◌, ◌++◌, drop, flat_map, string_bytes}
-use Rattle.h2_spec.specs.Written.{character_text}
+use Rattle.h2_spec.specs.Texts.Written.{character_text}
 use Rattle.h2_script.proofs.text.push_characters.Given as goal
 
 abbrev pub invariant-loop-octet : goal.invariant-loop-octet

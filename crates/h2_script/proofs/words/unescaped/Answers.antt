@@ -1,5 +1,5 @@
 use Rattle.std.proofs.Common.{◌≡◌, ◌∙◌, ◌<◌, ◌≤◌, ℕ, List, Some, None, drop, length, sym, ap, arith, subst, length-drop}
-use Rattle.h2_spec.specs.Assemble.{unescaped}
+use Rattle.h2_spec.specs.Texts.Assemble.{unescaped}
 use Rattle.h2_script.specs.Characters.{character_at}
 use Rattle.h2_script.proofs.Strings.{Follows, drop-twice, follows_end, follows_next, follows_none}
 use Rattle.h2_script.proofs.words.unescaped.Goals as goal

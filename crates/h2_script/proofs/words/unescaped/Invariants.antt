@@ -1,5 +1,5 @@
 use Rattle.std.proofs.Common.{◌≡◌, ◌≤◌, ◌++◌, ◌-◌, drop, length, option_map}
-use Rattle.h2_spec.specs.Assemble.{unescaped}
+use Rattle.h2_spec.specs.Texts.Assemble.{unescaped}
 use Rattle.h2_script.proofs.words.unescaped.Given as goal
 
 abbrev pub decreases-loop-at : goal.decreases-loop-at

@@ -1,5 +1,5 @@
 use Rattle.std.proofs.Common.{refl}
-use Rattle.h2_spec.specs.CauseWords.{row_of, all_causes}
+use Rattle.h2_spec.specs.Causes.CauseWords.{row_of, all_causes}
 use Rattle.h2_spec.proofs.causes.names.Goals as goal
 
 pub returns : goal.returns

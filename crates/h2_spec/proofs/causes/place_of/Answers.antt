@@ -3,7 +3,7 @@ use Rattle.std.proofs.Common.{◌≡◌, refl, Some}
 use Rattle.std.specs.Prelude.{slice_get}
 use Rattle.h2_spec.specs.contracts.causes.Cause.{the_type}
 use Rattle.h2_spec.specs.declared.causes.Cause.TheVariants.{BadPreface, FirstNotSettings, FirstIsSettingsAck, FrameTooLarge, StreamFrameTooLarge, BlockInterrupted, DataOnStreamZero, HeadersOnStreamZero, PriorityOnStreamZero, RstStreamOnStreamZero, ContinuationOnStreamZero, SettingsOnStream, PingOnStream, GoawayOnStream, DataLength, HeadersLength, PriorityLength, RstStreamLength, SettingsLength, SettingsAckLength, PingLength, GoawayLength, WindowUpdateLength, DataPadding, HeadersPadding, PushPromiseFromClient, ContinuationOutsideBlock, DataOnIdle, DataOnSkipped, DataAfterEndStream, DataOnClosed, HeadersOnEven, HeadersOnSkipped, HeadersAfterEndStream, HeadersOnClosed, RstStreamOnIdle, WindowUpdateOnIdle, ConnectionWindowExceeded, StreamWindowExceeded, ConnectionIncrementZero, StreamIncrementZero, ConnectionWindowOverflow, StreamWindowOverflow, EnablePushValue, InitialWindowSizeValue, MaxFrameSizeValue, InitialWindowSizeOverflow, BlockTooLarge, BlockTruncated, IntegerTooLong, IndexZero, IndexOutOfTables, HuffmanString, SizeUpdateLate, SizeUpdateTooLarge, SizeUpdateMissing, TooManyStreams, ListTooLarge, BadName, BadValue, LatePseudoField, UnknownPseudoField, DoublePseudoField, LackingPseudoField, ConnectionField, BadTe, BadContentLength, ContentMissing, ContentTooLong, ContentTooShort, TrailersWithoutEndStream, TrailersBadName, TrailersBadValue, TrailersPseudoField, TrailersConnectionField, TrailersBadTe}
-use Rattle.h2_spec.specs.CauseWords.{all_causes}
+use Rattle.h2_spec.specs.Causes.CauseWords.{all_causes}
 use Rattle.h2_spec.proofs.causes.place_of.Goals as goal
 
 pub returns : goal.returns

@@ -3,7 +3,7 @@ use Rattle.std.proofs.Common.{◌≡◌, refl, Some}
 use Rattle.std.specs.Prelude.{slice_get}
 use Rattle.h2_spec.specs.contracts.ignored.Ignored.{the_type}
 use Rattle.h2_spec.specs.declared.ignored.Ignored.TheVariants.{Priority, UnknownType, SecondAcknowledgement, PingAcknowledgement, RstStreamOnSkipped, RstStreamOnClosed, RstStreamOnPeerReset, RstStreamOnReset, WindowUpdateOnSkipped, WindowUpdateOnClosed, WindowUpdateOnPeerReset, WindowUpdateOnReset, WindowUpdateByZero, DataOnReset, TableOnlyBlock}
-use Rattle.h2_spec.specs.IgnoredWords.{all_reasons}
+use Rattle.h2_spec.specs.Causes.IgnoredWords.{all_reasons}
 use Rattle.h2_spec.proofs.ignored.place_of.Goals as goal
 
 pub returns : goal.returns

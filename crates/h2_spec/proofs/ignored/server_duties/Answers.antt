@@ -1,5 +1,5 @@
 use Rattle.std.proofs.Common.{refl}
-use Rattle.h2_spec.specs.IgnoredWords.{reason_row, all_reasons}
+use Rattle.h2_spec.specs.Causes.IgnoredWords.{reason_row, all_reasons}
 use Rattle.h2_spec.proofs.ignored.server_duties.Goals as goal
 
 pub returns : goal.returns

@@ -3,7 +3,7 @@ use Rattle.std.proofs.Common.{◌≡◌, refl, Some}
 use Rattle.std.specs.Prelude.{slice_get}
 use Rattle.h2_spec.specs.contracts.special_cases.SpecialCase.{the_type}
 use Rattle.h2_spec.specs.declared.special_cases.SpecialCase.TheVariants.{LimitNotAcknowledged, BehindContinuation, UnknownTypeInBlock, EmptyName, ConnectPseudoFields, EmptyPathOfOtherScheme, ContentLengthsDiffer, ContentLengthTooLong, UnfollowedWindow, EvenStream, DataAfterEnd, BlockAfterEnd}
-use Rattle.h2_spec.specs.SpecialCases.{all_special_cases}
+use Rattle.h2_spec.specs.Causes.SpecialCases.{all_special_cases}
 use Rattle.h2_spec.proofs.special_cases.place_of.Goals as goal
 
 pub returns : goal.returns

@@ -1,5 +1,5 @@
 use Rattle.std.proofs.Common.{refl}
-use Rattle.h2_spec.specs.SpecialCases.{special_row, all_special_cases}
+use Rattle.h2_spec.specs.Causes.SpecialCases.{special_row, all_special_cases}
 use Rattle.h2_spec.proofs.special_cases.sentences.Goals as goal
 
 pub returns : goal.returns

@@ -2,7 +2,7 @@ use Rattle.std.proofs.Common.{arith, ◌≡◌, ◌<◌, ◌∙◌, refl, length
 use Rattle.std.proofs.lemmas.List.{length_push, take_all}
 use Rattle.std.proofs.lemmas.Result.{IfOk-from_err}
 use Rattle.circular_buffer.specs.Buffer.{buffer}
-use Rattle.h2_list.proofs.ListParts.{some-at}
+use Rattle.h2_hpack_list.proofs.ListParts.{some-at}
 use Rattle.h2_table.proofs.Copied.{copied_more}
 use Rattle.h2_table.proofs.dynamic_table.copy_of.Goals as goal
 use Rattle.h2_table.proofs.dynamic_table.copy_of.Goals.{in-Some+in_ok-entry, in_default}

@@ -1,5 +1,5 @@
 use Rattle.std.proofs.Common.{◌≡◌, length}
-use Rattle.h2_spec.specs.DynamicTable.{total_size, fit}
+use Rattle.h2_spec.specs.Hpack.DynamicTable.{total_size, fit}
 use Rattle.h2_table.proofs.dynamic_table.evict.Given as goal
 
 abbrev pub invariant-loop-left : goal.invariant-loop-left

@@ -1,6 +1,6 @@
 use Rattle.std.proofs.Common.{List, ℕ, ap, ◌∙◌, sym}
-use Rattle.h2_spec.specs.Field.{field}
-use Rattle.h2_mark.specs.Mark.{mark_of}
+use Rattle.h2_spec.specs.Hpack.Field.{field}
+use Rattle.h2_hpack_validity.specs.Mark.{mark_of}
 use Rattle.h2_table.proofs.dynamic_table.lend.Goals as goal
 
 pub returns-clause-field : goal.returns-clause-field

@@ -1,6 +1,6 @@
 use Rattle.std.proofs.Common.{◌≡◌, ◌≤◌}
 use Rattle.std.specs.VecDeque.{deque_len, deque_capacity}
-use Rattle.h2_spec.specs.DynamicTable.{total_size, fit}
+use Rattle.h2_spec.specs.Hpack.DynamicTable.{total_size, fit}
 use Rattle.h2_table.proofs.edit.evict_added.Given as goal
 
 abbrev pub invariant-loop-left : goal.invariant-loop-left

@@ -1,5 +1,5 @@
 use Rattle.std.proofs.Common.{arith, refl, ◌∙◌}
-use Rattle.h2_spec.specs.Field.{field}
+use Rattle.h2_spec.specs.Hpack.Field.{field}
 use Rattle.h2_table.proofs.Editing.{leaves, no_entry}
 use Rattle.h2_table.proofs.edit.evict_own.Goals as goal
 

@@ -1,5 +1,5 @@
 use Rattle.std.proofs.Common.{◌≡◌, ◌≤◌, ◌++◌, length, take}
-use Rattle.h2_spec.specs.DynamicTable.{fit, total_size}
+use Rattle.h2_spec.specs.Hpack.DynamicTable.{fit, total_size}
 use Rattle.h2_table.proofs.edit.evict_own.Given as goal
 
 abbrev pub invariant-loop-left : goal.invariant-loop-left

@@ -1,5 +1,5 @@
 use Rattle.std.proofs.Common.{◌≡◌, ◌<◌, length, arith, None, slice_get}
-use Rattle.h2_list.proofs.ListParts.{copied-more, some-at}
+use Rattle.h2_hpack_list.proofs.ListParts.{copied-more, some-at}
 use Rattle.h2_table.proofs.kept.folded.Goals as goal
 use Rattle.h2_table.proofs.kept.folded.Goals.{in-Some+in_ok-append_like, in_default}
 

@@ -1,6 +1,6 @@
 use Rattle.std.proofs.Common.{◌≡◌, ◌<◌, ◌++◌, List, [], ◌∷◌, length, take, ap, ◌∙◌, sym, refl, arith, None, slice_get, append_assoc, length-take-le}
-use Rattle.h2_spec.specs.Field.{Field, field}
-use Rattle.h2_list.proofs.ListParts.{some-at}
+use Rattle.h2_spec.specs.Hpack.Field.{Field, field}
+use Rattle.h2_hpack_list.proofs.ListParts.{some-at}
 use Rattle.h2_table.proofs.Copied.{copied_more}
 use Rattle.h2_table.proofs.kept.put_run.Goals as goal
 use Rattle.h2_table.proofs.kept.put_run.Goals.{in-Some+in_ok-entry, in_default}

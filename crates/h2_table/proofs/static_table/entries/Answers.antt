@@ -1,5 +1,5 @@
 use Rattle.std.proofs.Common.{refl}
-use Rattle.h2_spec.specs.StaticTable.{static_entries}
+use Rattle.h2_spec.specs.Hpack.StaticTable.{static_entries}
 use Rattle.h2_table.proofs.static_table.entries.Goals as goal
 
 pub returns : goal.returns

@@ -1,6 +1,6 @@
 use Rattle.std.proofs.Common.{◌-◌, ◌∙◌, ap}
 use Rattle.std.specs.Prelude.{slice_get}
-use Rattle.h2_spec.specs.Field.{Field}
+use Rattle.h2_spec.specs.Hpack.Field.{Field}
 use Rattle.h2_table.proofs.static_table.static_field.Goals as goal
 use Rattle.h2_table.proofs.StaticEntries.{none_at_0, from_place}
 

@@ -1,5 +1,5 @@
 use Rattle.std.proofs.Common.{◌≡◌, [], false, true, subst}
-use Rattle.h2_spec.specs.Frame.{NoItem}
+use Rattle.h2_spec.specs.Frames.Frame.{NoItem}
 use Rattle.h2_spec.specs.Trace.{next_item}
 use Rattle.h2_conn.specs.Connection.{Connection, is_ended}
 use Rattle.h2_conn.proofs.RestLaws.{rest-no_item, rest-over}

@@ -1,6 +1,6 @@
 use Rattle.std.proofs.Common.{◌∙◌, sym, ap}
 use Rattle.std.proofs.lemmas.Result.{IfOk-weaker}
-use Rattle.h2_spec.specs.View.{view}
+use Rattle.h2_spec.specs.Texts.View.{view}
 use Rattle.h2_conn.specs.Connection.{Connection}
 use Rattle.h2_conn.proofs.Runs.{connection-view}
 use Rattle.h2_conn.proofs.conn.Conn.state.Goals as goal

@@ -1,6 +1,6 @@
 use Rattle.std.proofs.Common.{◌∙◌, sym, ap}
-use Rattle.h2_spec.specs.Show.{show}
-use Rattle.h2_spec.specs.View.{View, view}
+use Rattle.h2_spec.specs.Texts.Show.{show}
+use Rattle.h2_spec.specs.Texts.View.{View, view}
 use Rattle.h2_conn.specs.Connection.{Connection}
 use Rattle.h2_conn.proofs.Runs.{connection-view}
 use Rattle.h2_conn.proofs.conn.ConnText.write_to.Goals as goal

@@ -1,6 +1,6 @@
 use Rattle.h2_table.specs.Edits.{edited}
 use Rattle.h2_conn.specs.Fragments.{before_of}
-use Rattle.h2_conn.proofs.TentativeLaws.{decoded-answered, faulty-answered, is-before, is-sized, is-untouched}
+use Rattle.h2_conn.proofs.TentativeLaws.{decoded-answered, faulty-answered, is-before, is-sized, is-untouched, read-answered}
 use Rattle.h2_conn.proofs.decoding.Decoding.decode.Goals as goal
 
 pub decode_piece-requires : goal.decode_piece-requires
@@ -44,3 +44,12 @@ returns-clause-faulty g c =
     let table = c.args.table.now in
     let u = is-untouched inside.purpose inside.collected inside.rest held.rest.before held.rest.after held.rest.all held.savepoint c.args.self.now c.args.tentative.now c.self.view_is c.tentative.view_is c.requires.untouched in
     faulty-answered piece.result table.limit table.table (edited table.table.entries piece.new.edit) inside.collected piece.new.collected held.rest.before c.args.octets.now inside.purpose (before_of c.args.self.now c.args.tentative.now) u.1 piece.ensures.fault
+
+pub returns-clause-read : goal.returns-clause-read
+returns-clause-read g c =
+    let inside = c.self.inside in
+    let held = c.tentative.inside in
+    let piece = c.decode_piece in
+    let table = c.args.table.now in
+    let u = is-untouched inside.purpose inside.collected inside.rest held.rest.before held.rest.after held.rest.all held.savepoint c.args.self.now c.args.tentative.now c.self.view_is c.tentative.view_is c.requires.untouched in
+    read-answered piece.result table.limit table.table (edited table.table.entries piece.new.edit) inside.collected piece.new.collected held.rest.before c.args.octets.now inside.purpose (before_of c.args.self.now c.args.tentative.now) u.1 piece.ensures.fault

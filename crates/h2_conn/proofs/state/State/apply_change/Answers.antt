@@ -5,9 +5,9 @@ use Rattle.h2_spec.specs.Trace.{then_sent}
 use Rattle.h2_conn.specs.Blocks.{IsOpenFor}
 use Rattle.h2_conn.specs.Does.{Does}
 use Rattle.h2_conn.specs.Records.{records}
-use Rattle.h2_rules.specs.Sound.{IsSoundChange, in_force, updated_records}
+use Rattle.h2_conn_rules.specs.Sound.{IsSoundChange, in_force, updated_records}
 use Rattle.h2_conn.proofs.ApplyChangeLaws.{counts-sent, did, inside-sound, keeps}
-use Rattle.h2_send.proofs.SendChangeLaws.{can-send}
+use Rattle.h2_conn_send.proofs.SendChangeLaws.{can-send}
 use Rattle.h2_conn.proofs.state.State.apply_change.Goals as goal
 
 pub send_and_update-requires : goal.send_and_update-requires
@@ -30,16 +30,20 @@ invariant_of-self g c =
     let change = c.args.change.now in
     let sound = subst (λ (s : State). IsSoundChange s.book (records s) (in_force s.core) change) (sym c.self.view_is) c.requires.sound in
     let opened = subst (λ (s : State). IsOpenFor (updated_records change.record_update (records s)) s.block) (sym c.self.view_is) c.requires.kept in
-    let kept = keeps inside.book.now inside.core c.with_sent-self-inside.result inside.streams c.send_and_update.new.streams change inside.block inside.table.limit c.in-Ok.count c.self.invariant.0 c.self.invariant.1 sound opened c.with_sent-self-inside.ensures c.in-Ok.ensures.records in
+    let kept = keeps inside.book.now inside.core c.with_sent-self-inside.result inside.streams c.send_and_update.new.streams change inside.block inside.table.limit c.in-Ok.count c.self.invariant.0 c.self.invariant.1 sound opened c.with_sent-self-inside.ensures c.in-Ok.ensures.sends.records in
     (kept.0, kept.1, kept.2, c.self.invariant.3)
 
-pub returns-in-Ok-clause-ok : goal.returns-in-Ok-clause-ok
-returns-in-Ok-clause-ok g c =
+pub returns-in-Ok : goal.returns-in-Ok
+returns-in-Ok g c =
     let inside = c.self.inside in
     let change = c.args.change.now in
     let held : State = record { book = inside.book.now; config = inside.config; core = inside.core; block = inside.block; table = inside.table.table; streams = inside.streams.streams } in
-    let counts = counts-sent change.core (updated_streams change.record_update inside.streams.streams) c.in-Ok.count c.with_sent-self-inside.result c.in-Ok.ensures.count.0 c.with_sent-self-inside.ensures in
-    subst (λ (s : State). Does (then_sent change.core.phase (made s change)) (g.O.Outgoing.octets c.args.out.now)
-    (record held { core = c.with_sent-self-inside.result; streams = c.send_and_update.new.streams.streams }) (g.O.Outgoing.octets c.send_and_update.new.out)) c.self.view_is
-    (did held change inside.streams c.send_and_update.new.streams c.with_sent-self-inside.result (g.O.Outgoing.octets c.args.out.now) (g.O.Outgoing.octets c.send_and_update.new.out)
-    refl counts c.in-Ok.ensures.records c.in-Ok.ensures.sent c.in-Ok.ensures.short)
+    let counts = counts-sent change.core (updated_streams change.record_update inside.streams.streams) c.in-Ok.count c.with_sent-self-inside.result c.in-Ok.ensures.sends.count.0 c.with_sent-self-inside.ensures in
+    record {
+      ok = subst (λ (s : State). Does (then_sent change.core.phase (made s change)) (g.O.Outgoing.octets c.args.out.now)
+          (record held { core = c.with_sent-self-inside.result; streams = c.send_and_update.new.streams.streams }) (g.O.Outgoing.octets c.send_and_update.new.out)) c.self.view_is
+          (did held change inside.streams c.send_and_update.new.streams c.with_sent-self-inside.result (g.O.Outgoing.octets c.args.out.now) (g.O.Outgoing.octets c.send_and_update.new.out)
+          refl counts c.in-Ok.ensures.sends.records c.in-Ok.ensures.sends.sent c.in-Ok.ensures.sends.short);
+      verdict = search rules;
+      err = search rules;
+    }

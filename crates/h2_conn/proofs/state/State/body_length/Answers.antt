@@ -1,5 +1,5 @@
 use Rattle.std.proofs.Common.{◌∙◌, ap, length}
-use Rattle.h2_spec.specs.Answer.{Answer, picked}
+use Rattle.h2_spec.specs.Requests.Answer.{Answer, picked}
 use Rattle.h2_spec.specs.State.{State}
 use Rattle.h2_conn.proofs.state.State.body_length.Goals as goal
 

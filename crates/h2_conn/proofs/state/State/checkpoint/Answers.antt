@@ -2,7 +2,7 @@ use Rattle.std.proofs.Common.{◌≡◌, ◌∙◌, ℕ, List, Option, ap}
 use Rattle.std.proofs.lemmas.Result.{IfOk-from_err}
 use Rattle.std.specs.List.{filter}
 use Rattle.h2_spec.specs.declared.streams.Stream.{Stream}
-use Rattle.h2_spec.specs.DynamicTable.{LimitedTable}
+use Rattle.h2_spec.specs.Hpack.DynamicTable.{LimitedTable}
 use Rattle.h2_spec.specs.State.{OpenBlock}
 use Rattle.h2_conn.specs.Checkpoint.{CheckpointView, checkpoint_of}
 use Rattle.h2_conn.specs.Follows.{can_change}

@@ -1,7 +1,7 @@
 use Rattle.std.proofs.Common.{refl, subst}
 use Rattle.h2_spec.specs.State.{State}
 use Rattle.h2_conn.specs.Records.{records}
-use Rattle.h2_rules.specs.Sound.{IsSoundState}
+use Rattle.h2_conn_rules.specs.Sound.{IsSoundState}
 use Rattle.h2_conn.proofs.state.State.core.Goals as goal
 
 pub returns-clause-sound : goal.returns-clause-sound

@@ -1,15 +1,13 @@
 use Rattle.std.proofs.Common.{◌≡◌, ◌∙◌, ℕ, true, None, ap, refl, subst, sym}
-use Rattle.std.specs.Prelude.{IfOk, OnOk}
 use Rattle.h2_spec.specs.declared.connection.ConnectionState.{ConnectionState}
-use Rattle.h2_spec.specs.Effect.{concluded, effect_verdict}
-use Rattle.h2_spec.specs.Headers.{FrameEffect, block_ends, fragment_read}
+use Rattle.h2_spec.specs.Requests.Headers.{FrameEffect, block_ends, fragment_read}
 use Rattle.h2_spec.specs.State.{Decoding, State}
 use Rattle.h2_spec.specs.Stream.{Records}
 use Rattle.h2_conn.specs.Fragments.{after_of}
-use Rattle.h2_rules.specs.Open.{IsOpenAt, state_of}
-use Rattle.h2_rules.specs.Sound.{IsSoundState}
+use Rattle.h2_conn_rules.specs.Open.{IsOpenAt, state_of}
+use Rattle.h2_conn_rules.specs.Sound.{IsSoundState}
 use Rattle.h2_conn.specs.Blocks.{makes_open, with_table}
-use Rattle.h2_conn.specs.Does.{Does, stepped}
+use Rattle.h2_conn.specs.Does.{Settles}
 use Rattle.h2_conn.specs.Records.{records}
 use Rattle.h2_conn.proofs.FinishLaws.{block-made}
 use Rattle.h2_conn.proofs.FragmentLaws.{ends-badly, ends-well}
@@ -27,18 +25,12 @@ finish-requires g c = λ k.
     (ap (λ (x : State). x.book) is) (ap (λ (x : State). x.streams) is) last c.core.ensures.counts (c.in-Some-opening.ensures.rule s.block s.table) c.in-Some-opening.ensures.sound in
     ((refl, tt), (c.requires.stopped, (c.requires.sized, (c.requires.belongs, (made.0, (tt, made.1))))))
 
-pub returns-in-Some-clause-ok : goal.returns-in-Some-clause-ok
-returns-in-Some-clause-ok g c =
+pub returns-in-Some-clause-settles : goal.returns-in-Some-clause-settles
+returns-in-Some-clause-settles g c =
     let a = c.args in
     let s = a.self.now in
     let broken = ends-badly (with_table s a.edit.now) a.shown (after_of a.decoding.now a.tentative) c.in-Some.cause (sym c.bad_end.ensures ∙ c.in-Some.is) in
-    subst (λ (e : FrameEffect). OnOk c.refuse.result (Does (stepped (concluded s e)) (g.O.Outgoing.octets a.out.now) c.refuse.new.self (g.O.Outgoing.octets c.refuse.new.out))) (sym broken) c.refuse.ensures.ok
-
-pub returns-in-Some-clause-verdict : goal.returns-in-Some-clause-verdict
-returns-in-Some-clause-verdict g c =
-    let a = c.args in
-    let broken = ends-badly (with_table a.self.now a.edit.now) a.shown (after_of a.decoding.now a.tentative) c.in-Some.cause (sym c.bad_end.ensures ∙ c.in-Some.is) in
-    subst (λ (e : FrameEffect). IfOk c.refuse.result (λ verdict. verdict ≡ effect_verdict e)) (sym broken) c.refuse.ensures.verdict
+    subst (λ (e : FrameEffect). Settles s (g.O.Outgoing.octets a.out.now) e c.refuse.result c.refuse.new.self (g.O.Outgoing.octets c.refuse.new.out)) (sym broken) c.refuse.ensures.settles
 
 -- a request that opens its stream is made
 made : (g : Over) (c : goal.After-finish g) → fragment_read (with_table c.args.self.now c.args.edit.now) c.args.shown (after_of c.args.decoding.now c.args.tentative) true ≡ makes_open c.args.self.now c.args.edit.now None (after_of c.args.decoding.now c.args.tentative) c.in-Some-opening.change
@@ -52,12 +44,9 @@ made g c =
     ends-well s c.args.shown (after_of c.args.decoding.now c.args.tentative) inside.book.now inside.config c.core.result inside.streams.streams c.in-Some-opening.change (sym c.bad_end.ensures ∙ c.in-None.is) same
     (subst (λ (d : Decoding). c.in-Some-opening.change ≡ block_ends (state_of inside.book.now inside.config c.core.result s.block s.table inside.streams.streams) c.args.shown.stream c.args.shown.ends d.fields d.purpose) c.decoding.view_is (c.in-Some-opening.ensures.rule s.block s.table))
 
-pub returns-in-Some-opening-clause-ok : goal.returns-in-Some-opening-clause-ok
-returns-in-Some-opening-clause-ok g c =
-    subst (λ (e : FrameEffect). OnOk c.finish.result (Does (stepped (concluded c.args.self.now e)) (g.O.Outgoing.octets c.args.out.now) c.finish.new.self (g.O.Outgoing.octets c.finish.new.out))) (sym (made g c)) c.finish.ensures.ok
-
-pub returns-in-Some-opening-clause-verdict : goal.returns-in-Some-opening-clause-verdict
-returns-in-Some-opening-clause-verdict g c = subst (λ (e : FrameEffect). IfOk c.finish.result (λ verdict. verdict ≡ effect_verdict e)) (sym (made g c)) c.finish.ensures.verdict
+pub returns-in-Some-opening-clause-settles : goal.returns-in-Some-opening-clause-settles
+returns-in-Some-opening-clause-settles g c =
+    subst (λ (e : FrameEffect). Settles c.args.self.now (g.O.Outgoing.octets c.args.out.now) e c.finish.result c.finish.new.self (g.O.Outgoing.octets c.finish.new.out)) (sym (made g c)) c.finish.ensures.settles
 
 pub opening-opening-requires-clause-sound : goal.opening-opening-requires-clause-sound
 opening-opening-requires-clause-sound g c = subst (λ (k : ConnectionState). IsSoundState c.self.inside.book.now k c.self.inside.streams) (ap (λ (x : State). x.core) c.self.view_is ∙ sym c.core.ensures.counts) c.self.invariant.0

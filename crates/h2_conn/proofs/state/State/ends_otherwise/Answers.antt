@@ -1,15 +1,13 @@
 use Rattle.std.proofs.Common.{◌≡◌, ◌∙◌, ℕ, true, None, ap, refl, subst, sym}
-use Rattle.std.specs.Prelude.{IfOk, OnOk}
 use Rattle.h2_spec.specs.declared.connection.ConnectionState.{ConnectionState}
-use Rattle.h2_spec.specs.Effect.{concluded, effect_verdict}
-use Rattle.h2_spec.specs.Headers.{FrameEffect, block_ends, fragment_read}
+use Rattle.h2_spec.specs.Requests.Headers.{FrameEffect, block_ends, fragment_read}
 use Rattle.h2_spec.specs.State.{Decoding, State}
 use Rattle.h2_spec.specs.Stream.{Records}
 use Rattle.h2_conn.specs.Fragments.{after_of}
-use Rattle.h2_rules.specs.Open.{IsOpenAt, state_of}
-use Rattle.h2_rules.specs.Sound.{IsSoundState}
+use Rattle.h2_conn_rules.specs.Open.{IsOpenAt, state_of}
+use Rattle.h2_conn_rules.specs.Sound.{IsSoundState}
 use Rattle.h2_conn.specs.Blocks.{makes_open, with_table}
-use Rattle.h2_conn.specs.Does.{Does, stepped}
+use Rattle.h2_conn.specs.Does.{Settles}
 use Rattle.h2_conn.specs.Records.{records}
 use Rattle.h2_conn.proofs.FinishLaws.{block-made}
 use Rattle.h2_conn.proofs.FragmentLaws.{ends-well}
@@ -39,15 +37,9 @@ made g c =
     ends-well s c.args.shown (after_of c.args.decoding.now c.args.tentative) inside.book.now inside.config c.core.result inside.streams.streams c.block_ends-change.result c.requires.whole same
     (subst (λ (d : Decoding). c.block_ends-change.result ≡ block_ends (state_of inside.book.now inside.config c.core.result s.block s.table inside.streams.streams) c.args.shown.stream c.args.shown.ends d.fields d.purpose) c.decoding.view_is (c.block_ends-change.ensures.rule s.block s.table))
 
-pub returns-clause-ok : goal.returns-clause-ok
-returns-clause-ok g c =
-    subst (λ (e : FrameEffect). OnOk c.finish.result (Does (stepped (concluded c.args.self.now e)) (g.O.Outgoing.octets c.args.out.now) c.finish.new.self (g.O.Outgoing.octets c.finish.new.out))) (sym (made g c)) c.finish.ensures.ok
-
-pub returns-clause-verdict : goal.returns-clause-verdict
-returns-clause-verdict g c = subst (λ (e : FrameEffect). IfOk c.finish.result (λ verdict. verdict ≡ effect_verdict e)) (sym (made g c)) c.finish.ensures.verdict
-
-pub returns-clause-err : goal.returns-clause-err
-returns-clause-err g c = c.finish.ensures.err
+pub returns-clause-settles : goal.returns-clause-settles
+returns-clause-settles g c =
+    subst (λ (e : FrameEffect). Settles c.args.self.now (g.O.Outgoing.octets c.args.out.now) e c.finish.result c.finish.new.self (g.O.Outgoing.octets c.finish.new.out)) (sym (made g c)) c.finish.ensures.settles
 
 pub block_ends-change-requires-clause-sound : goal.block_ends-change-requires-clause-sound
 block_ends-change-requires-clause-sound g c = subst (λ (k : ConnectionState). IsSoundState c.self.inside.book.now k c.self.inside.streams) (ap (λ (x : State). x.core) c.self.view_is ∙ sym c.core.ensures.counts) c.self.invariant.0

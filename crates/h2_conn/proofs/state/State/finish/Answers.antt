@@ -1,8 +1,8 @@
-use Rattle.std.proofs.Common.{◌≡◌, ℕ, Option, refl, sym, ap, subst, ◌∙◌}
+use Rattle.std.proofs.Common.{◌≡◌, ℕ, Option, refl, sym, ap, subst, ◌∙◌, rules}
 use Rattle.h2_spec.specs.declared.flow.LocalSettings.{LocalSettings}
 use Rattle.h2_spec.specs.Change.{made}
-use Rattle.h2_spec.specs.DynamicTable.{LimitedTable, Table}
-use Rattle.h2_spec.specs.State.{OpenBlock, State}
+use Rattle.h2_spec.specs.Hpack.DynamicTable.{LimitedTable, Table}
+use Rattle.h2_spec.specs.State.{Decoding, OpenBlock, State}
 use Rattle.h2_spec.specs.Trace.{then_sent}
 use Rattle.h2_table.specs.Edits.{IsEdit, edited}
 use Rattle.h2_conn.specs.Blocks.{IsOpenFor, limited}
@@ -35,13 +35,13 @@ invariant_of-self g c =
     let inside = c.self.inside in
     let after = after_of c.args.decoding.now c.args.tentative in
     let held = ap (λ (x : State). x.streams) (sym c.self.view_is) in
-    let is = c.leave_open.ensures ∙ ap (block_after shown) c.take_over.ensures in
+    let is = c.leave_open.ensures.open ∙ ap (block_after shown) c.take_over.ensures in
     let opened = open-then s c.apply_in_place.new.self inside.streams change (block_after shown after) (g.O.Outgoing.octets c.args.out.now) (g.O.Outgoing.octets c.apply_in_place.new.out) c.requires.sound c.requires.known c.in-Ok.ensures.ok
     held (c.self.invariant.0.last ∙ ap (λ (x : State). x.core.last) c.self.view_is) in
     (c.self.invariant.0, ap (λ (t : LimitedTable). t.limit) c.commit.ensures ∙ c.self.invariant.1, subst (λ (b : Option OpenBlock). IsOpenFor inside.streams b) (sym is) opened, c.self.invariant.3)
 
-pub returns-in-Ok-clause-ok : goal.returns-in-Ok-clause-ok
-returns-in-Ok-clause-ok g c =
+pub returns-in-Ok-clause-settles : goal.returns-in-Ok-clause-settles
+returns-in-Ok-clause-settles g c =
     let s = c.args.self.now in
     let edit = c.args.edit.now in
     let shown = c.args.shown in
@@ -53,9 +53,16 @@ returns-in-Ok-clause-ok g c =
     let did = subst (λ (x : State). Does (then_sent change.core.phase (made s change)) out x (g.O.Outgoing.octets c.apply_in_place.new.out)) (sym c.self.view_is) c.in-Ok.ensures.ok in
     let after = edited s.table.entries edit in
     let block = block_after shown now in
-    let is = c.leave_open.ensures ∙ ap (block_after shown) c.take_over.ensures in
+    let is = c.leave_open.ensures.open ∙ ap (block_after shown) c.take_over.ensures in
     let kept : c.commit.new.self.table ≡ after = ap (λ (t : LimitedTable). t.table) c.commit.ensures ∙ ap (λ (t : Table). edited t.entries edit) (same-table s held change out (g.O.Outgoing.octets c.apply_in_place.new.out) did) in
     let changed : State = record s { block = block; table = after } in
-    subst (λ (b : Option OpenBlock). Does (then_sent change.core.phase (made changed change)) out (record held { block = b; table = c.commit.new.self.table }) (g.O.Outgoing.octets c.apply_in_place.new.out)) (sym is)
-    (subst (λ (t : Table). Does (then_sent change.core.phase (made changed change)) out (record held { block = block; table = t }) (g.O.Outgoing.octets c.apply_in_place.new.out)) (sym kept)
-    (rebound s held change block after out (g.O.Outgoing.octets c.apply_in_place.new.out) did))
+    record {
+      ok = subst (λ (b : Option OpenBlock). Does (then_sent change.core.phase (made changed change)) out (record held { block = b; table = c.commit.new.self.table }) (g.O.Outgoing.octets c.apply_in_place.new.out)) (sym is)
+          (subst (λ (t : Table). Does (then_sent change.core.phase (made changed change)) out (record held { block = block; table = t }) (g.O.Outgoing.octets c.apply_in_place.new.out)) (sym kept)
+          (rebound s held change block after out (g.O.Outgoing.octets c.apply_in_place.new.out) did));
+      verdict = search rules;
+      err = search rules;
+    }
+
+pub returns-in-Ok-clause-fields : goal.returns-in-Ok-clause-fields
+returns-in-Ok-clause-fields g c = c.leave_open.ensures.fields ∙ ap (λ (d : Decoding). d.fields) c.take_over.ensures

@@ -1,13 +1,11 @@
 use Rattle.std.proofs.Common.{◌≡◌, Some, ap, subst, ◌∙◌}
-use Rattle.std.specs.Prelude.{IfOk, OnOk}
 use Rattle.h2_spec.specs.declared.connection.ConnectionState.{ConnectionState}
 use Rattle.h2_spec.specs.declared.reactions.Change.{Change}
-use Rattle.h2_spec.specs.Effect.{concluded, effect_verdict}
-use Rattle.h2_spec.specs.Headers as rule
+use Rattle.h2_spec.specs.Requests.Headers as rule
 use Rattle.h2_spec.specs.State.{Decoding}
 use Rattle.h2_conn.specs.Fragments.{after_of}
 use Rattle.h2_conn.specs.Blocks.{makes_open}
-use Rattle.h2_conn.specs.Does.{Does, stepped}
+use Rattle.h2_conn.specs.Does.{Settles}
 use Rattle.h2_conn.proofs.state.State.goes_on.Given.{Over}
 use Rattle.h2_conn.proofs.state.State.goes_on.Goals as goal
 
@@ -18,15 +16,7 @@ ruled g c =
     ∙ ap (λ (k : ConnectionState). rule.goes_on k c.decoding.inside.purpose) c.core.ensures.counts
     ∙ ap (λ (d : Decoding). rule.goes_on c.args.self.now.core d.purpose) c.decoding.view_is
 
-pub returns-clause-ok : goal.returns-clause-ok
-returns-clause-ok g c =
+pub returns-clause-settles : goal.returns-clause-settles
+returns-clause-settles g c =
     let a = c.args in
-    subst (λ (change : Change). OnOk c.finish.result (Does (stepped (concluded a.self.now (makes_open a.self.now a.edit.now (Some a.shown) (after_of a.decoding.now a.tentative) change))) (g.O.Outgoing.octets a.out.now) c.finish.new.self (g.O.Outgoing.octets c.finish.new.out))) (ruled g c) c.finish.ensures.ok
-
-pub returns-clause-verdict : goal.returns-clause-verdict
-returns-clause-verdict g c =
-    let a = c.args in
-    subst (λ (change : Change). IfOk c.finish.result (λ verdict. verdict ≡ effect_verdict (makes_open a.self.now a.edit.now (Some a.shown) (after_of a.decoding.now a.tentative) change))) (ruled g c) c.finish.ensures.verdict
-
-pub returns-clause-err : goal.returns-clause-err
-returns-clause-err g c = c.finish.ensures.err
+    subst (λ (change : Change). Settles a.self.now (g.O.Outgoing.octets a.out.now) (makes_open a.self.now a.edit.now (Some a.shown) (after_of a.decoding.now a.tentative) change) c.finish.result c.finish.new.self (g.O.Outgoing.octets c.finish.new.out)) (ruled g c) c.finish.ensures.settles

@@ -1,15 +1,10 @@
-use Rattle.std.proofs.Common.{sym, subst, ap}
-use Rattle.h2_spec.specs.declared.connection.ConnectionState.{ConnectionState}
+use Rattle.std.proofs.Common.{refl}
 use Rattle.h2_conn.specs.Records.{records}
-use Rattle.h2_rules.specs.Sound.{IsSound, in_force}
-use Rattle.h2_conn.proofs.CountsLaws.{counted-by, window-counted}
+use Rattle.h2_conn.proofs.CountsLaws.{counted-by, sound-by, window-counted}
 use Rattle.h2_conn.proofs.state.State.on_connection_window.Goals as goal
 
-pub returns-clause-sound : goal.returns-clause-sound
-returns-clause-sound g c =
-    let s = c.args.self.now in
-    let counts = c.core.ensures.counts in
-    subst (λ (k : ConnectionState). IsSound s.book (records s) (in_force k) c.connection_window.result) counts (c.connection_window.ensures.sound s.book (records s) (sym (ap (λ (k : ConnectionState). k.last) counts)))
+pub conclude_in_place-requires : goal.conclude_in_place-requires
+conclude_in_place-requires g c = let s = c.args.self.now in λ k. ((refl, tt), (c.requires.stopped, (sound-by s _ _ c.core.ensures.counts (c.connection_window-reaction.ensures.sound s.book (records s)), counted-by _ _ _ _ c.connection_window-reaction.ensures.rule c.core.ensures.counts (window-counted _ _))))
 
-pub returns-clause-counts : goal.returns-clause-counts
-returns-clause-counts g c = counted-by c.args.self.now.core c.core.result c.connection_window.result _ c.connection_window.ensures.rule c.core.ensures.counts (window-counted _ _)
+pub returns : goal.returns
+returns g c = rw (c.connection_window-reaction.ensures.rule, c.core.ensures.counts) at c.conclude_in_place.ensures

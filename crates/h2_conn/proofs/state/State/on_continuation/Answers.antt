@@ -1,19 +1,21 @@
-use Rattle.std.proofs.Common.{◌≡◌, ℕ, List, Bool, Option, Some, None, ap, refl, subst, sym, ◌∙◌}
+use Rattle.std.proofs.Common.{◌≡◌, ℕ, List, Bool, Option, Some, None, ap, refl, subst, sym, rules}
 use Rattle.std.specs.Prelude.{IfOk, OnOk}
 use Rattle.std.proofs.lemmas.Option.{none-some}
-use Rattle.std.proofs.lemmas.Result.{on_err_weaker}
+use Rattle.std.proofs.lemmas.Result.{on_ok_weaker}
 use Rattle.h2_spec.specs.declared.causes.Cause.TheVariants.{ContinuationOutsideBlock}
 use Rattle.h2_spec.specs.declared.connection.BlockView.{BlockView}
-use Rattle.h2_spec.specs.Cause.{code_of}
+use Rattle.h2_spec.specs.Causes.Cause.{code_of}
 use Rattle.h2_spec.specs.Change.{Step, broken, ended, only_shown}
 use Rattle.h2_spec.specs.Effect as rule
-use Rattle.h2_spec.specs.FrameType.{END_HEADERS, has}
-use Rattle.h2_spec.specs.Headers as headers
-use Rattle.h2_spec.specs.Headers.{Breaks, FrameEffect, Makes}
+use Rattle.h2_spec.specs.Frames.FrameType.{END_HEADERS, has}
+use Rattle.h2_spec.specs.Requests.Headers as headers
+use Rattle.h2_spec.specs.Requests.Headers.{Breaks, FrameEffect, Makes}
 use Rattle.h2_spec.specs.State.{OpenBlock, Decoding, State}
 use Rattle.h2_conn.specs.OpenBlocks.{decoding_in}
 use Rattle.h2_conn.specs.Blocks.{decoding_of}
-use Rattle.h2_conn.specs.Does.{Does, stepped, stopped}
+use Rattle.h2_conn.specs.Does.{Does, Settles, stepped, stopped}
+use Rattle.h2_conn.specs.Shown.{fields_at_hand, fields_with}
+use Rattle.h2_conn.proofs.ShownLaws.{quiet, shows-closed, shows-on}
 use Rattle.h2_conn.proofs.state.State.on_continuation.Goals as goal
 
 -- what goes on is the block that was taken out
@@ -34,20 +36,6 @@ concluded-stopped : (s : State) (e : FrameEffect) → rule.concluded (stopped s)
 concluded-stopped s (Breaks cause) = ap (λ (b : Option OpenBlock). record (broken s cause) { state = record (ended s (code_of cause)) { block = b } }) (shown-alone s.block)
 concluded-stopped s (Makes t c) = refl
 
-pub returns-else-is_err-clause-ok : goal.returns-else-is_err-clause-ok
-returns-else-is_err-clause-ok g c =
-    let s = c.args.self.now in
-    let octets = c.args.octets.now in
-    let x : BlockView × Decoding = (c.in-Some.shown, c.take_decoding.new.decoding) in
-    let ends = has c.args.head.now.flags END_HEADERS in
-    let made = c.on_fragment-result in
-    let P : Step → Type 0 = λ e. OnOk made.result (Does (stepped e) (g.O.Outgoing.octets c.args.out.now) made.new.self (g.O.Outgoing.octets made.new.out)) in
-    let Q : State → FrameEffect → Type 0 = λ t e. P (rule.concluded t e) in
-    let taken = subst (λ (t : State). Q t (headers.fragment t x.0 x.1 octets c.has-end_headers.result)) c.take_decoding.ensures.stopped made.ensures.ok in
-    let flagged = subst (λ (b : Bool). Q (stopped s) (headers.fragment s x.0 x.1 octets b)) c.has-end_headers.ensures taken in
-    let whole = subst P (concluded-stopped s (headers.fragment s x.0 x.1 octets ends)) flagged in
-    subst (λ (e : FrameEffect). Q s e) (sym (goes-on s s.block x octets ends c.in-Some.ensures.taken)) whole
-
 -- there is no block that can go on
 none-goes-on : (s : State) (b : Option OpenBlock) (octets : List ℕ) (end_headers : Bool) → None ≡ decoding_of b → headers.continuation s b octets end_headers ≡ Breaks ContinuationOutsideBlock
 none-goes-on s None octets end_headers h = refl
@@ -57,26 +45,46 @@ none-goes-on s (Some b) octets end_headers h = go b.decoding h
     go None h = refl
     go (Some d) h = absurd (none-some (b.shown, d) h)
 
-pub returns-in-None-clause-ok : goal.returns-in-None-clause-ok
-returns-in-None-clause-ok g c =
+pub returns-in-None-clause-settles : goal.returns-in-None-clause-settles
+returns-in-None-clause-settles g c =
     let s = c.args.self.now in
-    subst (λ (e : FrameEffect). OnOk c.not_open.result (Does (stepped (rule.concluded s e)) (g.O.Outgoing.octets c.args.out.now) c.not_open.new.self (g.O.Outgoing.octets c.not_open.new.out))) (sym (none-goes-on s s.block c.args.octets.now (has c.args.head.now.flags END_HEADERS) c.in-None.ensures.taken))
-    (subst (λ (t : State). OnOk c.not_open.result (Does (broken t ContinuationOutsideBlock) (g.O.Outgoing.octets c.args.out.now) c.not_open.new.self (g.O.Outgoing.octets c.not_open.new.out))) c.in-None.ensures.unchanged c.not_open.ensures.ok)
+    let out = (g.O.Outgoing.octets c.args.out.now) in
+    let made = c.fail in
+    let out' = (g.O.Outgoing.octets made.new.out) in
+    subst (λ (e : FrameEffect). Settles s out e made.result made.new.self out') (sym (none-goes-on s s.block c.args.octets.now (has c.args.head.now.flags END_HEADERS) c.in-None.ensures.taken))
+    (subst (λ (t : State). Settles t out (Breaks ContinuationOutsideBlock) made.result made.new.self out') c.in-None.ensures.unchanged made.ensures)
 
-pub returns-in-None-clause-verdict : goal.returns-in-None-clause-verdict
-returns-in-None-clause-verdict g c =
-    let s = c.args.self.now in
-    subst (λ (e : FrameEffect). IfOk c.not_open.result (λ verdict. verdict ≡ rule.effect_verdict e)) (sym (none-goes-on s s.block c.args.octets.now (has c.args.head.now.flags END_HEADERS) c.in-None.ensures.taken)) c.not_open.ensures.verdict
-
-pub returns-in-None-clause-err : goal.returns-in-None-clause-err
-returns-in-None-clause-err g c = on_err_weaker c.not_open.result (λ same. (same.0 ∙ c.in-None.ensures.unchanged, same.1)) c.not_open.ensures.err
-
-pub returns-else-is_err-clause-verdict : goal.returns-else-is_err-clause-verdict
-returns-else-is_err-clause-verdict g c =
+pub returns-else-is_err-clause-settles : goal.returns-else-is_err-clause-settles
+returns-else-is_err-clause-settles g c =
     let s = c.args.self.now in
     let octets = c.args.octets.now in
     let x : BlockView × Decoding = (c.in-Some.shown, c.take_decoding.new.decoding) in
-    let P : FrameEffect → Type 0 = λ e. IfOk c.on_fragment-result.result (λ verdict. verdict ≡ rule.effect_verdict e) in
-    let taken = subst (λ (t : State). P (headers.fragment t x.0 x.1 octets c.has-end_headers.result)) c.take_decoding.ensures.stopped c.on_fragment-result.ensures.verdict in
-    let flagged = subst (λ (b : Bool). P (headers.fragment (stopped s) x.0 x.1 octets b)) c.has-end_headers.ensures taken in
-    subst P (sym (goes-on s s.block x octets (has c.args.head.now.flags END_HEADERS) c.in-Some.ensures.taken)) flagged
+    let ends = has c.args.head.now.flags END_HEADERS in
+    let made = c.on_fragment-result in
+    let is = sym (goes-on s s.block x octets ends c.in-Some.ensures.taken) in
+    let P : Step → Type 0 = λ e. OnOk made.result (Does (stepped e) (g.O.Outgoing.octets c.args.out.now) made.new.self (g.O.Outgoing.octets made.new.out)) in
+    let Q : State → FrameEffect → Type 0 = λ t e. P (rule.concluded t e) in
+    let R : FrameEffect → Type 0 = λ e. IfOk made.result (λ verdict. verdict ≡ rule.effect_verdict e) in
+    let taken = subst (λ (t : State). Q t (headers.fragment t x.0 x.1 octets c.has-end_headers.result)) c.take_decoding.ensures.stopped made.ensures.settles.ok in
+    let flagged = subst (λ (b : Bool). Q (stopped s) (headers.fragment s x.0 x.1 octets b)) c.has-end_headers.ensures taken in
+    let judged = subst (λ (t : State). R (headers.fragment t x.0 x.1 octets c.has-end_headers.result)) c.take_decoding.ensures.stopped made.ensures.settles.verdict in
+    record {
+      ok = subst (λ (e : FrameEffect). Q s e) is (subst P (concluded-stopped s (headers.fragment s x.0 x.1 octets ends)) flagged);
+      verdict = subst R is (subst (λ (b : Bool). R (headers.fragment (stopped s) x.0 x.1 octets b)) c.has-end_headers.ensures judged);
+      err = search rules;
+    }
+
+pub returns-else-is_err-clause-fields : goal.returns-else-is_err-clause-fields
+returns-else-is_err-clause-fields g c =
+    let s = c.args.self.now in
+    let octets = c.args.octets.now in
+    let x : BlockView × Decoding = (c.in-Some.shown, c.take_decoding.new.decoding) in
+    let made = c.on_fragment-result in
+    let at = fields_at_hand made.new.self.block made.new.decoding.fields in
+    let taken = subst (λ (t : State). OnOk made.result (at ≡ fields_with t x.0 x.1 octets)) c.take_decoding.ensures.stopped made.ensures.fields in
+    on_ok_weaker made.result (λ is. shows-on s s.block x octets at c.in-Some.ensures.taken is) taken
+
+pub returns-in-None-clause-fields : goal.returns-in-None-clause-fields
+returns-in-None-clause-fields g c =
+    let s = c.args.self.now in
+    on_ok_weaker c.fail.result (λ _. shows-closed s s.block c.args.octets.now _ c.in-None.ensures.taken) (quiet c.fail.result)

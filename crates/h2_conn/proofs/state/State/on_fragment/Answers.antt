@@ -1,17 +1,16 @@
 use Rattle.std.proofs.Common.{◌≡◌, ◌∙◌, ℕ, List, Bool, true, false, Err, Ok, Result, ap, refl, subst, sym}
-use Rattle.std.specs.Prelude.{IfOk, OnOk}
-use Rattle.std.proofs.lemmas.Result.{on_err_weaker}
+use Rattle.std.proofs.lemmas.Result.{on_err_weaker, on_ok_weaker}
 use Rattle.h2_spec.specs.declared.causes.Cause.{Cause}
 use Rattle.h2_spec.specs.declared.connection.BlockView.{BlockView}
 use Rattle.h2_spec.specs.declared.connection.Purpose.{Purpose}
-use Rattle.h2_spec.specs.Effect.{concluded, effect_verdict}
-use Rattle.h2_spec.specs.Headers.{Breaks, FrameEffect, fragment, fragment_read}
+use Rattle.h2_spec.specs.Requests.Headers.{Breaks, FrameEffect, fragment, fragment_read}
 use Rattle.h2_spec.specs.State.{Decoding, State}
 use Rattle.h2_spec.specs.Stream.{Records}
 use Rattle.h2_conn.specs.Fragments.{after_of}
-use Rattle.h2_rules.specs.Open.{IsOpenAt}
+use Rattle.h2_conn_rules.specs.Open.{IsOpenAt}
 use Rattle.h2_conn.specs.Blocks.{effect_read, with_table}
-use Rattle.h2_conn.specs.Does.{Does, stepped}
+use Rattle.h2_conn.specs.Does.{Settles}
+use Rattle.h2_conn.specs.Shown.{fields_with}
 use Rattle.h2_conn.proofs.state.State.on_fragment.Given.{Over}
 use Rattle.h2_conn.proofs.state.State.on_fragment.Goals as goal
 
@@ -35,15 +34,12 @@ ended : (g : Over) (c : goal.After-ends g) → fragment c.args.self.now c.args.s
 ended g c =
     fragment-is c.args.self.now (with_table c.args.self.now c.fragment.new.edit) c.args.shown c.args.decoding.now _ (after_of c.fragment.new.decoding c.fragment.new.tentative) c.args.octets.now c.args.end_headers true c.in-Ok-Ok.field-0 (Ok c.in-Ok-Ok.shown) c.in-Ok-Ok.ensures.effect c.unchanged-tentative.ensures.before c.in-Ok-Ok.field-0-is c.if-end_headers.true
 
-pub returns-then-end_headers-clause-ok : goal.returns-then-end_headers-clause-ok
-returns-then-end_headers-clause-ok g c =
-    subst (λ (e : FrameEffect). OnOk c.ends.result (Does (stepped (concluded c.args.self.now e)) (g.O.Outgoing.octets c.args.out.now) c.ends.new.self (g.O.Outgoing.octets c.ends.new.out))) (sym (ended g c)) c.ends.ensures.ok
+pub returns-then-end_headers-clause-settles : goal.returns-then-end_headers-clause-settles
+returns-then-end_headers-clause-settles g c =
+    subst (λ (e : FrameEffect). Settles c.args.self.now (g.O.Outgoing.octets c.args.out.now) e c.ends.result c.ends.new.self (g.O.Outgoing.octets c.ends.new.out)) (sym (ended g c)) c.ends.ensures.settles
 
-pub returns-then-end_headers-clause-verdict : goal.returns-then-end_headers-clause-verdict
-returns-then-end_headers-clause-verdict g c = subst (λ (e : FrameEffect). IfOk c.ends.result (λ verdict. verdict ≡ effect_verdict e)) (sym (ended g c)) c.ends.ensures.verdict
-
-pub returns-then-end_headers-clause-err : goal.returns-then-end_headers-clause-err
-returns-then-end_headers-clause-err g c = on_err_weaker c.ends.result (λ same. (same.0 ∙ c.fragment.ensures.before ∙ c.unchanged-tentative.ensures.before, same.1, same.2)) c.ends.ensures.err
+pub returns-then-end_headers-clause-decoding : goal.returns-then-end_headers-clause-decoding
+returns-then-end_headers-clause-decoding g c = on_err_weaker c.ends.result (λ same. same ∙ c.fragment.ensures.before ∙ c.unchanged-tentative.ensures.before) c.ends.ensures.decoding
 
 pub goes_on-requires : goal.goes_on-requires
 goes_on-requires g c = λ k.
@@ -55,29 +51,38 @@ goes : (g : Over) (c : goal.After-goes_on g) → fragment c.args.self.now c.args
 goes g c =
     fragment-is c.args.self.now (with_table c.args.self.now c.fragment.new.edit) c.args.shown c.args.decoding.now _ (after_of c.fragment.new.decoding c.fragment.new.tentative) c.args.octets.now c.args.end_headers false c.in-Ok-Ok.field-0 (Ok c.in-Ok-Ok.shown) c.in-Ok-Ok.ensures.effect c.unchanged-tentative.ensures.before c.in-Ok-Ok.field-0-is c.if-end_headers.false
 
-pub returns-else-end_headers-clause-ok : goal.returns-else-end_headers-clause-ok
-returns-else-end_headers-clause-ok g c =
-    subst (λ (e : FrameEffect). OnOk c.goes_on.result (Does (stepped (concluded c.args.self.now e)) (g.O.Outgoing.octets c.args.out.now) c.goes_on.new.self (g.O.Outgoing.octets c.goes_on.new.out))) (sym (goes g c)) c.goes_on.ensures.ok
+pub returns-else-end_headers-clause-settles : goal.returns-else-end_headers-clause-settles
+returns-else-end_headers-clause-settles g c =
+    subst (λ (e : FrameEffect). Settles c.args.self.now (g.O.Outgoing.octets c.args.out.now) e c.goes_on.result c.goes_on.new.self (g.O.Outgoing.octets c.goes_on.new.out)) (sym (goes g c)) c.goes_on.ensures.settles
 
-pub returns-else-end_headers-clause-verdict : goal.returns-else-end_headers-clause-verdict
-returns-else-end_headers-clause-verdict g c = subst (λ (e : FrameEffect). IfOk c.goes_on.result (λ verdict. verdict ≡ effect_verdict e)) (sym (goes g c)) c.goes_on.ensures.verdict
-
-pub returns-else-end_headers-clause-err : goal.returns-else-end_headers-clause-err
-returns-else-end_headers-clause-err g c = on_err_weaker c.goes_on.result (λ same. (same.0 ∙ c.fragment.ensures.before ∙ c.unchanged-tentative.ensures.before, same.1, same.2)) c.goes_on.ensures.err
+pub returns-else-end_headers-clause-decoding : goal.returns-else-end_headers-clause-decoding
+returns-else-end_headers-clause-decoding g c = on_err_weaker c.goes_on.result (λ same. same ∙ c.fragment.ensures.before ∙ c.unchanged-tentative.ensures.before) c.goes_on.ensures.decoding
 
 refused : (g : Over) (c : goal.After-refuse g) → fragment c.args.self.now c.args.shown c.args.decoding.now c.args.octets.now c.args.end_headers ≡ Breaks c.in-Ok-Err.cause
 refused g c =
     fragment-is c.args.self.now (with_table c.args.self.now c.fragment.new.edit) c.args.shown c.args.decoding.now _ (after_of c.fragment.new.decoding c.fragment.new.tentative) c.args.octets.now c.args.end_headers c.args.end_headers c.in-Ok-Err.field-0 (Err c.in-Ok-Err.cause) c.in-Ok-Err.ensures.effect c.unchanged-tentative.ensures.before c.in-Ok-Err.field-0-is refl
 
-pub returns-in-Ok-Err-clause-ok : goal.returns-in-Ok-Err-clause-ok
-returns-in-Ok-Err-clause-ok g c =
-    subst (λ (e : FrameEffect). OnOk c.refuse.result (Does (stepped (concluded c.args.self.now e)) (g.O.Outgoing.octets c.args.out.now) c.refuse.new.self (g.O.Outgoing.octets c.refuse.new.out))) (sym (refused g c)) c.refuse.ensures.ok
+pub returns-in-Ok-Err-clause-settles : goal.returns-in-Ok-Err-clause-settles
+returns-in-Ok-Err-clause-settles g c =
+    subst (λ (e : FrameEffect). Settles c.args.self.now (g.O.Outgoing.octets c.args.out.now) e c.refuse.result c.refuse.new.self (g.O.Outgoing.octets c.refuse.new.out)) (sym (refused g c)) c.refuse.ensures.settles
 
-pub returns-in-Ok-Err-clause-verdict : goal.returns-in-Ok-Err-clause-verdict
-returns-in-Ok-Err-clause-verdict g c = subst (λ (e : FrameEffect). IfOk c.refuse.result (λ verdict. verdict ≡ effect_verdict e)) (sym (refused g c)) c.refuse.ensures.verdict
+pub returns-in-Ok-Err-clause-decoding : goal.returns-in-Ok-Err-clause-decoding
+returns-in-Ok-Err-clause-decoding g c = on_err_weaker c.refuse.result (λ same. same ∙ c.fragment.ensures.before ∙ c.unchanged-tentative.ensures.before) c.refuse.ensures.decoding
 
-pub returns-in-Ok-Err-clause-err : goal.returns-in-Ok-Err-clause-err
-returns-in-Ok-Err-clause-err g c = on_err_weaker c.refuse.result (λ same. (same.0 ∙ c.fragment.ensures.before ∙ c.unchanged-tentative.ensures.before, same.1, same.2)) c.refuse.ensures.err
+pub returns-in-Err-clause-decoding : goal.returns-in-Err-clause-decoding
+returns-in-Err-clause-decoding g c = c.give_up.ensures ∙ c.fragment.ensures.before ∙ c.unchanged-tentative.ensures.before
 
-pub returns-in-Err-clause-err : goal.returns-in-Err-clause-err
-returns-in-Err-clause-err g c = (c.give_up.ensures ∙ c.fragment.ensures.before ∙ c.unchanged-tentative.ensures.before, refl, refl)
+pub returns-then-end_headers-clause-fields : goal.returns-then-end_headers-clause-fields
+returns-then-end_headers-clause-fields g c =
+    let read = c.in-Ok-Ok.ensures.fields ∙ ap (λ (d : Decoding). fields_with c.args.self.now c.args.shown d c.args.octets.now) c.unchanged-tentative.ensures.before in
+    on_ok_weaker c.ends.result (λ is. is ∙ read) c.ends.ensures.fields
+
+pub returns-else-end_headers-clause-fields : goal.returns-else-end_headers-clause-fields
+returns-else-end_headers-clause-fields g c =
+    let read = c.in-Ok-Ok.ensures.fields ∙ ap (λ (d : Decoding). fields_with c.args.self.now c.args.shown d c.args.octets.now) c.unchanged-tentative.ensures.before in
+    on_ok_weaker c.goes_on.result (λ is. is ∙ read) c.goes_on.ensures.fields
+
+pub returns-in-Ok-Err-clause-fields : goal.returns-in-Ok-Err-clause-fields
+returns-in-Ok-Err-clause-fields g c =
+    let read = c.in-Ok-Err.ensures.fields ∙ ap (λ (d : Decoding). fields_with c.args.self.now c.args.shown d c.args.octets.now) c.unchanged-tentative.ensures.before in
+    on_ok_weaker c.refuse.result (λ is. is ∙ read) c.refuse.ensures.fields

@@ -1,19 +1,20 @@
 use Rattle.std.proofs.Common.{◌≡◌, Bool, [], Err, Result, ap, subst, sym, ◌∙◌}
-use Rattle.std.specs.Prelude.{IfOk, OnOk}
-use Rattle.std.proofs.lemmas.Result.{on_err_weaker}
+use Rattle.std.specs.Prelude.{OnOk}
+use Rattle.std.proofs.lemmas.Result.{on_ok_weaker}
 use Rattle.h2_spec.specs.declared.causes.Cause.{Cause}
 use Rattle.h2_spec.specs.declared.connection.BlockView.{BlockView}
 use Rattle.h2_spec.specs.declared.connection.Purpose.{Purpose}
 use Rattle.h2_spec.specs.Effect as rule
-use Rattle.h2_spec.specs.Effect.{concluded, effect_verdict}
-use Rattle.h2_spec.specs.FrameType.{END_HEADERS, has}
-use Rattle.h2_spec.specs.Headers.{FrameEffect, fragment, fresh_block}
-use Rattle.h2_spec.specs.ReactionTable.{headers_cell}
+use Rattle.h2_spec.specs.Frames.FrameType.{END_HEADERS, has}
+use Rattle.h2_spec.specs.Requests.Headers.{FrameEffect, fragment, fresh_block}
+use Rattle.h2_spec.specs.ReactionTable.{Cell, headers_cell}
 use Rattle.h2_spec.specs.State.{Decoding}
 use Rattle.h2_spec.specs.Stream.{stream_at}
 use Rattle.h2_frame.specs.Parts.{headers_seen}
-use Rattle.h2_rules.specs.Block.{cell_of}
-use Rattle.h2_conn.specs.Does.{Does, stepped}
+use Rattle.h2_conn_rules.specs.Block.{cell_of}
+use Rattle.h2_conn.specs.Does.{Settles}
+use Rattle.h2_conn.specs.Shown.{Shows, fields_at_hand, fields_opened, fields_with}
+use Rattle.h2_conn.proofs.ShownLaws.{quiet}
 use Rattle.h2_conn.proofs.state.State.on_headers.Given.{Over}
 use Rattle.h2_conn.proofs.state.State.on_headers.Goals as goal
 
@@ -21,12 +22,9 @@ use Rattle.h2_conn.proofs.state.State.on_headers.Goals as goal
 refused : (g : Over) (c : goal.After-fail g) → (let s = c.args.self.now in let h = c.args.head.now in rule.on_headers s h (headers_seen c.args.part) (headers_cell h.stream (stream_at s.core.last s.streams h.stream).kind) ≡ rule.on_headers s h (headers_seen c.args.part) (cell_of (let r : Result Purpose Cause = Err c.in-Err.cause in r)))
 refused g c = ap (rule.on_headers c.args.self.now c.args.head.now (headers_seen c.args.part)) (sym c.purpose_at.ensures.rule ∙ ap cell_of c.in-Err.is)
 
-pub returns-in-Err-clause-ok : goal.returns-in-Err-clause-ok
-returns-in-Err-clause-ok g c =
-    subst (λ (e : FrameEffect). OnOk c.fail.result (Does (stepped (concluded c.args.self.now e)) (g.O.Outgoing.octets c.args.out.now) c.fail.new.self (g.O.Outgoing.octets c.fail.new.out))) (sym (refused g c)) c.fail.ensures.ok
-
-pub returns-in-Err-clause-verdict : goal.returns-in-Err-clause-verdict
-returns-in-Err-clause-verdict g c = subst (λ (e : FrameEffect). IfOk c.fail.result (λ verdict. verdict ≡ effect_verdict e)) (sym (refused g c)) c.fail.ensures.verdict
+pub returns-in-Err-clause-settles : goal.returns-in-Err-clause-settles
+returns-in-Err-clause-settles g c =
+    subst (λ (e : FrameEffect). Settles c.args.self.now (g.O.Outgoing.octets c.args.out.now) e c.fail.result c.fail.new.self (g.O.Outgoing.octets c.fail.new.out)) (sym (refused g c)) c.fail.ensures
 
 -- what HEADERS that open a block result in
 opened : (g : Over) (c : goal.After-on_fragment g) → (let s = c.args.self.now in let h = c.args.head.now in rule.on_headers s h (headers_seen c.args.part) (headers_cell h.stream (stream_at s.core.last s.streams h.stream).kind) ≡ fragment s c.fresh_block-shown.result c.renew.new.self c.args.part.fragment.now c.has-end_headers.result)
@@ -39,12 +37,20 @@ opened g c =
     ∙ ap (λ (b : BlockView). fragment s b c.renew.new.self c.args.part.fragment.now (has h.flags END_HEADERS)) (sym c.fresh_block-shown.ensures)
     ∙ ap (fragment s c.fresh_block-shown.result c.renew.new.self c.args.part.fragment.now) (sym c.has-end_headers.ensures)
 
-pub returns-in-Ok-clause-ok : goal.returns-in-Ok-clause-ok
-returns-in-Ok-clause-ok g c =
-    subst (λ (e : FrameEffect). OnOk c.on_fragment.result (Does (stepped (concluded c.args.self.now e)) (g.O.Outgoing.octets c.args.out.now) c.on_fragment.new.self (g.O.Outgoing.octets c.on_fragment.new.out))) (sym (opened g c)) c.on_fragment.ensures.ok
+pub returns-in-Ok-clause-settles : goal.returns-in-Ok-clause-settles
+returns-in-Ok-clause-settles g c =
+    subst (λ (e : FrameEffect). Settles c.args.self.now (g.O.Outgoing.octets c.args.out.now) e c.on_fragment.result c.on_fragment.new.self (g.O.Outgoing.octets c.on_fragment.new.out)) (sym (opened g c)) c.on_fragment.ensures.settles
 
-pub returns-in-Ok-clause-verdict : goal.returns-in-Ok-clause-verdict
-returns-in-Ok-clause-verdict g c = subst (λ (e : FrameEffect). IfOk c.on_fragment.result (λ verdict. verdict ≡ effect_verdict e)) (sym (opened g c)) c.on_fragment.ensures.verdict
+pub returns-in-Err-clause-fields : goal.returns-in-Err-clause-fields
+returns-in-Err-clause-fields g c =
+    let cell = sym (ap cell_of c.in-Err.is) ∙ c.purpose_at.ensures.rule in
+    subst (λ (x : Cell Purpose). OnOk c.fail.result (Shows (fields_opened c.args.self.now c.args.head.now (headers_seen c.args.part) x) (fields_at_hand c.fail.new.self.block c.args.scratch.now.decoding.fields))) cell (quiet c.fail.result)
 
-pub returns-in-Ok-clause-err : goal.returns-in-Ok-clause-err
-returns-in-Ok-clause-err g c = on_err_weaker c.on_fragment.result (λ same. (same.1, same.2)) c.on_fragment.ensures.err
+pub returns-in-Ok-clause-fields : goal.returns-in-Ok-clause-fields
+returns-in-Ok-clause-fields g c =
+    let s = c.args.self.now in
+    let h = c.args.head.now in
+    let cell = sym (ap cell_of c.in-Ok.is) ∙ c.purpose_at.ensures.rule in
+    let fresh = c.renew.ensures ∙ ap (λ (due : Bool). let d : Decoding = record { purpose = c.in-Ok.purpose; fields = []; due = due; rest = [] } in d) c.is_due.ensures in
+    let read = ap (λ (b : BlockView). fields_with s b c.renew.new.self c.args.part.fragment.now) c.fresh_block-shown.ensures ∙ ap (λ (d : Decoding). fields_with s (fresh_block h) d c.args.part.fragment.now) fresh in
+    on_ok_weaker c.on_fragment.result (λ is. subst (λ (x : Cell Purpose). Shows (fields_opened s h (headers_seen c.args.part) x) (fields_at_hand c.on_fragment.new.self.block c.on_fragment.new.decoding.fields)) cell (is ∙ read)) c.on_fragment.ensures.fields

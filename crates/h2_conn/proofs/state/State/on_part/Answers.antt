@@ -1,161 +1,127 @@
-use Rattle.std.proofs.Common.{◌≡◌, Bool, refl, subst, sym}
-use Rattle.std.specs.Prelude.{IfOk, OnOk, if◌then◌else◌}
-use Rattle.h2_spec.specs.declared.ignored.Ignored.TheVariants.{PingAcknowledgement}
-use Rattle.h2_spec.specs.declared.reactions.ConnectionFrame.TheVariants.{PingAck}
-use Rattle.h2_spec.specs.declared.reactions.Reaction.TheVariants.{Continues}
-use Rattle.h2_spec.specs.declared.reactions.ReceivedData.{ReceivedData}
-use Rattle.h2_spec.specs.Change.{only_counts}
-use Rattle.h2_spec.specs.Effect.{body_length, concluded, effect_verdict, frame_effect, ignore, on_data}
-use Rattle.h2_spec.specs.Headers.{makes}
-use Rattle.h2_spec.specs.Stream.{stream_at}
+use Rattle.std.proofs.Common.{◌≡◌, ℕ, List, Result, refl, subst, sym}
+use Rattle.std.specs.Prelude.{OnOk}
+use Rattle.h2_spec.specs.declared.frames.Head.{Head}
+use Rattle.h2_spec.specs.declared.reactions.Verdict.{Verdict}
+use Rattle.h2_spec.specs.Effect.{frame_effect}
+use Rattle.h2_spec.specs.Hpack.Field.{Field}
+use Rattle.h2_spec.specs.State.{State}
 use Rattle.h2_frame.specs.Parts.{part_seen}
 use Rattle.h2_frame.specs.declared.payload.Part.{Part}
-use Rattle.h2_conn.specs.Does.{Does, stepped}
+use Rattle.h2_conn.specs.Does.{Settles}
 use Rattle.h2_conn.specs.Parted.{IsNoContinuation}
+use Rattle.h2_conn.specs.Shown.{IsOfNoBlock, Shows, fields_at_hand, part_fields}
 use Rattle.h2_conn.proofs.InsideLaws.{part-outside}
+use Rattle.h2_conn.proofs.ShownLaws.{shows-none}
 use Rattle.h2_conn.proofs.state.State.on_part.Goals as goal
 
-pub take_data-requires : goal.take_data-requires
-take_data-requires g c = λ k. ((refl, tt), part-outside _ _ c.args.head.now c.args.payload.now c.args.part c.requires.passed c.requires.part (subst IsNoContinuation (sym c.in-Data.is) tt))
+pub on_data-requires : goal.on_data-requires
+on_data-requires g c = λ k. ((refl, tt), part-outside _ _ c.args.head.now c.args.payload.now c.args.part c.requires.passed c.requires.part (subst IsNoContinuation (sym c.in-Data.is) tt))
 
 pub on_headers-requires : goal.on_headers-requires
 on_headers-requires g c = λ k. ((refl, tt), part-outside _ _ c.args.head.now c.args.payload.now c.args.part c.requires.passed c.requires.part (subst IsNoContinuation (sym c.in-Headers.is) tt))
 
-pub take_ignored-requires : goal.take_ignored-requires
-take_ignored-requires g c = λ k. ((refl, tt), part-outside _ _ c.args.head.now c.args.payload.now c.args.part c.requires.passed c.requires.part (subst IsNoContinuation (sym c.in-Priority.is) tt))
+pub on_ignored-requires : goal.on_ignored-requires
+on_ignored-requires g c = λ k. ((refl, tt), part-outside _ _ c.args.head.now c.args.payload.now c.args.part c.requires.passed c.requires.part (subst IsNoContinuation (sym c.in-Priority.is) tt))
 
-pub take_reset-requires : goal.take_reset-requires
-take_reset-requires g c = λ k. ((refl, tt), part-outside _ _ c.args.head.now c.args.payload.now c.args.part c.requires.passed c.requires.part (subst IsNoContinuation (sym c.in-RstStream.is) tt))
+pub on_reset-requires : goal.on_reset-requires
+on_reset-requires g c = λ k. ((refl, tt), part-outside _ _ c.args.head.now c.args.payload.now c.args.part c.requires.passed c.requires.part (subst IsNoContinuation (sym c.in-RstStream.is) tt))
 
-pub take_settings-requires : goal.take_settings-requires
-take_settings-requires g c = λ k. ((refl, tt), part-outside _ _ c.args.head.now c.args.payload.now c.args.part c.requires.passed c.requires.part (subst IsNoContinuation (sym c.in-Settings.is) tt))
+pub on_settings-requires : goal.on_settings-requires
+on_settings-requires g c = λ k. ((refl, tt), part-outside _ _ c.args.head.now c.args.payload.now c.args.part c.requires.passed c.requires.part (subst IsNoContinuation (sym c.in-Settings.is) tt))
 
 pub on_acknowledged-requires : goal.on_acknowledged-requires
 on_acknowledged-requires g c = λ k. ((refl, tt), part-outside _ _ c.args.head.now c.args.payload.now c.args.part c.requires.passed c.requires.part (subst IsNoContinuation (sym c.in-SettingsAck.is) tt))
 
-pub take_push_promise-requires : goal.take_push_promise-requires
-take_push_promise-requires g c = λ k. ((refl, tt), part-outside _ _ c.args.head.now c.args.payload.now c.args.part c.requires.passed c.requires.part (subst IsNoContinuation (sym c.in-PushPromise.is) tt))
+pub on_ping-requires : goal.on_ping-requires
+on_ping-requires g c = λ k. ((refl, tt), part-outside _ _ c.args.head.now c.args.payload.now c.args.part c.requires.passed c.requires.part (subst IsNoContinuation (sym c.in-Ping.is) tt))
 
-pub take_ping-requires : goal.take_ping-requires
-take_ping-requires g c = λ k. ((refl, tt), part-outside _ _ c.args.head.now c.args.payload.now c.args.part c.requires.passed c.requires.part (subst IsNoContinuation (sym c.in-Ping.is) tt))
+pub on_goaway-requires : goal.on_goaway-requires
+on_goaway-requires g c = λ k. ((refl, tt), part-outside _ _ c.args.head.now c.args.payload.now c.args.part c.requires.passed c.requires.part (subst IsNoContinuation (sym c.in-Goaway.is) tt))
 
-pub take_goaway-requires : goal.take_goaway-requires
-take_goaway-requires g c = λ k. ((refl, tt), part-outside _ _ c.args.head.now c.args.payload.now c.args.part c.requires.passed c.requires.part (subst IsNoContinuation (sym c.in-Goaway.is) tt))
+pub on_window_update-requires : goal.on_window_update-requires
+on_window_update-requires g c = λ k. ((refl, tt), part-outside _ _ c.args.head.now c.args.payload.now c.args.part c.requires.passed c.requires.part (subst IsNoContinuation (sym c.in-WindowUpdate.is) tt))
 
-pub take_window_update-requires : goal.take_window_update-requires
-take_window_update-requires g c = λ k. ((refl, tt), part-outside _ _ c.args.head.now c.args.payload.now c.args.part c.requires.passed c.requires.part (subst IsNoContinuation (sym c.in-WindowUpdate.is) tt))
+pub on_ignored-requires-in-Unknown : goal.on_ignored-requires-in-Unknown
+on_ignored-requires-in-Unknown g c = λ k. ((refl, tt), part-outside _ _ c.args.head.now c.args.payload.now c.args.part c.requires.passed c.requires.part (subst IsNoContinuation (sym c.in-Unknown.is) tt))
 
-pub take_ignored-requires-in-Unknown : goal.take_ignored-requires-in-Unknown
-take_ignored-requires-in-Unknown g c = λ k. ((refl, tt), part-outside _ _ c.args.head.now c.args.payload.now c.args.part c.requires.passed c.requires.part (subst IsNoContinuation (sym c.in-Unknown.is) tt))
+-- what is done for a part that is known
+for-part : {E : Type 0} (s : State) (out : List ℕ) (h : Head) (payload : List ℕ) (p q : Part) (r : Result Verdict E) (now : State) (out' : List ℕ) → p ≡ q → Settles s out (frame_effect s h payload (part_seen q)) r now out' → Settles s out (frame_effect s h payload (part_seen p)) r now out'
+for-part s out h payload p q r now out' is done = subst (λ (x : Part). Settles s out (frame_effect s h payload (part_seen x)) r now out') (sym is) done
 
-pub returns-in-Data-clause-ok : goal.returns-in-Data-clause-ok
-returns-in-Data-clause-ok g c =
-    let s = c.args.self.now in
-    subst (λ (p : Part). OnOk c.take_data.result (Does (stepped (concluded s (frame_effect s c.args.head.now c.args.payload.now (part_seen p)))) (g.O.Outgoing.octets c.args.out.now) c.take_data.new.self (g.O.Outgoing.octets c.take_data.new.out))) (sym c.in-Data.is)
-    (subst (λ (d : ReceivedData). OnOk c.take_data.result (Does (stepped (concluded s (makes s (let st = stream_at s.core.last s.streams c.args.head.now.stream in on_data s.config s.core (body_length s.book st) d st)))) (g.O.Outgoing.octets c.args.out.now) c.take_data.new.self (g.O.Outgoing.octets c.take_data.new.out))) c.incoming.ensures c.take_data.ensures.ok)
+pub returns-in-Data-clause-settles : goal.returns-in-Data-clause-settles
+returns-in-Data-clause-settles g c = for-part c.args.self.now _ c.args.head.now c.args.payload.now _ _ _ _ _ c.in-Data.is (rw c.incoming.ensures at c.on_data.ensures)
 
-pub returns-in-Data-clause-verdict : goal.returns-in-Data-clause-verdict
-returns-in-Data-clause-verdict g c =
-    subst (λ (p : Part). IfOk c.take_data.result (λ verdict. verdict ≡ effect_verdict (frame_effect c.args.self.now c.args.head.now c.args.payload.now (part_seen p)))) (sym c.in-Data.is)
-    (subst (λ (d : ReceivedData). IfOk c.take_data.result (λ verdict. verdict ≡ effect_verdict (makes c.args.self.now (let st = stream_at c.args.self.now.core.last c.args.self.now.streams c.args.head.now.stream in on_data c.args.self.now.config c.args.self.now.core (body_length c.args.self.now.book st) d st)))) c.incoming.ensures c.take_data.ensures.verdict)
+pub returns-in-Headers-clause-settles : goal.returns-in-Headers-clause-settles
+returns-in-Headers-clause-settles g c = for-part c.args.self.now _ c.args.head.now c.args.payload.now _ _ _ _ _ c.in-Headers.is c.on_headers.ensures.settles
 
-pub returns-in-Headers-clause-ok : goal.returns-in-Headers-clause-ok
-returns-in-Headers-clause-ok g c =
-    let s = c.args.self.now in
-    subst (λ (p : Part). OnOk c.on_headers.result (Does (stepped (concluded s (frame_effect s c.args.head.now c.args.payload.now (part_seen p)))) (g.O.Outgoing.octets c.args.out.now) c.on_headers.new.self (g.O.Outgoing.octets c.on_headers.new.out))) (sym c.in-Headers.is) c.on_headers.ensures.ok
+pub returns-in-Priority-clause-settles : goal.returns-in-Priority-clause-settles
+returns-in-Priority-clause-settles g c = for-part c.args.self.now _ c.args.head.now c.args.payload.now _ _ _ _ _ c.in-Priority.is c.on_ignored.ensures
 
-pub returns-in-Headers-clause-verdict : goal.returns-in-Headers-clause-verdict
-returns-in-Headers-clause-verdict g c =
-    subst (λ (p : Part). IfOk c.on_headers.result (λ verdict. verdict ≡ effect_verdict (frame_effect c.args.self.now c.args.head.now c.args.payload.now (part_seen p)))) (sym c.in-Headers.is) c.on_headers.ensures.verdict
+pub returns-in-RstStream-clause-settles : goal.returns-in-RstStream-clause-settles
+returns-in-RstStream-clause-settles g c = for-part c.args.self.now _ c.args.head.now c.args.payload.now _ _ _ _ _ c.in-RstStream.is c.on_reset.ensures
 
-pub returns-in-Priority-clause-ok : goal.returns-in-Priority-clause-ok
-returns-in-Priority-clause-ok g c =
-    let s = c.args.self.now in
-    subst (λ (p : Part). OnOk c.take_ignored.result (Does (stepped (concluded s (frame_effect s c.args.head.now c.args.payload.now (part_seen p)))) (g.O.Outgoing.octets c.args.out.now) c.take_ignored.new.self (g.O.Outgoing.octets c.take_ignored.new.out))) (sym c.in-Priority.is) c.take_ignored.ensures.ok
+pub returns-in-Settings-clause-settles : goal.returns-in-Settings-clause-settles
+returns-in-Settings-clause-settles g c = for-part c.args.self.now _ c.args.head.now c.args.payload.now _ _ _ _ _ c.in-Settings.is c.on_settings.ensures
 
-pub returns-in-Priority-clause-verdict : goal.returns-in-Priority-clause-verdict
-returns-in-Priority-clause-verdict g c =
-    subst (λ (p : Part). IfOk c.take_ignored.result (λ verdict. verdict ≡ effect_verdict (frame_effect c.args.self.now c.args.head.now c.args.payload.now (part_seen p)))) (sym c.in-Priority.is) c.take_ignored.ensures.verdict
+pub returns-in-SettingsAck-clause-settles : goal.returns-in-SettingsAck-clause-settles
+returns-in-SettingsAck-clause-settles g c = for-part c.args.self.now _ c.args.head.now c.args.payload.now _ _ _ _ _ c.in-SettingsAck.is c.on_acknowledged.ensures
 
-pub returns-in-RstStream-clause-ok : goal.returns-in-RstStream-clause-ok
-returns-in-RstStream-clause-ok g c =
-    let s = c.args.self.now in
-    subst (λ (p : Part). OnOk c.take_reset.result (Does (stepped (concluded s (frame_effect s c.args.head.now c.args.payload.now (part_seen p)))) (g.O.Outgoing.octets c.args.out.now) c.take_reset.new.self (g.O.Outgoing.octets c.take_reset.new.out))) (sym c.in-RstStream.is) c.take_reset.ensures.ok
+pub returns-in-PushPromise-clause-settles : goal.returns-in-PushPromise-clause-settles
+returns-in-PushPromise-clause-settles g c = for-part c.args.self.now _ c.args.head.now c.args.payload.now _ _ _ _ _ c.in-PushPromise.is c.fail.ensures
 
-pub returns-in-RstStream-clause-verdict : goal.returns-in-RstStream-clause-verdict
-returns-in-RstStream-clause-verdict g c =
-    subst (λ (p : Part). IfOk c.take_reset.result (λ verdict. verdict ≡ effect_verdict (frame_effect c.args.self.now c.args.head.now c.args.payload.now (part_seen p)))) (sym c.in-RstStream.is) c.take_reset.ensures.verdict
+pub returns-in-Ping-clause-settles : goal.returns-in-Ping-clause-settles
+returns-in-Ping-clause-settles g c = for-part c.args.self.now _ c.args.head.now c.args.payload.now _ _ _ _ _ c.in-Ping.is (rw c.has.ensures at c.on_ping.ensures)
 
-pub returns-in-Settings-clause-ok : goal.returns-in-Settings-clause-ok
-returns-in-Settings-clause-ok g c =
-    let s = c.args.self.now in
-    subst (λ (p : Part). OnOk c.take_settings.result (Does (stepped (concluded s (frame_effect s c.args.head.now c.args.payload.now (part_seen p)))) (g.O.Outgoing.octets c.args.out.now) c.take_settings.new.self (g.O.Outgoing.octets c.take_settings.new.out))) (sym c.in-Settings.is) c.take_settings.ensures.ok
+pub returns-in-Goaway-clause-settles : goal.returns-in-Goaway-clause-settles
+returns-in-Goaway-clause-settles g c = for-part c.args.self.now _ c.args.head.now c.args.payload.now _ _ _ _ _ c.in-Goaway.is c.on_goaway.ensures
 
-pub returns-in-Settings-clause-verdict : goal.returns-in-Settings-clause-verdict
-returns-in-Settings-clause-verdict g c =
-    subst (λ (p : Part). IfOk c.take_settings.result (λ verdict. verdict ≡ effect_verdict (frame_effect c.args.self.now c.args.head.now c.args.payload.now (part_seen p)))) (sym c.in-Settings.is) c.take_settings.ensures.verdict
+pub returns-in-WindowUpdate-clause-settles : goal.returns-in-WindowUpdate-clause-settles
+returns-in-WindowUpdate-clause-settles g c = for-part c.args.self.now _ c.args.head.now c.args.payload.now _ _ _ _ _ c.in-WindowUpdate.is c.on_window_update.ensures
 
-pub returns-in-SettingsAck-clause-ok : goal.returns-in-SettingsAck-clause-ok
-returns-in-SettingsAck-clause-ok g c =
-    let s = c.args.self.now in
-    subst (λ (p : Part). OnOk c.on_acknowledged.result (Does (stepped (concluded s (frame_effect s c.args.head.now c.args.payload.now (part_seen p)))) (g.O.Outgoing.octets c.args.out.now) c.on_acknowledged.new.self (g.O.Outgoing.octets c.on_acknowledged.new.out))) (sym c.in-SettingsAck.is) c.on_acknowledged.ensures.ok
+pub returns-in-Continuation-clause-settles : goal.returns-in-Continuation-clause-settles
+returns-in-Continuation-clause-settles g c = for-part c.args.self.now _ c.args.head.now c.args.payload.now _ _ _ _ _ c.in-Continuation.is c.on_continuation.ensures.settles
 
-pub returns-in-SettingsAck-clause-verdict : goal.returns-in-SettingsAck-clause-verdict
-returns-in-SettingsAck-clause-verdict g c =
-    subst (λ (p : Part). IfOk c.on_acknowledged.result (λ verdict. verdict ≡ effect_verdict (frame_effect c.args.self.now c.args.head.now c.args.payload.now (part_seen p)))) (sym c.in-SettingsAck.is) c.on_acknowledged.ensures.verdict
+pub returns-in-Unknown-clause-settles : goal.returns-in-Unknown-clause-settles
+returns-in-Unknown-clause-settles g c = for-part c.args.self.now _ c.args.head.now c.args.payload.now _ _ _ _ _ c.in-Unknown.is c.on_ignored-in-Unknown.ensures
 
-pub returns-in-PushPromise-clause-ok : goal.returns-in-PushPromise-clause-ok
-returns-in-PushPromise-clause-ok g c =
-    let s = c.args.self.now in
-    subst (λ (p : Part). OnOk c.take_push_promise.result (Does (stepped (concluded s (frame_effect s c.args.head.now c.args.payload.now (part_seen p)))) (g.O.Outgoing.octets c.args.out.now) c.take_push_promise.new.self (g.O.Outgoing.octets c.take_push_promise.new.out))) (sym c.in-PushPromise.is) c.take_push_promise.ensures.ok
+-- a part that is known, and of no block
+no-fields : {T E : Type 0} (s : State) (h : Head) (p q : Part) (r : Result T E) (fields : List Field) → p ≡ q → IsOfNoBlock q → OnOk r (Shows (part_fields s h (part_seen p)) fields)
+no-fields s h p q r fields is other = shows-none r s h p fields (subst IsOfNoBlock (sym is) other)
 
-pub returns-in-PushPromise-clause-verdict : goal.returns-in-PushPromise-clause-verdict
-returns-in-PushPromise-clause-verdict g c =
-    subst (λ (p : Part). IfOk c.take_push_promise.result (λ verdict. verdict ≡ effect_verdict (frame_effect c.args.self.now c.args.head.now c.args.payload.now (part_seen p)))) (sym c.in-PushPromise.is) c.take_push_promise.ensures.verdict
+pub returns-in-Data-clause-fields : goal.returns-in-Data-clause-fields
+returns-in-Data-clause-fields g c = no-fields c.args.self.now c.args.head.now _ _ _ _ c.in-Data.is tt
 
-pub returns-in-Ping-clause-ok : goal.returns-in-Ping-clause-ok
-returns-in-Ping-clause-ok g c =
-    let s = c.args.self.now in
-    subst (λ (p : Part). OnOk c.take_ping.result (Does (stepped (concluded s (frame_effect s c.args.head.now c.args.payload.now (part_seen p)))) (g.O.Outgoing.octets c.args.out.now) c.take_ping.new.self (g.O.Outgoing.octets c.take_ping.new.out))) (sym c.in-Ping.is)
-    (subst (λ (b : Bool). OnOk c.take_ping.result (Does (stepped (concluded s (makes s (if b then ignore s.core PingAcknowledgement else Continues (record (only_counts s.core) { connection_frame = PingAck c.in-Ping.octets }))))) (g.O.Outgoing.octets c.args.out.now) c.take_ping.new.self (g.O.Outgoing.octets c.take_ping.new.out))) c.has.ensures c.take_ping.ensures.ok)
+pub returns-in-Priority-clause-fields : goal.returns-in-Priority-clause-fields
+returns-in-Priority-clause-fields g c = no-fields c.args.self.now c.args.head.now _ _ _ _ c.in-Priority.is tt
 
-pub returns-in-Ping-clause-verdict : goal.returns-in-Ping-clause-verdict
-returns-in-Ping-clause-verdict g c =
-    subst (λ (p : Part). IfOk c.take_ping.result (λ verdict. verdict ≡ effect_verdict (frame_effect c.args.self.now c.args.head.now c.args.payload.now (part_seen p)))) (sym c.in-Ping.is)
-    (subst (λ (b : Bool). IfOk c.take_ping.result (λ verdict. verdict ≡ effect_verdict (makes c.args.self.now (if b then ignore c.args.self.now.core PingAcknowledgement else Continues (record (only_counts c.args.self.now.core) { connection_frame = PingAck c.in-Ping.octets }))))) c.has.ensures c.take_ping.ensures.verdict)
+pub returns-in-RstStream-clause-fields : goal.returns-in-RstStream-clause-fields
+returns-in-RstStream-clause-fields g c = no-fields c.args.self.now c.args.head.now _ _ _ _ c.in-RstStream.is tt
 
-pub returns-in-Goaway-clause-ok : goal.returns-in-Goaway-clause-ok
-returns-in-Goaway-clause-ok g c =
-    let s = c.args.self.now in
-    subst (λ (p : Part). OnOk c.take_goaway.result (Does (stepped (concluded s (frame_effect s c.args.head.now c.args.payload.now (part_seen p)))) (g.O.Outgoing.octets c.args.out.now) c.take_goaway.new.self (g.O.Outgoing.octets c.take_goaway.new.out))) (sym c.in-Goaway.is) c.take_goaway.ensures.ok
+pub returns-in-Settings-clause-fields : goal.returns-in-Settings-clause-fields
+returns-in-Settings-clause-fields g c = no-fields c.args.self.now c.args.head.now _ _ _ _ c.in-Settings.is tt
 
-pub returns-in-Goaway-clause-verdict : goal.returns-in-Goaway-clause-verdict
-returns-in-Goaway-clause-verdict g c =
-    subst (λ (p : Part). IfOk c.take_goaway.result (λ verdict. verdict ≡ effect_verdict (frame_effect c.args.self.now c.args.head.now c.args.payload.now (part_seen p)))) (sym c.in-Goaway.is) c.take_goaway.ensures.verdict
+pub returns-in-SettingsAck-clause-fields : goal.returns-in-SettingsAck-clause-fields
+returns-in-SettingsAck-clause-fields g c = no-fields c.args.self.now c.args.head.now _ _ _ _ c.in-SettingsAck.is tt
 
-pub returns-in-WindowUpdate-clause-ok : goal.returns-in-WindowUpdate-clause-ok
-returns-in-WindowUpdate-clause-ok g c =
-    let s = c.args.self.now in
-    subst (λ (p : Part). OnOk c.take_window_update.result (Does (stepped (concluded s (frame_effect s c.args.head.now c.args.payload.now (part_seen p)))) (g.O.Outgoing.octets c.args.out.now) c.take_window_update.new.self (g.O.Outgoing.octets c.take_window_update.new.out))) (sym c.in-WindowUpdate.is) c.take_window_update.ensures.ok
+pub returns-in-PushPromise-clause-fields : goal.returns-in-PushPromise-clause-fields
+returns-in-PushPromise-clause-fields g c = no-fields c.args.self.now c.args.head.now _ _ _ _ c.in-PushPromise.is tt
 
-pub returns-in-WindowUpdate-clause-verdict : goal.returns-in-WindowUpdate-clause-verdict
-returns-in-WindowUpdate-clause-verdict g c =
-    subst (λ (p : Part). IfOk c.take_window_update.result (λ verdict. verdict ≡ effect_verdict (frame_effect c.args.self.now c.args.head.now c.args.payload.now (part_seen p)))) (sym c.in-WindowUpdate.is) c.take_window_update.ensures.verdict
+pub returns-in-Ping-clause-fields : goal.returns-in-Ping-clause-fields
+returns-in-Ping-clause-fields g c = no-fields c.args.self.now c.args.head.now _ _ _ _ c.in-Ping.is tt
 
-pub returns-in-Continuation-clause-ok : goal.returns-in-Continuation-clause-ok
-returns-in-Continuation-clause-ok g c =
-    let s = c.args.self.now in
-    subst (λ (p : Part). OnOk c.on_continuation.result (Does (stepped (concluded s (frame_effect s c.args.head.now c.args.payload.now (part_seen p)))) (g.O.Outgoing.octets c.args.out.now) c.on_continuation.new.self (g.O.Outgoing.octets c.on_continuation.new.out))) (sym c.in-Continuation.is) c.on_continuation.ensures.ok
+pub returns-in-Goaway-clause-fields : goal.returns-in-Goaway-clause-fields
+returns-in-Goaway-clause-fields g c = no-fields c.args.self.now c.args.head.now _ _ _ _ c.in-Goaway.is tt
 
-pub returns-in-Continuation-clause-verdict : goal.returns-in-Continuation-clause-verdict
-returns-in-Continuation-clause-verdict g c =
-    subst (λ (p : Part). IfOk c.on_continuation.result (λ verdict. verdict ≡ effect_verdict (frame_effect c.args.self.now c.args.head.now c.args.payload.now (part_seen p)))) (sym c.in-Continuation.is) c.on_continuation.ensures.verdict
+pub returns-in-WindowUpdate-clause-fields : goal.returns-in-WindowUpdate-clause-fields
+returns-in-WindowUpdate-clause-fields g c = no-fields c.args.self.now c.args.head.now _ _ _ _ c.in-WindowUpdate.is tt
 
-pub returns-in-Unknown-clause-ok : goal.returns-in-Unknown-clause-ok
-returns-in-Unknown-clause-ok g c =
-    let s = c.args.self.now in
-    subst (λ (p : Part). OnOk c.take_ignored-in-Unknown.result (Does (stepped (concluded s (frame_effect s c.args.head.now c.args.payload.now (part_seen p)))) (g.O.Outgoing.octets c.args.out.now) c.take_ignored-in-Unknown.new.self (g.O.Outgoing.octets c.take_ignored-in-Unknown.new.out))) (sym c.in-Unknown.is) c.take_ignored-in-Unknown.ensures.ok
+pub returns-in-Unknown-clause-fields : goal.returns-in-Unknown-clause-fields
+returns-in-Unknown-clause-fields g c = no-fields c.args.self.now c.args.head.now _ _ _ _ c.in-Unknown.is tt
 
-pub returns-in-Unknown-clause-verdict : goal.returns-in-Unknown-clause-verdict
-returns-in-Unknown-clause-verdict g c =
-    subst (λ (p : Part). IfOk c.take_ignored-in-Unknown.result (λ verdict. verdict ≡ effect_verdict (frame_effect c.args.self.now c.args.head.now c.args.payload.now (part_seen p)))) (sym c.in-Unknown.is) c.take_ignored-in-Unknown.ensures.verdict
+pub returns-in-Headers-clause-fields : goal.returns-in-Headers-clause-fields
+returns-in-Headers-clause-fields g c =
+    subst (λ (p : Part). OnOk c.on_headers.result (Shows (part_fields c.args.self.now c.args.head.now (part_seen p)) (fields_at_hand c.on_headers.new.self.block c.on_headers.new.scratch.decoding.fields))) (sym c.in-Headers.is) c.on_headers.ensures.fields
+
+pub returns-in-Continuation-clause-fields : goal.returns-in-Continuation-clause-fields
+returns-in-Continuation-clause-fields g c =
+    subst (λ (p : Part). OnOk c.on_continuation.result (Shows (part_fields c.args.self.now c.args.head.now (part_seen p)) (fields_at_hand c.on_continuation.new.self.block c.on_continuation.new.scratch.decoding.fields))) (sym c.in-Continuation.is) c.on_continuation.ensures.fields

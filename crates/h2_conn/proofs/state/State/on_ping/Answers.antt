@@ -1,15 +1,10 @@
-use Rattle.std.proofs.Common.{sym, subst, ap}
-use Rattle.h2_spec.specs.declared.connection.ConnectionState.{ConnectionState}
+use Rattle.std.proofs.Common.{refl}
 use Rattle.h2_conn.specs.Records.{records}
-use Rattle.h2_rules.specs.Sound.{IsSound, in_force}
-use Rattle.h2_conn.proofs.CountsLaws.{leaves-by, ping-leaves}
+use Rattle.h2_conn.proofs.CountsLaws.{leaves-by, ping-leaves, sound-by}
 use Rattle.h2_conn.proofs.state.State.on_ping.Goals as goal
 
-pub returns-clause-sound : goal.returns-clause-sound
-returns-clause-sound g c =
-    let s = c.args.self.now in
-    let counts = c.core.ensures.counts in
-    subst (λ (k : ConnectionState). IsSound s.book (records s) (in_force k) c.on_ping.result) counts (c.on_ping.ensures.sound s.book (records s) (sym (ap (λ (k : ConnectionState). k.last) counts)))
+pub conclude_leaving_counts-requires : goal.conclude_leaving_counts-requires
+conclude_leaving_counts-requires g c = let s = c.args.self.now in λ k. ((refl, tt), (c.requires.stopped, (sound-by s _ _ c.core.ensures.counts (c.on_ping-reaction.ensures.sound s.book (records s)), leaves-by _ _ _ _ c.on_ping-reaction.ensures.rule c.core.ensures.counts (ping-leaves _ _ _))))
 
-pub returns-clause-counts : goal.returns-clause-counts
-returns-clause-counts g c = leaves-by c.args.self.now.core c.core.result c.on_ping.result _ c.on_ping.ensures.rule c.core.ensures.counts (ping-leaves _ _ _)
+pub returns : goal.returns
+returns g c = rw (c.on_ping-reaction.ensures.rule, c.core.ensures.counts) at c.conclude_leaving_counts.ensures

@@ -1,7 +1,7 @@
 use Rattle.std.proofs.Common.{ap}
 use Rattle.h2_spec.specs.declared.streams.Stream.{Stream}
 use Rattle.h2_conn.specs.Records.{records}
-use Rattle.h2_rules.specs.Sound.{in_force}
+use Rattle.h2_conn_rules.specs.Sound.{in_force}
 use Rattle.h2_conn.proofs.state.State.purpose_at.Goals as goal
 
 pub returns-clause-known : goal.returns-clause-known

@@ -2,7 +2,7 @@ use Rattle.std.proofs.Common.{rules, ◌≡◌, ◌∙◌, ◌<◌, ◌≤◌, �
 use Rattle.std.proofs.lemmas.List.{nil_from_length}
 use Rattle.std.proofs.lemmas.Result.{IfOk-weaker}
 use Rattle.h2_debug.specs.Debugging.{Debugging, moved_by}
-use Rattle.h2_spec.specs.Debug.{stop}
+use Rattle.h2_spec.specs.Texts.Debug.{stop}
 use Rattle.h2_debug.specs.Breakpoints.{break_of}
 use Rattle.h2_debug.specs.Places.{end, events}
 use Rattle.h2_debug.proofs.BreakLaws.{stop-is}

@@ -1,5 +1,5 @@
 use Rattle.std.proofs.Common.{◌≡◌, ◌∙◌, ◌+◌, ◌-◌, ◌<◌, ◌≤◌, ap, arith, refl, subst, ℕ}
-use Rattle.h2_spec.specs.Debug.{stop}
+use Rattle.h2_spec.specs.Texts.Debug.{stop}
 use Rattle.h2_debug.specs.Debugging.{Debugging, replay_start}
 use Rattle.h2_debug.specs.Places.{events}
 use Rattle.h2_debug.proofs.BreakLaws.{stop-between, stop-is}

@@ -1,5 +1,5 @@
 use Rattle.std.proofs.Common.{◌≡◌, ◌<◌, ◌≤◌, ◌+◌, ◌-◌}
-use Rattle.h2_spec.specs.Debug.{stop}
+use Rattle.h2_spec.specs.Texts.Debug.{stop}
 use Rattle.h2_debug.specs.Places.{IsAt, events}
 use Rattle.h2_debug.proofs.debugger.Debugger.walk_reached.Given as goal
 

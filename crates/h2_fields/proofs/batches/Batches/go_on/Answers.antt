@@ -1,5 +1,5 @@
 use Rattle.std.proofs.Common.{◌≡◌, ◌++◌, List, length, take, drop, refl, ap, ◌∙◌, sym, arith, length-take-le}
-use Rattle.h2_spec.specs.Field.{Field}
+use Rattle.h2_spec.specs.Hpack.Field.{Field}
 use Rattle.h2_fields.specs.Batches.{FieldsFrom}
 use Rattle.h2_fields.proofs.BatchLaws.{take-further}
 use Rattle.h2_fields.proofs.batches.Batches.go_on.Goals as goal

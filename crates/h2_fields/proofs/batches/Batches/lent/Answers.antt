@@ -1,6 +1,6 @@
 use Rattle.std.proofs.Common.{◌≡◌, ◌+◌, ◌-◌, List, get_or, ap, ◌∙◌, arith}
 use Rattle.std.specs.Prelude.{slice_get}
-use Rattle.h2_spec.specs.Field.{Field}
+use Rattle.h2_spec.specs.Hpack.Field.{Field}
 use Rattle.h2_fields.specs.Batches.{FieldsFrom, before, fields_in}
 use Rattle.h2_fields.proofs.BatchLaws.{last-before}
 use Rattle.h2_fields.proofs.batches.Batches.lent.Goals as goal

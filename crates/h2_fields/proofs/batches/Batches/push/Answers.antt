@@ -1,6 +1,6 @@
 use Rattle.std.proofs.Common.{◌≡◌, ◌∷◌, ◌++◌, [], ℕ, List, length, take, sym, subst, ap, ◌∙◌, arith, length-append}
 use Rattle.std.proofs.lemmas.List.{take_all}
-use Rattle.h2_spec.specs.Field.{Field}
+use Rattle.h2_spec.specs.Hpack.Field.{Field}
 use Rattle.h2_fields.specs.Batches.{AreBatches, FieldsFrom, fields_in}
 use Rattle.h2_fields.proofs.BatchLaws.{push-batch}
 use Rattle.h2_fields.proofs.batches.Batches.push.Goals as goal

@@ -1,5 +1,5 @@
 use Rattle.std.proofs.Common.{◌≡◌, ◌∷◌, ◌++◌, [], ℕ, List, length, take, sym, subst, ap, ◌∙◌, arith, length-append, length-take-le}
-use Rattle.h2_spec.specs.Field.{Field}
+use Rattle.h2_spec.specs.Hpack.Field.{Field}
 use Rattle.h2_fields.specs.Batches.{AreBatches, FieldsFrom, fields_in}
 use Rattle.h2_fields.proofs.BatchLaws.{push-batch}
 use Rattle.h2_fields.proofs.batches.Batches.push_shared.Goals as goal

@@ -1,6 +1,6 @@
 use Rattle.std.proofs.Common.{◌≡◌, ◌-◌, ◌<◌, suc, ℕ, List, [], take, length, get_or, sym, subst, ap, ◌∙◌, arith, length-take-le}
 use Rattle.std.specs.Prelude.{slice_set}
-use Rattle.h2_spec.specs.Field.{Field}
+use Rattle.h2_spec.specs.Hpack.Field.{Field}
 use Rattle.h2_fields.specs.Batches.{AreBatches, FieldsFrom, before, fields_in}
 use Rattle.h2_fields.proofs.BatchLaws.{begun-before, get_or-first, last-before, not-begun}
 use Rattle.h2_fields.proofs.batches.Batches.truncate.Goals as goal

@@ -1,6 +1,6 @@
 use Rattle.std.proofs.Common.{◌≡◌, length, drop, ap, ◌∙◌, sym, arith, length-take-le}
 use Rattle.h2_fields.specs.Batches.{FieldsFrom}
-use Rattle.h2_list.proofs.ListParts.{get-rest, same-next}
+use Rattle.h2_hpack_list.proofs.ListParts.{get-rest, same-next}
 use Rattle.h2_fields.proofs.batches.Shared.is_in.Goals as goal
 
 pub loop-place-preserved : goal.loop-place-preserved

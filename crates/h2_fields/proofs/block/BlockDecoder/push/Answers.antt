@@ -1,10 +1,10 @@
 use Rattle.std.proofs.Common.{◌≡◌, ◌≢◌, ℕ, List, ◌++◌, Option, IsErr, Some, None, Err, option_map, refl, ap, ◌∙◌, subst, sym, rules}
 use Rattle.std.proofs.lemmas.Bool.{false≢true}
-use Rattle.h2_spec.specs.Block.{Decoded, FieldsSoFar, Unfinished, carried_on, decoded, progress_with}
+use Rattle.h2_spec.specs.Hpack.Block.{Decoded, FieldsSoFar, Unfinished, carried_on, decoded, progress_with}
 use Rattle.h2_fields.specs.Blocks.{BlockSoFar, CanRemain, TicksRise, answer_of, decoded_with, outcome_of}
 use Rattle.h2_fields.proofs.FoundFaults.{answers-faulty, faulty_outcome, shows_nothing, carried-faulty, carried-open, shown-faulty, stopped-named}
-use Rattle.h2_instruction.specs.declared.fault.BlockFault.{BlockFault}
-use Rattle.h2_instruction.specs.declared.fault.BlockFault.TheVariants as faults
+use Rattle.h2_hpack_instruction.specs.declared.fault.BlockFault.{BlockFault}
+use Rattle.h2_hpack_instruction.specs.declared.fault.BlockFault.TheVariants as faults
 use Rattle.h2_fields.proofs.block.BlockDecoder.push.Goals as goal
 
 -- a decoder that goes on has not refused

@@ -1,6 +1,6 @@
 use Rattle.std.proofs.Common.{length, ap, ◌∙◌, sym, rules}
-use Rattle.h2_spec.specs.Block.{FieldsSoFar}
-use Rattle.h2_instruction.proofs.Reading.{instr-none}
+use Rattle.h2_spec.specs.Hpack.Block.{FieldsSoFar}
+use Rattle.h2_hpack_instruction.proofs.Reading.{instr-none}
 use Rattle.h2_fields.proofs.block.BlockDecoder.start.Goals as goal
 
 pub invariant_of-result : goal.invariant_of-result

@@ -1,5 +1,5 @@
 use Rattle.std.proofs.Common.{ℕ, List, ap, ◌∙◌, subst, sym}
-use Rattle.h2_spec.specs.Block.{FieldsSoFar}
+use Rattle.h2_spec.specs.Hpack.Block.{FieldsSoFar}
 use Rattle.h2_fields.specs.Blocks.{BlockSoFar, CanRemain, outcome_of}
 use Rattle.h2_fields.proofs.block.BlockDecoder.try_clone.Goals as goal
 

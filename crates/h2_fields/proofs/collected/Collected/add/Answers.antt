@@ -1,5 +1,5 @@
 use Rattle.std.proofs.Common.{◌≡◌, ◌++◌, ◌∷◌, [], ap, ◌∙◌}
-use Rattle.h2_list.specs.Listed.{Listed}
+use Rattle.h2_hpack_list.specs.Listed.{Listed}
 use Rattle.h2_table.specs.Lent.{field_lent}
 use Rattle.h2_fields.proofs.Applying.{marks-added, size-behind}
 use Rattle.h2_fields.proofs.collected.Collected.add.Goals as goal

@@ -1,9 +1,9 @@
 use Rattle.std.proofs.Common.{◌≡◌, ◌++◌, ◌∷◌, ◌-◌, ◌^◌, ℕ, min, Bool, List, [], Some, refl, ap, ◌∙◌, sym, append_assoc}
 use Rattle.std.proofs.lemmas.Result.{err_from_is_err_and}
-use Rattle.h2_spec.specs.Block.{FieldsSoFar, text_result}
-use Rattle.h2_spec.specs.Field.{Field, field, size}
-use Rattle.h2_list.specs.Listed.{Listed}
-use Rattle.h2_mark.specs.Mark.{mark_of}
+use Rattle.h2_spec.specs.Hpack.Block.{FieldsSoFar, text_result}
+use Rattle.h2_spec.specs.Hpack.Field.{Field, field, size}
+use Rattle.h2_hpack_list.specs.Listed.{Listed}
+use Rattle.h2_hpack_validity.specs.Mark.{mark_of}
 use Rattle.h2_table.specs.Lent.{field_lent}
 use Rattle.h2_fields.proofs.Applying.{marks-added, read-refused, room-reserved, still-listed, named, put-next, size-behind}
 use Rattle.h2_fields.proofs.collected.Collected.add_named.Goals as goal

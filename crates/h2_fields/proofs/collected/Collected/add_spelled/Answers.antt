@@ -1,11 +1,11 @@
 use Rattle.std.proofs.Common.{◌≡◌, ◌++◌, ◌∷◌, ◌-◌, ◌^◌, Bool, List, [], Some, length, refl, min, ap, ◌∙◌, sym, arith, length-append, append_assoc}
 use Rattle.std.proofs.lemmas.Result.{err_from_is_err_and}
-use Rattle.h2_spec.specs.Block.{FieldsSoFar, text_result}
-use Rattle.h2_spec.specs.Field.{Field, field, size}
-use Rattle.h2_spec.specs.Instruction.{text_of}
-use Rattle.h2_list.specs.Listed.{Listed}
-use Rattle.h2_instruction.specs.Shapes.{string_of}
-use Rattle.h2_mark.specs.Mark.{mark_of}
+use Rattle.h2_spec.specs.Hpack.Block.{FieldsSoFar, text_result}
+use Rattle.h2_spec.specs.Hpack.Field.{Field, field, size}
+use Rattle.h2_spec.specs.Hpack.Instruction.{text_of}
+use Rattle.h2_hpack_list.specs.Listed.{Listed}
+use Rattle.h2_hpack_instruction.specs.Shapes.{string_of}
+use Rattle.h2_hpack_validity.specs.Mark.{mark_of}
 use Rattle.h2_fields.specs.Applied.{first_refusal}
 use Rattle.h2_fields.proofs.Applying.{marks-added, name-refused, read-refused, room-reserved, still-listed, within-more, parts, put-next, both-next, spelled, size-behind}
 use Rattle.h2_fields.proofs.collected.Collected.add_spelled.Goals as goal

@@ -1,9 +1,9 @@
 use Rattle.std.proofs.Common.{◌≡◌, ◌++◌, ◌-◌, ℕ, Bool, List, length, ap, ◌∙◌, sym, map, take}
 use Rattle.std.proofs.lemmas.List.{take-map}
-use Rattle.h2_spec.specs.Block.{FieldsSoFar, list_size}
-use Rattle.h2_spec.specs.Field.{Field}
-use Rattle.h2_list.specs.Listed.{Listed}
-use Rattle.h2_mark.specs.Mark.{mark_of}
+use Rattle.h2_spec.specs.Hpack.Block.{FieldsSoFar, list_size}
+use Rattle.h2_spec.specs.Hpack.Field.{Field}
+use Rattle.h2_hpack_list.specs.Listed.{Listed}
+use Rattle.h2_hpack_validity.specs.Mark.{mark_of}
 use Rattle.h2_fields.proofs.BatchLaws.{take-both}
 use Rattle.h2_fields.proofs.collected.Collected.restore.Goals as goal
 

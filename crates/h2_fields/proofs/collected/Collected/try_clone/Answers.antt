@@ -1,10 +1,10 @@
 use Rattle.std.proofs.Common.{◌++◌, List, map, ap, ◌∙◌, sym}
 use Rattle.std.proofs.lemmas.Result.{IfOk-from_err}
 use Rattle.std.proofs.lemmas.List.Elements.{same_from_all_zip}
-use Rattle.h2_spec.specs.Block.{FieldsSoFar, list_size}
-use Rattle.h2_spec.specs.Field.{Field}
-use Rattle.h2_list.specs.Listed.{Listed}
-use Rattle.h2_mark.specs.Mark.{mark_of}
+use Rattle.h2_spec.specs.Hpack.Block.{FieldsSoFar, list_size}
+use Rattle.h2_spec.specs.Hpack.Field.{Field}
+use Rattle.h2_hpack_list.specs.Listed.{Listed}
+use Rattle.h2_hpack_validity.specs.Mark.{mark_of}
 use Rattle.h2_fields.proofs.collected.Collected.try_clone.Goals as goal
 
 pub returns-in_err-marks : goal.returns-in_err-marks

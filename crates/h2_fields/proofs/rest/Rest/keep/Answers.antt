@@ -1,7 +1,7 @@
 use Rattle.std.proofs.Common.{◌≤◌, ◌*◌, ◌/◌, ◌++◌, ℕ, take, length, ap, ◌∙◌, sym, subst, arith}
 use Rattle.std.proofs.lemmas.Result.{IfOk-from_err}
 use Rattle.std.proofs.lemmas.List.{take-append-drop}
-use Rattle.h2_instruction.specs.Resume.{IsRest}
+use Rattle.h2_hpack_instruction.specs.Resume.{IsRest}
 use Rattle.h2_fields.proofs.rest.Rest.keep.Goals as goal
 
 whole_chunks : (n : ℕ) → n / 1024 * 1024 ≤ n

@@ -1,7 +1,7 @@
 use Rattle.std.proofs.Common.{List, ℕ, ◌∙◌, sym, subst}
 use Rattle.std.proofs.lemmas.Result.{IfOk-from_err}
 use Rattle.std.proofs.lemmas.List.Elements.{same_from_all_zip}
-use Rattle.h2_instruction.specs.Resume.{IsRest}
+use Rattle.h2_hpack_instruction.specs.Resume.{IsRest}
 use Rattle.h2_fields.proofs.rest.Rest.try_clone.Goals as goal
 
 pub returns-in_err-clone : goal.returns-in_err-clone

@@ -1,5 +1,5 @@
 use Rattle.std.proofs.Common.{◌∙◌, List, ℕ, ap, sym, drop, length, arith}
-use Rattle.h2_spec.specs.Frame.{head_of}
+use Rattle.h2_spec.specs.Frames.Frame.{head_of}
 use Rattle.h2_frame.specs.Rest.{Rest}
 use Rattle.h2_frame.proofs.CompletedLaws.{completed}
 use Rattle.h2_frame.proofs.splitter.Splitter.data_completed_by.Goals as goal

@@ -1,4 +1,4 @@
-use Rattle.h2_spec.specs.CauseWords.{all_causes, cause_section}
+use Rattle.h2_spec.specs.Causes.CauseWords.{all_causes, cause_section}
 use Rattle.h2_spec.proofs.Columns.{at_place}
 use Rattle.h2_spec.proofs.causes.Cause.section.Goals as goal
 

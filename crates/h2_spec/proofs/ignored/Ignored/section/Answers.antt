@@ -1,4 +1,4 @@
-use Rattle.h2_spec.specs.IgnoredWords.{all_reasons, ignored_section}
+use Rattle.h2_spec.specs.Causes.IgnoredWords.{all_reasons, ignored_section}
 use Rattle.h2_spec.proofs.Columns.{at_place}
 use Rattle.h2_spec.proofs.ignored.Ignored.section.Goals as goal
 

@@ -1,4 +1,4 @@
-use Rattle.h2_spec.specs.SpecialCases.{all_special_cases, special_name}
+use Rattle.h2_spec.specs.Causes.SpecialCases.{all_special_cases, special_name}
 use Rattle.h2_spec.proofs.Columns.{at_place}
 use Rattle.h2_spec.proofs.special_cases.SpecialCase.name.Goals as goal
 

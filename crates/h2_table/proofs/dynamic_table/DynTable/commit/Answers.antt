@@ -1,5 +1,5 @@
 use Rattle.std.proofs.Common.{arith, ◌≤◌, ◌++◌, sym, subst, take, max}
-use Rattle.h2_spec.specs.DynamicTable.{LimitedTable, total_size}
+use Rattle.h2_spec.specs.Hpack.DynamicTable.{LimitedTable, total_size}
 use Rattle.h2_table.specs.Edits.{EditOf, IsEdit}
 use Rattle.h2_table.proofs.Editing.{have_places}
 use Rattle.h2_table.proofs.dynamic_table.DynTable.commit.Goals as goal

@@ -1,6 +1,6 @@
 use Rattle.std.proofs.Common.{arith, ◌≡◌, ◌-◌, ◌<◌, ◌≤◌, ◌∷◌, length, ap, ◌∙◌, subst, sym, List}
-use Rattle.h2_spec.specs.Field.{Field, size}
-use Rattle.h2_spec.specs.DynamicTable.{IsLongestFit, LimitedTable, fit, insert}
+use Rattle.h2_spec.specs.Hpack.Field.{Field, size}
+use Rattle.h2_spec.specs.Hpack.DynamicTable.{IsLongestFit, LimitedTable, fit, insert}
 use Rattle.h2_spec.proofs.TableLaws.{fit-is_longest, fit-none, fit-zero, fit-cons}
 use Rattle.h2_table.specs.Held.{places_for}
 use Rattle.h2_table.proofs.Popped.{has_place}

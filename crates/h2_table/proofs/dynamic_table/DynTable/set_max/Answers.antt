@@ -1,5 +1,5 @@
 use Rattle.std.proofs.Common.{rules}
-use Rattle.h2_spec.specs.DynamicTable.{resize}
+use Rattle.h2_spec.specs.Hpack.DynamicTable.{resize}
 use Rattle.h2_table.proofs.dynamic_table.DynTable.set_max.Goals as goal
 
 pub returns-clause-resized : goal.returns-clause-resized

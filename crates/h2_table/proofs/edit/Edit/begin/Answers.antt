@@ -1,5 +1,5 @@
 use Rattle.std.proofs.Common.{arith, ap, sym, ◌∙◌}
-use Rattle.h2_spec.specs.DynamicTable.{total_size}
+use Rattle.h2_spec.specs.Hpack.DynamicTable.{total_size}
 use Rattle.h2_table.proofs.Editing.{table, begun}
 use Rattle.h2_table.proofs.edit.Edit.begin.Goals as goal
 

@@ -1,5 +1,5 @@
 use Rattle.std.proofs.Common.{IfSome, Some, take, true≢false, ◌++◌, ap, ◌∙◌, sym, subst, arith}
-use Rattle.h2_spec.specs.DynamicTable.{entry_at}
+use Rattle.h2_spec.specs.Hpack.DynamicTable.{entry_at}
 use Rattle.h2_table.specs.Edits.{EditOf}
 use Rattle.h2_table.specs.Lent.{IsMarked}
 use Rattle.h2_table.proofs.Editing.{entry-added, entry-own, entry-past}

@@ -1,7 +1,7 @@
 use Rattle.std.proofs.Common.{arith, ◌≡◌, ℕ, ◌+◌, ◌-◌, ◌++◌, ◌∙◌, ◌∷◌, List, ap, sym, subst, take}
 use Rattle.std.proofs.lemmas.Result.{IfOk-from_err, MatchResult-from_err}
-use Rattle.h2_spec.specs.DynamicTable.{fit, insert, total_size}
-use Rattle.h2_spec.specs.Field.{Field, field, size}
+use Rattle.h2_spec.specs.Hpack.DynamicTable.{fit, insert, total_size}
+use Rattle.h2_spec.specs.Hpack.Field.{Field, field, size}
 use Rattle.h2_table.specs.Edits.{EditOf, IsEdit, edited}
 use Rattle.h2_table.proofs.Editing.{emptied-table, entered-table}
 use Rattle.h2_table.proofs.edit.Edit.insert.Goals as goal

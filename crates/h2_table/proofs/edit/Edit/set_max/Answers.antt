@@ -1,5 +1,5 @@
 use Rattle.std.proofs.Common.{◌++◌, ◌∙◌, ap, take}
-use Rattle.h2_spec.specs.DynamicTable.{resize}
+use Rattle.h2_spec.specs.Hpack.DynamicTable.{resize}
 use Rattle.h2_table.specs.Edits.{EditOf, edited}
 use Rattle.h2_table.proofs.Editing.{resized-table}
 use Rattle.h2_table.proofs.edit.Edit.set_max.Goals as goal

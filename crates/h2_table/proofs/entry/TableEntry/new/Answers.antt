@@ -1,6 +1,6 @@
 use Rattle.std.proofs.Common.{arith, ap, sym, ◌∙◌, ◌≡◌, length}
-use Rattle.h2_spec.specs.Field.{field}
-use Rattle.h2_mark.specs.Mark.{mark_of}
+use Rattle.h2_spec.specs.Hpack.Field.{field}
+use Rattle.h2_hpack_validity.specs.Mark.{mark_of}
 use Rattle.h2_table.proofs.Entries.{apart-shown}
 use Rattle.h2_table.proofs.entry.TableEntry.new.Goals as goal
 

@@ -1,6 +1,6 @@
 use Rattle.std.proofs.Common.{ap, ◌∙◌, sym}
 use Rattle.std.proofs.lemmas.Result.{IfOk-from_err}
-use Rattle.h2_mark.specs.Mark.{mark_of}
+use Rattle.h2_hpack_validity.specs.Mark.{mark_of}
 use Rattle.h2_table.proofs.Entries.{joined-shown, joined-within}
 use Rattle.h2_table.proofs.entry.TableEntry.of.Goals as goal
 

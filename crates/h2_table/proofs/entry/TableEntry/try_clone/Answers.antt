@@ -1,8 +1,8 @@
 use Rattle.std.proofs.Common.{◌≡◌, ◌≤◌, ◌<◌, ◌++◌, List, ℕ, [], length, take, drop, ap, ◌∙◌, sym, subst}
 use Rattle.std.proofs.lemmas.List.Elements.{same_from_all_zip}
 use Rattle.std.proofs.lemmas.Result.{IfOk-from_err}
-use Rattle.h2_spec.specs.Field.{field}
-use Rattle.h2_mark.specs.Mark.{mark_of}
+use Rattle.h2_spec.specs.Hpack.Field.{field}
+use Rattle.h2_hpack_validity.specs.Mark.{mark_of}
 use Rattle.h2_table.proofs.entry.TableEntry.try_clone.Goals as goal
 
 pub returns-in_err-clone : goal.returns-in_err-clone

@@ -1,5 +1,5 @@
 use Rattle.std.proofs.Common.{arith, ap, length, List}
-use Rattle.h2_spec.specs.Field.{Field}
+use Rattle.h2_spec.specs.Hpack.Field.{Field}
 use Rattle.h2_table.specs.Runs.{entries_in}
 use Rattle.h2_table.proofs.Editing.{have_places}
 use Rattle.h2_table.proofs.kept.KeptTable.restore.Goals as goal

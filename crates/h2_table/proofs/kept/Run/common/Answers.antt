@@ -1,5 +1,5 @@
 use Rattle.std.proofs.Common.{◌≡◌, ◌<◌, length, drop, ap, ◌∙◌, sym, arith, length-take-le}
-use Rattle.h2_list.proofs.ListParts.{get-rest, same-next}
+use Rattle.h2_hpack_list.proofs.ListParts.{get-rest, same-next}
 use Rattle.h2_table.proofs.kept.Run.common.Goals as goal
 
 pub loop-place-preserved : goal.loop-place-preserved

@@ -1,6 +1,0 @@
-use Rattle.std.proofs.Common.{◌≡◌}
-use Rattle.h2_book.specs.Contents.{filled}
-use Rattle.h2_book.proofs.body.repeat.Given as goal
-
-abbrev pub invariant-loop-place : goal.invariant-loop-place
-invariant-loop-place l = l.octets.items ≡ filled l.place l.text

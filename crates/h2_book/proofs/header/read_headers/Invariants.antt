@@ -1,8 +1,0 @@
-use Rattle.std.proofs.Common.{◌≡◌, drop}
-use Rattle.toml.specs.View.{items_view}
-use Rattle.h2_book.specs.Said.{headers_in}
-use Rattle.h2_book.proofs.Headers.{fields_after}
-use Rattle.h2_book.proofs.header.read_headers.Given as goal
-
-abbrev pub invariant-loop-pair : goal.invariant-loop-pair
-invariant-loop-pair l = fields_after l.fields.items (items_view (drop l.pair-index l.pairs)) ≡ headers_in (items_view l.pairs)

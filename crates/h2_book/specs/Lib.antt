@@ -1,6 +1,0 @@
-pub mod Contents
-pub mod Entries
-pub mod Faults
-pub mod Files
-pub mod Said
-pub mod Values

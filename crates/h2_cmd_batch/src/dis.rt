@@ -1,0 +1,26 @@
+//! The program `dis`: the script of the octets that hex text spells. Definitions: `specs/ScriptPrograms.antt`.
+
+ghost use Rattle.h2_cmd_batch.specs.Reports.{Meets};
+ghost use Rattle.h2_io.specs.HexText.{octets_spelled};
+ghost use Rattle.h2_cmd_batch.specs.ScriptPrograms.{printed_dis};
+
+use crate::fault::BenchFault;
+use crate::input::read_hex;
+use h2_script::disassemble;
+use std::alloc::Global;
+
+/// What `dis` prints of its input: the script of its octets.
+///
+/// `BadHex` where the input is no hex text, `NoMemory` where memory is refused.
+pub fn dis_text(alloc: Global, input: &[u8]) -> Result<String, BenchFault>
+    ensures { Meets result (printed_dis (octets_spelled input.now)) }
+{
+    let octets = match read_hex(alloc, input) {
+        Ok(octets) => octets,
+        Err(fault) => return Err(fault),
+    };
+    match disassemble(alloc, octets.as_slice()) {
+        Ok(text) => Ok(text),
+        Err(_) => Err(BenchFault::NoMemory),
+    }
+}

@@ -1,0 +1,11 @@
+use Rattle.std.proofs.Common.{◌==◌, rules, tests}
+use Rattle.std.proofs.lemmas.Iterator.Search.{any_from_yields_List}
+use Rattle.std.proofs.lemmas.Iterator.Splits.{YieldsList-from_slice_split}
+use Rattle.h2_cmd_check.specs.Texts.{fits}
+use Rattle.h2_cmd_check.proofs.pattern.has_line.Goals as goal
+
+pub returns : goal.returns
+returns c =
+    any_from_yields_List (fits c.args.expected.now) _ _ c.any.result c.any.ensures.ran
+    (YieldsList-from_slice_split _ (λ b. b == 10) c.args.text.now c.split.ensures.rest c.split.ensures.done c.split.ensures.closure (λ x b q k. search (rules, tests)))
+    (λ x b q k. search (rules, tests))

@@ -1,0 +1,9 @@
+pub mod Blessed
+pub mod Cases
+pub mod Commands
+pub mod Frames
+pub mod ItemTexts
+pub mod ItemsTaken
+pub mod Texts
+pub mod Tap
+pub mod Walks

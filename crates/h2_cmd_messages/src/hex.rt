@@ -1,0 +1,176 @@
+//! Why a text is no hex text: its first octet that is no hex digit, and what the text looks like; or an odd number of
+//! digits.
+
+use crate::dump::{Look, has_offsets, look_of, look_of_octets};
+use crate::place::{InputSource, place_at};
+use h2_explain_words::say::{HexOctet, Say, TextBuilder};
+use h2_explain_words::say_all;
+use std::alloc::{AllocError, Allocator, Global};
+
+/// Whether an octet is a space, a tab, a carriage return or a line feed.
+fn is_space(octet: u8) -> bool {
+    octet == b' ' || octet == b'\t' || octet == b'\r' || octet == b'\n'
+}
+
+/// An octet: between backquotes where it is printable, else as a number.
+#[derive(Clone, Copy)]
+struct Octet(u8);
+
+impl Say for Octet {
+    fn say<A: Allocator>(self, out: &mut TextBuilder<A>) {
+        if (33..=126).contains(&self.0) {
+            say_all!(out; '`', char::from(self.0), '`');
+        } else {
+            HexOctet(self.0).say(out);
+        }
+    }
+}
+
+/// What to do with a text that looks so.
+fn advice(look: Look) -> &'static str {
+    match look {
+        Look::Mark => "it begins with a mark of byte order: save it without one",
+        Look::Script => "it looks like a script: h2_bench asm writes its octets as hex",
+        Look::Cases =>
+            "it looks like several cases, and one is taken here: h2_bench check plays them all",
+        Look::Capture =>
+            "it looks like a capture of packets: tshark -r FILE -Y 'tcp.stream==0 && tcp.dstport==PORT' -T fields -e tcp.payload writes the client's octets as hex (docs/CAPTURE.md)",
+        Look::Listing =>
+            "it looks like tshark's list of packets: tshark -r FILE -Y 'tcp.stream==0 && tcp.dstport==PORT' -T fields -e tcp.payload writes the client's octets as hex (docs/CAPTURE.md)",
+        Look::Followed =>
+            "it looks like what tshark writes of a stream: tshark -r FILE -q -z follow,tcp,raw,0 | sed -n '/^[0-9a-f][0-9a-f]*$/p' writes the client's octets as hex (docs/CAPTURE.md)",
+        Look::Log =>
+            "it looks like the log of a client, which does not have the octets of the connection: h2_bench serve --record keeps them, and so does a capture (docs/CAPTURE.md)",
+        Look::Octets =>
+            "it looks like the octets themselves: add --raw, or write them as hex by xxd -p",
+        Look::Offsets =>
+            "it looks like a dump with offsets: make it by xxd -p; xxd -r FILE | xxd -p undoes one of xxd",
+        Look::Prefix => "leave out each 0x, and each comma",
+        Look::Escape => "leave out each \\x",
+        Look::Separator => "leave out what is between the digits",
+        Look::Other =>
+            "the octets are given as pairs of hex digits, with blanks and line feeds anywhere",
+    }
+}
+
+/// How many octets of a text are no white space.
+pub fn digit_count(text: &[u8]) -> usize {
+    text.iter().filter(|octet| !is_space(**octet)).count()
+}
+
+/// Whether an octet of a text is no white space.
+pub fn has_digits(text: &[u8]) -> bool {
+    text.iter().any(|octet| !is_space(*octet))
+}
+
+/// The place of the first octet that is neither a hex digit nor white space.
+fn bad_digit(text: &[u8]) -> Option<usize> {
+    text.iter()
+        .position(|octet| !is_space(*octet) && !octet.is_ascii_hexdigit())
+}
+
+/// Whether a text is pairs of hex digits, with white space anywhere.
+pub fn is_hex(text: &[u8]) -> bool {
+    bad_digit(text).is_none() && digit_count(text) % 2 == 0
+}
+
+/// Says why a text is no hex text.
+pub fn say_no_hex(source: InputSource<'_>, text: &[u8], out: &mut TextBuilder) {
+    match bad_digit(text) {
+        Some(at) => say_bad_digit(source, text, at, out),
+        None => say_odd(source, text, out),
+    }
+}
+
+fn say_bad_digit(source: InputSource<'_>, text: &[u8], at: usize, out: &mut TextBuilder) {
+    let octet = Octet(text.get(at).copied().unwrap_or(0));
+    let advice = advice(look_of(text, at));
+    say_all!(out; source, ", ", place_at(text, at), ": ", octet, " is no hex digit; ", advice, ".\n");
+}
+
+/// What to do with an odd number of digits.
+fn odd_advice(text: &[u8]) -> &'static str {
+    if has_offsets(text) {
+        advice(Look::Offsets)
+    } else {
+        "an octet is two digits"
+    }
+}
+
+fn say_odd(source: InputSource<'_>, text: &[u8], out: &mut TextBuilder) {
+    let digits = digit_count(text);
+    let last = text
+        .iter()
+        .rposition(|octet| !is_space(*octet))
+        .unwrap_or(0);
+    say_all!(
+        out;
+        source,
+        ", ",
+        place_at(text, last),
+        ": the last of ",
+        digits,
+        " hex digits, an odd number; ",
+        odd_advice(text),
+        ".\n"
+    );
+}
+
+/// Says that a text has no octets.
+pub fn say_no_octets(source: InputSource<'_>, out: &mut TextBuilder) {
+    say_all!(out; source, ": no octets.\n");
+}
+
+/// Says that a text was read as hex that looks like a dump with offsets.
+pub fn say_offsets(source: InputSource<'_>, out: &mut TextBuilder) {
+    say_all!(out; source, ": each line begins with a number that grows by 16, so this looks like a dump with offsets; they were read as octets too: make it by xxd -p.\n");
+}
+
+/// How many octets of a hex text are looked at.
+const FRONT: usize = 4096;
+
+/// The value of a hex digit.
+fn digit_of(octet: u8) -> Option<u8> {
+    let value = char::from(octet).to_digit(16)?;
+    u8::try_from(value).ok()
+}
+
+/// The first octets that a hex text writes.
+fn front_of(alloc: Global, text: &[u8]) -> Result<Vec<u8>, AllocError> {
+    let mut octets = Vec::new(alloc);
+    let mut high = None;
+    for digit in text
+        .iter()
+        .filter_map(|octet| digit_of(*octet))
+        .take(2 * FRONT)
+    {
+        match high {
+            None => high = Some(digit),
+            Some(first) => {
+                octets.push(first << 4 | digit)?;
+                high = None;
+            }
+        }
+    }
+    Ok(octets)
+}
+
+/// Says of octets that were taken what they look like, where that is a capture or a text and no connection. Without
+/// memory for a look nothing is said.
+pub fn say_strange(alloc: Global, source: InputSource<'_>, text: &[u8], out: &mut TextBuilder) {
+    let Ok(octets) = front_of(alloc, text) else {
+        return;
+    };
+    let octets = octets.as_slice();
+    if octets.starts_with(b"PRI".as_slice()) || octets.len() < 4 {
+        return;
+    }
+    if bad_digit(octets).is_none() {
+        say_all!(out; source, ": its octets are hex digits themselves: leave out --raw.\n");
+        return;
+    }
+    match look_of_octets(octets) {
+        Look::Other | Look::Mark => {}
+        look => say_all!(out; source, ": its octets are no connection; ", advice(look), ".\n"),
+    }
+}

@@ -1,0 +1,7 @@
+mod Blessed
+mod Checked
+mod Explained
+mod InMemory
+mod Parsed
+mod Served
+mod Shown

@@ -1,0 +1,32 @@
+use Rattle.std.proofs.Common.{◌∙◌, Bool, List, Result, ℕ, ap, is_err, map}
+use Rattle.h2_cmd_run.specs.CheckProgram.{common_of, not_checked}
+use Rattle.h2_cmd_batch.specs.declared.each.PrintFault.{PrintFault}
+use Rattle.h2_cmd_run.proofs.Blessed.{file-went, file-stopped, file-told}
+use Rattle.h2_cmd_run.proofs.bless.bless_files.Goals as goal
+
+pub loop-file-preserved : goal.loop-file-preserved
+loop-file-preserved g c =
+    let d = g.F.Files.file c.args.files.now in
+    let d₁ = g.F.Files.file c.loop-file.files in
+    let s = common_of c.args.common in
+    let names = c.args.names.now in
+    let inv = c.loop-file.invariant in
+    let all : List (List ℕ) = map (λ n. n.now) names in
+    record {
+      writer = c.bless_file.ensures.flag ∙ ap (λ (r : Result Bool PrintFault). not_checked r) c.in-Ok.is;
+      name = c.bless_file.ensures.name ∙ inv.name;
+      same_printed = c.bless_file.ensures.same_printed ∙ inv.same_printed;
+      same_files = λ off. c.bless_file.ensures.same_files off ∙ inv.same_files off;
+      blesses = λ on printed.
+          file-went s d d₁ (g.F.Files.file c.bless_file.new.files) all names c.loop-file.file-index _ (is_err c.bless_file.result) c.loop-file-test.true
+          (ap (λ (r : Result Bool PrintFault). is_err r) c.in-Ok.is) (inv.blesses on printed) (c.bless_file.ensures.blesses on (inv.same_printed ∙ printed));
+      prints = λ off printed.
+          file-told s d d₁ all names c.loop-file.file-index _ (g.O.Output.written c.args.output.now) (g.O.Output.written c.loop-file.output) (g.O.Output.written c.bless_file.new.output) c.loop-file-test.true
+          (inv.same_files off) (inv.prints off printed) (c.in-Ok.ensures.prints off (inv.same_printed ∙ printed));
+    }
+
+pub returns-in-Err-clause-blesses : goal.returns-in-Err-clause-blesses
+returns-in-Err-clause-blesses g c = λ on printed.
+    let inv = c.loop-file.invariant in
+    file-stopped (common_of c.args.common) (g.F.Files.file c.args.files.now) (g.F.Files.file c.loop-file.files) (g.F.Files.file c.bless_file.new.files) (map (λ n. n.now) c.args.names.now) c.args.names.now c.loop-file.file-index _
+    (is_err c.bless_file.result) c.loop-file-test.true (ap (λ (r : Result Bool PrintFault). is_err r) c.in-Err.is) (inv.blesses on printed) (c.bless_file.ensures.blesses on (inv.same_printed ∙ printed))

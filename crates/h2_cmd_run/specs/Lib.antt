@@ -1,0 +1,5 @@
+pub mod Blessing
+pub mod CheckProgram
+pub mod ExplainProgram
+pub mod Memory
+pub mod ProgramEnd

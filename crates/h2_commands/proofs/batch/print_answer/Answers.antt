@@ -1,8 +1,0 @@
-use Rattle.h2_commands.proofs.batch.print_answer.Goals as goal
-
-pub returns-in-Ok-clause-printed : goal.returns-in-Ok-clause-printed
-returns-in-Ok-clause-printed g c = λ well held known.
-    rw (c.in-Ok.is, ← c.status.ensures.value) (c.print.ensures.printed well held known)
-
-pub returns-in-Err-clause-printed : goal.returns-in-Err-clause-printed
-returns-in-Err-clause-printed g c = λ well held known. rw c.in-Err.is (c.print_fault.ensures.printed well held known)

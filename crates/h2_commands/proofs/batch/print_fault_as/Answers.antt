@@ -1,4 +1,0 @@
-use Rattle.h2_commands.proofs.batch.print_fault_as.Goals as goal
-
-pub returns-clause-printed : goal.returns-clause-printed
-returns-clause-printed g c = λ well held known. c.print.ensures.printed well held known

@@ -1,8 +1,0 @@
-use Rattle.std.proofs.Common.{rules}
-use Rattle.h2_spec.specs.Answer.{response_block}
-use Rattle.h2_spec.specs.Frame.{frame_octets}
-use Rattle.h2_entries.proofs.book.headers_404.Goals as goal
-
-pub returns-clause-headers : goal.returns-clause-headers
-unfolding response_block frame_octets
-returns-clause-headers c = search rules

@@ -1,5 +1,0 @@
-use Rattle.std.proofs.Common.{rules}
-use Rattle.h2_entries.proofs.book.is_body_too_long.Goals as goal
-
-pub returns : goal.returns
-returns c = search rules

@@ -1,5 +1,0 @@
-use Rattle.std.proofs.Common.{refl}
-use Rattle.h2_entries.proofs.fault.EntryFault.number.Goals as goal
-
-pub returns-in-TooLong : goal.returns-in-TooLong
-returns-in-TooLong c = rw c.in-TooLong.is refl

@@ -1,6 +1,0 @@
-use Rattle.std.proofs.Common.{◌≡◌, ◌<◌, ◌^◌, fold, take}
-use Rattle.h2_entries.specs.Firsts.{mixed}
-use Rattle.h2_entries.proofs.firsts.OctetHasherHasher.write.Given as goal
-
-abbrev pub invariant-loop-byte : goal.invariant-loop-byte
-invariant-loop-byte l = (l.hash ≡ fold mixed l.initial.self.hash (take l.byte-index l.bytes)) × (l.hash < 2 ^ 64)

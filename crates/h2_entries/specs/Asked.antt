@@ -1,7 +1,0 @@
--- What a request asks for, as contracts see it.
-use Rattle.h2_spec.specs.Request.{Request}
-use Rattle.h2_entries.specs.declared.asked.Request as declared
-
--- the octets that a request lends
-abbrev pub asked : declared.Request → Request
-asked r = record { connect = r.connect; method = r.method.now; path = r.path.now; declared = r.declared }

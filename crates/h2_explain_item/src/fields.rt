@@ -1,0 +1,468 @@
+//! What is wrong with the fields of a block, looked up in the fields themselves (RFC 9113, 8.1 to 8.5): the first field
+//! at fault for a sentence, the facts that decide special cases, and all the faults of a block. The rules: h2_spec's
+//! `specs/Requests/Request.antt`.
+
+ghost use Rattle.std.specs.Prelude.{◌≡◌};
+
+use h2_explain_words::spelled::SpelledField;
+use h2_spec::causes::Cause;
+use std::alloc::{AllocError, Allocator};
+
+/// Whether a name is that of a pseudo-field.
+fn is_pseudo(name: &[u8]) -> bool {
+    match name.split_first() {
+        Some((first, _)) => *first == b':',
+        None => false,
+    }
+}
+
+/// Whether a name may not have this octet (RFC 9113, 8.2.1).
+fn is_bad_in_name(octet: u8, place: usize) -> bool {
+    octet <= 32 || (65..=90).contains(&octet) || octet >= 127 || (octet == b':' && place > 0)
+}
+
+/// The first octet that a name may not have.
+pub fn bad_octet_of_name(name: &[u8]) -> Option<u8> {
+    for (place, octet) in name.iter().enumerate() {
+        if is_bad_in_name(*octet, place) {
+            return Some(*octet);
+        }
+    }
+    None
+}
+
+/// The first octet that no value may have (RFC 9113, 8.2.1).
+pub fn bad_octet_of_value(value: &[u8]) -> Option<u8> {
+    for octet in value {
+        if *octet == 0 || *octet == 10 || *octet == 13 {
+            return Some(*octet);
+        }
+    }
+    None
+}
+
+/// Whether an octet is a space or a tab (RFC 9113, 8.2.1).
+pub fn is_blank(octet: Option<&u8>) -> bool {
+    match octet {
+        Some(octet) => *octet == 32 || *octet == 9,
+        None => false,
+    }
+}
+
+/// Whether a value begins or ends with a blank.
+fn has_blank_end(value: &[u8]) -> bool {
+    is_blank(value.first()) || is_blank(value.last())
+}
+
+/// The names that belong to connections of HTTP/1.1 (RFC 9113, 8.2.2).
+static OF_CONNECTIONS: [&str; 5] = [
+    "connection",
+    "proxy-connection",
+    "keep-alive",
+    "transfer-encoding",
+    "upgrade",
+];
+
+/// The names of the pseudo-fields of requests (RFC 9113, 8.3.1).
+static PSEUDO_FIELDS: [&str; 4] = [":method", ":scheme", ":authority", ":path"];
+
+/// Whether a name is one of these.
+fn is_one_of(name: &[u8], names: &[&str]) -> bool {
+    for other in names {
+        if other.as_bytes() == name {
+            return true;
+        }
+    }
+    false
+}
+
+/// What is wrong with a field.
+#[derive(Clone, Copy)]
+pub enum FieldFault {
+    /// The name is empty, or has an octet that no name has (RFC 9113, 8.2.1).
+    Name,
+    /// The value has an octet that no value has, or begins or ends with a blank (RFC 9113, 8.2.1).
+    Value,
+    /// The name is that of a pseudo-field, and of none of a request (RFC 9113, 8.3).
+    Unknown,
+    /// The name is that of a pseudo-field (RFC 9113, 8.1).
+    Pseudo,
+    /// The name belongs to connections of HTTP/1.1 (RFC 9113, 8.2.2).
+    Connection,
+    /// The field is te, with another value than `trailers` (RFC 9113, 8.2.2).
+    Te,
+    /// The field is content-length (RFC 9113, 8.1.1).
+    Length,
+}
+
+/// Whether this is wrong with a field.
+fn is_wrong<A: Allocator>(wrong: FieldFault, field: &SpelledField<A>) -> bool {
+    let name = field.name.as_slice();
+    let value = field.value.as_slice();
+    match wrong {
+        FieldFault::Name => name.is_empty() || bad_octet_of_name(name).is_some(),
+        FieldFault::Value => bad_octet_of_value(value).is_some() || has_blank_end(value),
+        FieldFault::Unknown => is_pseudo(name) && !is_one_of(name, &PSEUDO_FIELDS),
+        FieldFault::Pseudo => is_pseudo(name),
+        FieldFault::Connection => is_one_of(name, &OF_CONNECTIONS),
+        FieldFault::Te => name == "te".as_bytes() && !value.eq_ignore_ascii_case(b"trailers"),
+        FieldFault::Length => name == "content-length".as_bytes(),
+    }
+}
+
+/// The place of the first field from a place on with which this is wrong.
+pub fn first_wrong<A: Allocator>(
+    wrong: FieldFault,
+    from: usize,
+    fields: &[SpelledField<A>],
+) -> Option<usize> {
+    for place in from..fields.len() {
+        if let Some(field) = fields.get(place) {
+            if is_wrong(wrong, field) {
+                return Some(place);
+            }
+        }
+    }
+    None
+}
+
+/// Whether a name is one of those before a place.
+fn is_before<A: Allocator>(name: &[u8], place: usize, fields: &[SpelledField<A>]) -> bool {
+    for other in fields.iter().take(place) {
+        if other.name.as_slice() == name {
+            return true;
+        }
+    }
+    false
+}
+
+/// Whether a field has this name.
+pub fn has<A: Allocator>(name: &[u8], fields: &[SpelledField<A>]) -> bool {
+    is_before(name, fields.len(), fields)
+}
+
+/// The first pseudo-field after a regular field, and that field.
+pub fn late_pseudo<A: Allocator>(
+    fields: &[SpelledField<A>],
+) -> Option<(&SpelledField<A>, &SpelledField<A>)> {
+    let mut regular = None;
+    for field in fields {
+        if !is_pseudo(field.name.as_slice()) {
+            regular = Some(field);
+        } else if let Some(before) = regular {
+            return Some((field, before));
+        }
+    }
+    None
+}
+
+/// The first pseudo-field that is there twice.
+pub fn double_pseudo<A: Allocator>(fields: &[SpelledField<A>]) -> Option<&SpelledField<A>> {
+    for (place, field) in fields.iter().enumerate() {
+        let name = field.name.as_slice();
+        if is_pseudo(name) && is_before(name, place, fields) {
+            return Some(field);
+        }
+    }
+    None
+}
+
+/// Whether the method is CONNECT.
+pub fn is_connect<A: Allocator>(fields: &[SpelledField<A>]) -> bool {
+    for field in fields {
+        if field.name.as_slice() == ":method".as_bytes()
+            && field.value.as_slice() == "CONNECT".as_bytes()
+        {
+            return true;
+        }
+    }
+    false
+}
+
+/// The value of the first field with this name.
+pub fn value_of<'s, A: Allocator>(name: &[u8], fields: &'s [SpelledField<A>]) -> Option<&'s [u8]> {
+    for field in fields {
+        if field.name.as_slice() == name {
+            return Some(field.value.as_slice());
+        }
+    }
+    None
+}
+
+/// Whether :path is there and empty.
+fn has_empty_path<A: Allocator>(fields: &[SpelledField<A>]) -> bool {
+    match value_of(b":path", fields) {
+        Some(path) => path.is_empty(),
+        None => false,
+    }
+}
+
+/// Whether a pseudo-field of a request is missing, empty, or there where it may not be (RFC 9113, 8.3.1 and 8.5).
+fn is_lacking<A: Allocator>(fields: &[SpelledField<A>]) -> bool {
+    let scheme = has(b":scheme", fields);
+    let path = has(b":path", fields);
+    if is_connect(fields) {
+        return !has(b":authority", fields) || scheme || path;
+    }
+    !has(b":method", fields) || !scheme || !path || has_empty_path(fields)
+}
+
+/// Whether :method, :scheme and :path are there, and the scheme is neither http nor https.
+pub fn has_other_scheme<A: Allocator>(fields: &[SpelledField<A>]) -> bool {
+    if !has(b":method", fields) || !has(b":path", fields) {
+        return false;
+    }
+    match value_of(b":scheme", fields) {
+        Some(scheme) => {
+            !scheme.eq_ignore_ascii_case("http".as_bytes())
+                && !scheme.eq_ignore_ascii_case("https".as_bytes())
+        }
+        None => false,
+    }
+}
+
+/// Whether a value is of digits alone, one at least.
+pub fn is_number(value: &[u8]) -> bool {
+    for octet in value {
+        if !(b'0'..=b'9').contains(octet) {
+            return false;
+        }
+    }
+    !value.is_empty()
+}
+
+/// What the content-lengths of a block are.
+#[derive(Clone, Copy)]
+enum Lengths {
+    /// One is no number.
+    NoNumber,
+    /// All are numbers, and one has more than 18 digits.
+    Long,
+    /// All are numbers of at most 18 digits, if there are any.
+    Numbers,
+}
+
+/// What the content-lengths of a block are.
+fn lengths_of<A: Allocator>(fields: &[SpelledField<A>]) -> Lengths {
+    let mut lengths = Lengths::Numbers;
+    for field in fields {
+        if is_wrong(FieldFault::Length, field) {
+            let value = field.value.as_slice();
+            if !is_number(value) {
+                return Lengths::NoNumber;
+            }
+            if value.len() > 18 {
+                lengths = Lengths::Long;
+            }
+        }
+    }
+    lengths
+}
+
+/// Whether all content-lengths are numbers, and one has more than 18 digits.
+pub fn is_length_long<A: Allocator>(fields: &[SpelledField<A>]) -> bool {
+    matches!(lengths_of(fields), Lengths::Long)
+}
+
+/// The value of a number of at most 18 digits.
+fn number_in(value: &[u8]) -> u64 {
+    let mut number = 0u64;
+    for octet in value {
+        number = number
+            .saturating_mul(10)
+            .saturating_add(u64::from(octet.saturating_sub(b'0')));
+    }
+    number
+}
+
+/// Whether two content-lengths are different numbers, of at most 18 digits each.
+pub fn do_lengths_differ<A: Allocator>(fields: &[SpelledField<A>]) -> bool {
+    match lengths_of(fields) {
+        Lengths::Numbers => has_other_length(fields),
+        Lengths::NoNumber | Lengths::Long => false,
+    }
+}
+
+/// Whether a content-length is another number than the first.
+fn has_other_length<A: Allocator>(fields: &[SpelledField<A>]) -> bool {
+    let mut first = None;
+    for field in fields {
+        if is_wrong(FieldFault::Length, field) {
+            let number = number_in(field.value.as_slice());
+            match first {
+                Some(other) if other != number => return true,
+                _ => first = Some(number),
+            }
+        }
+    }
+    false
+}
+
+/// The first content-length that is no number of 1 to 18 digits, or the first of all where there is none.
+pub fn refused_length<A: Allocator>(fields: &[SpelledField<A>]) -> Option<&SpelledField<A>> {
+    let mut first = None;
+    for field in fields {
+        if is_wrong(FieldFault::Length, field) {
+            let value = field.value.as_slice();
+            if !is_number(value) || value.len() > 18 {
+                return Some(field);
+            }
+            if first.is_none() {
+                first = Some(field);
+            }
+        }
+    }
+    first
+}
+
+/// The first content-length that is another number than a value of at most 18 digits.
+pub fn other_length<'s, A: Allocator>(
+    value: &[u8],
+    fields: &'s [SpelledField<A>],
+) -> Option<&'s SpelledField<A>> {
+    for field in fields {
+        if is_wrong(FieldFault::Length, field)
+            && number_in(field.value.as_slice()) != number_in(value)
+        {
+            return Some(field);
+        }
+    }
+    None
+}
+
+/// The first field with which this is wrong.
+fn first_with<A: Allocator>(
+    wrong: FieldFault,
+    fields: &[SpelledField<A>],
+) -> Option<&SpelledField<A>> {
+    match first_wrong(wrong, 0, fields) {
+        Some(place) => fields.get(place),
+        None => None,
+    }
+}
+
+/// Whether the first field whose name is refused has an empty name.
+pub fn has_empty_name<A: Allocator>(fields: &[SpelledField<A>]) -> bool {
+    match first_with(FieldFault::Name, fields) {
+        Some(field) => field.name.is_empty(),
+        None => false,
+    }
+}
+
+/// Whether a content-length is not taken: no number of 1 to 18 digits, or two that differ (RFC 9113, 8.1.1).
+fn is_bad_length<A: Allocator>(fields: &[SpelledField<A>]) -> bool {
+    match lengths_of(fields) {
+        Lengths::Numbers => has_other_length(fields),
+        Lengths::NoNumber | Lengths::Long => true,
+    }
+}
+
+/// Whether a block declares content other than none (RFC 9113, 8.1.1).
+fn declares_content<A: Allocator>(fields: &[SpelledField<A>]) -> bool {
+    match first_with(FieldFault::Length, fields) {
+        Some(field) => !is_bad_length(fields) && number_in(field.value.as_slice()) > 0,
+        None => false,
+    }
+}
+
+/// The causes for which a request is malformed, in their order.
+pub(crate) static OF_REQUESTS: [Cause; 10] = [
+    Cause::BadName,
+    Cause::BadValue,
+    Cause::LatePseudoField,
+    Cause::UnknownPseudoField,
+    Cause::DoublePseudoField,
+    Cause::LackingPseudoField,
+    Cause::ConnectionField,
+    Cause::BadTe,
+    Cause::BadContentLength,
+    Cause::ContentMissing,
+];
+
+/// The causes for which trailers are malformed, in their order.
+pub(crate) static OF_TRAILERS: [Cause; 7] = [
+    Cause::TrailersBadName,
+    Cause::TrailersBadValue,
+    Cause::TrailersPseudoField,
+    Cause::TrailersConnectionField,
+    Cause::TrailersBadTe,
+    Cause::TrailersWithoutEndStream,
+    Cause::ContentTooShort,
+];
+
+/// A block, as far as its faults depend on more than its fields.
+pub struct BlockFields<'s, A: Allocator> {
+    /// Its fields in their order.
+    pub fields: &'s [SpelledField<A>],
+    /// Whether its HEADERS had END_STREAM.
+    pub ends: bool,
+    /// Whether less content has arrived than was declared.
+    pub is_short: bool,
+}
+
+/// By hand, since a derived `clone` copies field by field.
+impl<A: Allocator> Clone for BlockFields<'_, A> {
+    ghost is_clone = { λ x y. y ≡ x };
+
+    ghost is_infallible = { λ _. Unit {0} };
+
+    fn clone(&self) -> Result<Self, AllocError> {
+        Ok(*self)
+    }
+}
+
+impl<A: Allocator> Copy for BlockFields<'_, A> {}
+
+/// What is wrong with a field where a cause holds, if one field by itself shows that.
+fn fault_of(cause: Cause) -> Option<FieldFault> {
+    match cause {
+        Cause::BadName | Cause::TrailersBadName => Some(FieldFault::Name),
+        Cause::BadValue | Cause::TrailersBadValue => Some(FieldFault::Value),
+        Cause::UnknownPseudoField => Some(FieldFault::Unknown),
+        Cause::TrailersPseudoField => Some(FieldFault::Pseudo),
+        Cause::ConnectionField | Cause::TrailersConnectionField => Some(FieldFault::Connection),
+        Cause::BadTe | Cause::TrailersBadTe => Some(FieldFault::Te),
+        _ => None,
+    }
+}
+
+/// Whether a cause holds of a block.
+pub fn holds<A: Allocator>(cause: Cause, block: BlockFields<'_, A>) -> bool {
+    let fields = block.fields;
+    if let Some(fault) = fault_of(cause) {
+        return first_wrong(fault, 0, fields).is_some();
+    }
+    match cause {
+        Cause::LatePseudoField => late_pseudo(fields).is_some(),
+        Cause::DoublePseudoField => double_pseudo(fields).is_some(),
+        Cause::LackingPseudoField => is_lacking(fields),
+        Cause::BadContentLength => is_bad_length(fields),
+        Cause::ContentMissing => block.ends && declares_content(fields),
+        Cause::TrailersWithoutEndStream => !block.ends,
+        Cause::ContentTooShort => block.is_short,
+        _ => false,
+    }
+}
+
+/// The causes among which that of a malformed block is: those of requests or of trailers; none of another cause.
+pub fn family_of(cause: Cause) -> &'static [Cause] {
+    match cause {
+        Cause::BadName
+        | Cause::BadValue
+        | Cause::LatePseudoField
+        | Cause::UnknownPseudoField
+        | Cause::DoublePseudoField
+        | Cause::LackingPseudoField
+        | Cause::ConnectionField
+        | Cause::BadTe
+        | Cause::BadContentLength
+        | Cause::ContentMissing => &OF_REQUESTS,
+        Cause::TrailersBadName
+        | Cause::TrailersBadValue
+        | Cause::TrailersPseudoField
+        | Cause::TrailersConnectionField
+        | Cause::TrailersBadTe
+        | Cause::TrailersWithoutEndStream => &OF_TRAILERS,
+        _ => &[],
+    }
+}

@@ -1,0 +1,209 @@
+//! What is wrong with a request that this server answers all the same, looked up in its fields (RFC 9113, 8.3.1; RFC
+//! 9110, 5.3 and 9.1). No definition speaks of which fields they are found in.
+
+ghost use Rattle.std.specs.Prelude.{◌≡◌};
+ghost use Rattle.h2_explain_item.specs.Warnings.{no_request_facts};
+
+use h2_explain_words::spelled::SpelledField;
+use std::alloc::Allocator;
+
+/// What is wrong with a request.
+#[derive(Clone, Copy)]
+pub struct RequestFacts {
+    /// Whether `:method` is no token (RFC 9110, 9.1).
+    pub bad_method: bool,
+    /// Whether `:scheme` is no scheme (RFC 3986, 3.1).
+    pub bad_scheme: bool,
+    /// Whether `:path` of http and https does not begin with a slash, and is not `*` with OPTIONS (RFC 9113, 8.3.1).
+    pub bad_path: bool,
+    /// Whether `:authority` of http and https has userinfo (RFC 9113, 8.3.1).
+    pub userinfo: bool,
+    /// Whether the field `host` is there twice (RFC 9110, 5.3).
+    pub host_twice: bool,
+    /// Whether the field `host` is other than `:authority`, apart from the case of letters (RFC 9113, 8.3.1).
+    pub host_differs: bool,
+}
+
+impl RequestFacts {
+    /// Nothing is wrong.
+    pub fn none() -> RequestFacts
+        ensures { result ≡ no_request_facts }
+    {
+        RequestFacts {
+            bad_method: false,
+            bad_scheme: false,
+            bad_path: false,
+            userinfo: false,
+            host_twice: false,
+            host_differs: false,
+        }
+    }
+}
+
+/// Whether an octet is one of a token (RFC 9110, 5.6.2).
+fn is_of_token(octet: u8) -> bool {
+    octet.is_ascii_alphanumeric() || b"!#$%&'*+-.^_`|~".contains(&octet)
+}
+
+/// Whether octets are a token: one at least (RFC 9110, 5.6.2).
+fn is_token(octets: &[u8]) -> bool {
+    for octet in octets {
+        if !is_of_token(*octet) {
+            return false;
+        }
+    }
+    !octets.is_empty()
+}
+
+/// Whether an octet may be in a scheme, after its first (RFC 3986, 3.1).
+fn is_of_scheme(octet: u8) -> bool {
+    octet.is_ascii_alphanumeric() || b"+-.".contains(&octet)
+}
+
+/// Whether octets are a scheme: a letter, and then letters, digits and `+`, `-` and `.` (RFC 3986, 3.1).
+fn is_scheme(octets: &[u8]) -> bool {
+    for octet in octets {
+        if !is_of_scheme(*octet) {
+            return false;
+        }
+    }
+    match octets.first() {
+        Some(first) => first.is_ascii_alphabetic(),
+        None => false,
+    }
+}
+
+/// The places of the fields of a request that are looked at, of each name the first, and how many fields `host` there are.
+#[derive(Clone, Copy)]
+struct Places {
+    method: Option<usize>,
+    scheme: Option<usize>,
+    path: Option<usize>,
+    authority: Option<usize>,
+    hosts: usize,
+}
+
+impl Places {
+    /// None of them.
+    fn none() -> Places {
+        Places {
+            method: None,
+            scheme: None,
+            path: None,
+            authority: None,
+            hosts: 0,
+        }
+    }
+
+    /// Notes that a field of this name is at this place, after the others.
+    fn note(&mut self, name: &[u8], place: usize) {
+        if name == ":method".as_bytes() {
+            self.method = self.method.or(Some(place));
+        } else if name == ":scheme".as_bytes() {
+            self.scheme = self.scheme.or(Some(place));
+        } else if name == ":path".as_bytes() {
+            self.path = self.path.or(Some(place));
+        } else if name == ":authority".as_bytes() {
+            self.authority = self.authority.or(Some(place));
+        } else if name == "host".as_bytes() {
+            self.hosts = self.hosts.saturating_add(1);
+        }
+    }
+}
+
+/// The places in these fields.
+fn places_in<A: Allocator>(fields: &[SpelledField<A>]) -> Places {
+    let mut places = Places::none();
+    for (place, field) in fields.iter().enumerate() {
+        places.note(field.name.as_slice(), place);
+    }
+    places
+}
+
+/// The value of the field at a place.
+fn value_at<A: Allocator>(place: Option<usize>, fields: &[SpelledField<A>]) -> Option<&[u8]> {
+    match fields.get(place?) {
+        Some(field) => Some(field.value.as_slice()),
+        None => None,
+    }
+}
+
+/// Whether a request with this scheme is one of http or https.
+fn is_web(scheme: Option<&[u8]>) -> bool {
+    match scheme {
+        Some(scheme) => {
+            scheme.eq_ignore_ascii_case(b"http") || scheme.eq_ignore_ascii_case(b"https")
+        }
+        None => false,
+    }
+}
+
+/// Whether a value that is there is no token.
+fn is_no_token(value: Option<&[u8]>) -> bool {
+    match value {
+        Some(octets) => !is_token(octets),
+        None => false,
+    }
+}
+
+/// Whether a value that is there is no scheme.
+fn is_no_scheme(value: Option<&[u8]>) -> bool {
+    match value {
+        Some(octets) => !is_scheme(octets),
+        None => false,
+    }
+}
+
+/// Whether the path of a request of http or https does not begin with a slash, and is not `*` with OPTIONS.
+fn has_bad_path(path: Option<&[u8]>, method: Option<&[u8]>) -> bool {
+    let Some(path) = path else {
+        return false;
+    };
+    let options = match method {
+        Some(method) => method == "OPTIONS".as_bytes(),
+        None => false,
+    };
+    !path.starts_with(b"/") && !(options && path == "*".as_bytes())
+}
+
+/// Whether an authority has userinfo: an `@` (RFC 3986, 3.2).
+fn has_userinfo(authority: Option<&[u8]>) -> bool {
+    match authority {
+        Some(authority) => authority.contains(&b'@'),
+        None => false,
+    }
+}
+
+/// Whether the authority is there, and a field `host` is other than it, apart from the case of letters.
+fn do_hosts_differ<A: Allocator>(authority: Option<&[u8]>, fields: &[SpelledField<A>]) -> bool {
+    let Some(authority) = authority else {
+        return false;
+    };
+    for field in fields {
+        if field.name.as_slice() == "host".as_bytes()
+            && !field.value.eq_ignore_ascii_case(authority)
+        {
+            return true;
+        }
+    }
+    false
+}
+
+/// What is wrong with the request that has these fields.
+pub fn request_facts<A: Allocator>(fields: &[SpelledField<A>]) -> RequestFacts {
+    let places = places_in(fields);
+    let (method, scheme) = (
+        value_at(places.method, fields),
+        value_at(places.scheme, fields),
+    );
+    let authority = value_at(places.authority, fields);
+    let web = is_web(scheme);
+    RequestFacts {
+        bad_method: is_no_token(method),
+        bad_scheme: is_no_scheme(scheme),
+        bad_path: web && has_bad_path(value_at(places.path, fields), method),
+        userinfo: web && has_userinfo(authority),
+        host_twice: places.hosts > 1,
+        host_differs: places.hosts > 0 && do_hosts_differ(authority, fields),
+    }
+}

@@ -1,0 +1,69 @@
+-- An item that was taken, with what was before it and what is after it.
+use Rattle.std.specs.Prelude.{◌≡◌, ℕ, ◌≤◌, Bool, true, false, List, [], length, take, Option, Some, None}
+use Rattle.h2_spec.specs.declared.connection.Phase.{Phase}
+use Rattle.h2_spec.specs.declared.connection.Phase.TheVariants.{Preface, Settings, Running, Ended}
+use Rattle.h2_spec.specs.declared.frames.Head.{Head}
+use Rattle.h2_spec.specs.Hpack.DynamicTable.{total_size}
+use Rattle.h2_spec.specs.Frames.Frame.{frames_octets, head_at}
+use Rattle.h2_spec.specs.Frames.Parse.{One}
+use Rattle.h2_spec.specs.State.{State}
+use Rattle.h2_spec.specs.Stream.{stream_at}
+use Rattle.h2_spec.specs.Trace.{Event, next_event, next_item}
+use Rattle.h2_spec.specs.Texts.View.{shown_block}
+use Rattle.h2_conn.specs.Connection.{Connection, going}
+use Rattle.h2_conn.specs.Reports.{reported}
+use Rattle.h2_conn.specs.declared.report.TakenItem.{TakenItem}
+use Rattle.h2_explain_text.specs.Lines.{EndsLine, Words, lines_of}
+use Rattle.h2_explain_item.specs.declared.item.Explained.{Explained}
+use Rattle.h2_explain_item.specs.declared.item.Moment.{Moment}
+
+-- what is looked at of a state, with one of its streams
+abbrev pub moment_of : State → ℕ → Moment
+moment_of s id = record {
+  counts = s.core;
+  block = shown_block s.block;
+  entries = length s.table.entries;
+  table_size = total_size s.table.entries;
+  table_max = s.table.max;
+  stream = stream_at s.core.last s.streams id;
+}
+
+-- the stream that a head names, 0 without one
+abbrev pub stream_in : Option Head → ℕ
+stream_in None = 0
+stream_in (Some h) = h.stream
+
+-- the stream of the frame that octets begin with; 0 where the preface is awaited
+abbrev pub stream_ahead : Phase → List ℕ → ℕ
+stream_ahead Preface b = 0
+stream_ahead Settings b = stream_in (head_at b)
+stream_ahead Running b = stream_in (head_at b)
+stream_ahead (Ended code) b = stream_in (head_at b)
+
+-- octets that begin with the octets of an item: those that are there when it is taken
+pub record IsAhead (b : List ℕ) (used : ℕ) (ahead : List ℕ) : Type 0 where
+  pub whole : used ≤ length ahead
+  pub begins : ahead ≡ take (length ahead) b
+
+-- what is reported of an item, and how many octets it takes
+abbrev pub report_in : Explained → TakenItem
+report_in x = record { used = x.used; item = x.what; cause = x.cause; ignored = x.ignored }
+
+-- the next item of a connection was taken: this is its event, and all that is kept of it is as the definitions have it
+pub record ExplainsItem (s : State) (b : List ℕ) (number offset : ℕ) (c : Connection) (x : Explained) : Type 0 where
+  pub event : Event
+  pub comes : next_event s b ≡ One event c.state x.used
+  pub ready : c ≡ going c.state []
+  pub number_is : x.number ≡ number
+  pub offset_is : x.offset ≡ offset
+  pub octets_is : x.octets.now ≡ take x.used b
+  pub ahead_is : IsAhead b x.used x.ahead.now
+  pub taken_is : Some (report_in x) ≡ reported s (next_item s b)
+  pub sent_is : x.sent.now ≡ frames_octets event.sent
+  pub before_is : x.before ≡ moment_of s (stream_ahead s.core.phase b)
+  pub after_is : x.after ≡ moment_of c.state (stream_ahead s.core.phase b)
+
+-- the text of an item: a line of JSON, or its lines
+abbrev pub IsTextOf : (json color : Bool) → Explained → List ℕ → Type 0
+IsTextOf true color x t = EndsLine false t
+IsTextOf false color x t = (w : Words) × (t ≡ lines_of color x w)

@@ -1,0 +1,25 @@
+-- The lines of an item of which nothing is said: those of the opening alone.
+use Rattle.std.proofs.Common.{◌≡◌, ◌∙◌, ℕ, Bool, true, false, List, [], if◌then◌else◌, ap, refl, sym}
+use Rattle.h2_explain_text.specs.Lines.{Words, is_silent, lines_of, lines_unless, shown_words}
+use Rattle.h2_explain_item.specs.declared.special.CaseFacts.{CaseFacts}
+use Rattle.h2_explain_item.specs.declared.item.Explained.{Explained}
+
+-- nothing decides a special case
+abbrev pub no_facts : CaseFacts
+no_facts = record { continued = false; empty_name = false; connect = false; other_scheme = false; lengths_differ = false; length_is_long = false; after_end = false }
+
+abbrev no_lines : List ℕ
+no_lines = []
+
+-- no words are none, whether they are left out or not
+pub no_words : (brief : Bool) → (if brief then no_lines else no_lines) ≡ no_lines
+no_words false = refl
+no_words true = refl
+
+-- these lines of an opening, and no other words
+abbrev pub opening_alone : List ℕ → Words
+opening_alone opening = record { opening = opening; item = []; facts = no_facts; fields = []; sentence = []; also = []; sent = []; changes = [] }
+
+-- so these are its lines
+pub silent_lines : (octets opening : List ℕ) (color brief : Bool) (x : Explained) → is_silent x.what ≡ true → octets ≡ opening → octets ≡ lines_of color x (shown_words brief (opening_alone opening))
+silent_lines octets opening color brief x silent is = is ∙ sym (ap (λ (b : Bool). lines_unless b color x (shown_words brief (opening_alone opening))) silent)

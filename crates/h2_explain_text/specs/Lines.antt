@@ -1,0 +1,150 @@
+-- The lines of the text of an item, as far as they are fixed: its number and its offset, the cause of an error, and why
+-- an item is ignored. The other words of an item are given to these definitions.
+use Rattle.std.specs.Prelude.{◌≡◌, ℕ, Bool, true, false, List, [], ◌∷◌, ◌++◌, codes, decimal, nat_lt, ◌&&◌, if◌then◌else◌, Option, Some, None}
+use Rattle.h2_spec.specs.declared.causes.Cause.{Cause}
+use Rattle.h2_spec.specs.declared.connection.Phase.{Phase}
+use Rattle.h2_spec.specs.declared.connection.Phase.TheVariants.{Preface, Settings, Running, Ended}
+use Rattle.h2_spec.specs.declared.frames.ItemHead.{ItemHead}
+use Rattle.h2_spec.specs.declared.frames.ItemHead.TheVariants as item
+use Rattle.h2_spec.specs.declared.ignored.Ignored.{Ignored}
+use Rattle.h2_spec.specs.declared.special_cases.SpecialCase.{SpecialCase}
+use Rattle.h2_explain_words.specs.Names.{error_name, scope_word}
+use Rattle.h2_spec.specs.Causes.Cause.{code_of}
+use Rattle.h2_spec.specs.Causes.CauseWords.{cause_name}
+use Rattle.h2_spec.specs.Causes.IgnoredWords.{ignored_name}
+use Rattle.h2_spec.specs.Causes.Rules.{Row, client_words, server_words}
+use Rattle.h2_spec.specs.Texts.Show.{joined}
+use Rattle.h2_explain_item.specs.declared.item.Explained.{Explained}
+use Rattle.h2_explain_text.specs.declared.paint.Role.{Role}
+use Rattle.h2_explain_text.specs.declared.paint.Role.TheVariants as role
+use Rattle.h2_explain_item.specs.declared.special.CaseFacts.{CaseFacts}
+use Rattle.h2_explain_item.specs.Special.{rule_of_cause, rule_of_reason, case_of_error, case_of_reason}
+
+-- ---- lines and their colours
+
+-- the colour of a line, as terminals take it: ESC, `[`, a number, `m`
+abbrev pub colour : Role → List ℕ
+colour role.Item = 27 ∷ codes "[1m"
+colour role.Field = 27 ∷ codes "[36m"
+colour role.Error = 27 ∷ codes "[31m"
+colour role.Ignored = 27 ∷ codes "[33m"
+colour role.Sent = 27 ∷ codes "[32m"
+colour role.Change = 27 ∷ codes "[2m"
+
+-- the beginning of a line, and its end
+abbrev pub started : Bool → Role → List ℕ
+started false r = []
+started true r = colour r
+
+abbrev pub ended : Bool → List ℕ
+ended false = codes "\n"
+ended true = 27 ∷ codes "[0m\n"
+
+-- a text of one line, or of more
+abbrev pub EndsLine : Bool → List ℕ → Type 0
+EndsLine color t = (front : List ℕ) × (t ≡ front ++ ended color)
+
+-- a line, or nothing
+abbrev pub EndsLineIf : Bool → (color : Bool) → List ℕ → Type 0
+EndsLineIf false color t = t ≡ []
+EndsLineIf true color t = EndsLine color t
+
+-- the beginning of a line below the first one of an item
+abbrev pub indent : List ℕ
+indent = codes "        "
+
+-- ---- the first line
+
+-- the blanks after a number and an offset: the words begin at the ninth column, two blanks on at least
+abbrev pub blanks : ℕ → ℕ → List ℕ
+blanks number offset = if nat_lt number 10 && nat_lt offset 10 then codes "   " else codes "  "
+
+-- the line of an item: its number, how many octets came before it, and the item in words
+unfoldable pub first_line : Bool → (number offset : ℕ) → (words : List ℕ) → List ℕ
+first_line color number offset words =
+    joined (started color role.Item ∷ codes "#" ∷ decimal number ∷ codes " @" ∷ decimal offset ∷ blanks number offset ∷ words ∷ ended color ∷ [])
+
+-- ---- errors, and what is ignored
+
+-- an error of the connection, which has ended, or of a stream
+abbrev pub scope : Phase → List ℕ
+scope Preface = scope_word false
+scope Settings = scope_word false
+scope Running = scope_word false
+scope (Ended code) = scope_word true
+
+-- what follows the name of a cause, or of a reason, in its two lines: its rule in words, and a sentence
+abbrev pub rule_lines : Bool → Role → (section server client client_section sentence : List ℕ) → List ℕ
+rule_lines color role section server client client_section sentence =
+    joined (codes ", " ∷ section ∷ codes ", " ∷ server ∷ codes "; broken: " ∷ client ∷ codes ", " ∷ client_section ∷ ended color
+    ∷ indent ∷ started color role ∷ sentence ∷ ended color ∷ [])
+
+-- the two lines of an error: its code, its cause, the section of its rule, how far the RFC decides what the server does,
+-- what the client broke, with the section that says so, and a sentence
+unfoldable pub error_lines : Bool → Phase → Cause → Row → (sentence : List ℕ) → List ℕ
+error_lines color phase cause row sentence =
+    joined (indent ∷ started color role.Error ∷ scope phase ∷ error_name (code_of cause) ∷ codes ": " ∷ cause_name cause
+    ∷ codes ", " ∷ row.section ∷ codes ", " ∷ server_words row.server ∷ codes "; broken: " ∷ client_words row.client ∷ codes ", " ∷ row.client_section ∷ ended color
+    ∷ indent ∷ started color role.Error ∷ sentence ∷ ended color ∷ [])
+
+-- the two lines of an item that is ignored: the reason, the same of its rule, and why in a sentence
+unfoldable pub ignored_lines : Bool → Ignored → Row → List ℕ
+ignored_lines color reason row =
+    joined (indent ∷ started color role.Ignored ∷ codes "ignored: " ∷ ignored_name reason
+    ∷ codes ", " ∷ row.section ∷ codes ", " ∷ server_words row.server ∷ codes "; broken: " ∷ client_words row.client ∷ codes ", " ∷ row.client_section ∷ ended color
+    ∷ indent ∷ started color role.Ignored ∷ row.sentence ∷ ended color ∷ [])
+
+-- ---- an item
+
+-- the lines of its cause, if it has one
+abbrev pub cause_lines : Bool → Phase → Option Cause → Option SpecialCase → (sentence : List ℕ) → List ℕ
+cause_lines color phase None case sentence = []
+cause_lines color phase (Some cause) case sentence = error_lines color phase cause (rule_of_cause cause case) sentence
+
+-- the lines of why it is ignored, if it is
+abbrev pub reason_lines : Bool → Option Ignored → Option SpecialCase → List ℕ
+reason_lines color None case = []
+reason_lines color (Some reason) case = ignored_lines color reason (rule_of_reason reason case)
+
+-- what is said about an item besides: the lines of what the server sent before it, the item in words, the lines of its
+-- fields, what decides whether its rule is a special case, the sentence of its error, the line of other causes, the
+-- lines of what was sent and of what changed
+pub record Words : Type 0 where
+  pub opening : List ℕ
+  pub item : List ℕ
+  pub facts : CaseFacts
+  pub fields : List ℕ
+  pub sentence : List ℕ
+  pub also : List ℕ
+  pub sent : List ℕ
+  pub changes : List ℕ
+
+-- the same, or the same without the lines of fields and of what changed
+abbrev pub shown_words : (brief : Bool) → Words → Words
+shown_words brief w = record w { fields = if brief then [] else w.fields; changes = if brief then [] else w.changes }
+
+-- all lines of an item, with the special cases of its error and of why it is ignored
+abbrev pub lines_with : Bool → Explained → Words → (error_case ignored_case : Option SpecialCase) → List ℕ
+lines_with color x w error_case ignored_case =
+    joined (w.opening ∷ first_line color x.number x.offset w.item ∷ w.fields
+    ∷ cause_lines color x.after.counts.phase x.cause error_case w.sentence ∷ w.also
+    ∷ reason_lines color x.ignored ignored_case ∷ w.sent ∷ w.changes ∷ [])
+
+-- all lines of an item
+abbrev pub lines : Bool → Explained → Words → List ℕ
+lines color x w = lines_with color x w (case_of_error x w.facts) (case_of_reason x w.facts)
+
+-- whether nothing is said about an item itself: the preface
+abbrev pub is_silent : ItemHead → Bool
+is_silent item.Preface = true
+is_silent item.BadPreface = false
+is_silent (item.Oversize head) = false
+is_silent (item.Frame head) = false
+
+-- the lines of an item of which something is said
+abbrev pub lines_unless : Bool → (color : Bool) → Explained → Words → List ℕ
+lines_unless true color x w = w.opening
+lines_unless false color x w = lines color x w
+
+abbrev pub lines_of : Bool → Explained → Words → List ℕ
+lines_of color x w = lines_unless (is_silent x.what) color x w

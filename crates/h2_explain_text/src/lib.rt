@@ -1,0 +1,12 @@
+//! An account of an item: what there is to show of it (`account`), and its lines of text (`lines`, with `text` and
+//! `paint`); the octets after the last item (`rest`), and what each live stream waits for at the end (`waits`). h2_explain_json
+//! shows the same values as JSON.
+#![tactic(auto)]
+
+pub mod account;
+pub mod lines;
+pub mod paint;
+pub mod rest;
+pub mod text;
+pub mod waits;
+mod warning_words;

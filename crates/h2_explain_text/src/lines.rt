@@ -1,0 +1,558 @@
+//! The text of an item: a line with its number, its offset and the item in words, and below it the lines of its fields,
+//! of its error or of why it is ignored, of the frames that were sent, and of what changed. Definitions:
+//! `specs/Lines.antt`, the format: docs/EXPLAIN.md.
+
+ghost use Rattle.std.specs.Prelude.{◌≡◌, [], None, OnOk, if◌then◌else◌};
+ghost use Rattle.h2_explain_text.specs.Lines.{Words as Said, blanks, cause_lines, ended, error_lines, first_line, ignored_lines, is_silent, lines, lines_of, reason_lines, rule_lines, scope, shown_words, started};
+ghost use Rattle.h2_explain_item.specs.Special.{rule_of_cause, rule_of_reason};
+
+use crate::account::Account;
+use crate::paint::{Paint, Role};
+use crate::text::{
+    answer_reader, say_all_moved, say_also, say_changes, say_entries, say_fields, say_item,
+    say_opening, say_sent,
+};
+use crate::warning_words::say_warnings;
+use h2_explain_item::item::Explained;
+use h2_explain_item::special::{
+    Rule, case_of_error, case_of_reason, rule_of_cause, rule_of_reason,
+};
+use h2_explain_words::names::{error_name, scope_word};
+use h2_explain_words::say::TextBuilder;
+use h2_explain_words::spelled::BlockReader;
+use h2_io::{DeviceFault, Gathered, Output, Text, texts};
+use h2_spec::causes::Cause;
+use h2_spec::connection::Phase;
+use h2_spec::frames::ItemHead;
+use h2_spec::ignored::Ignored;
+use h2_spec::special_cases::SpecialCase;
+use itoa::Buffer;
+use std::alloc::{AllocError, Allocator, Global};
+use std::marker::Model;
+use std::mem;
+
+/// The beginning of each line below the first one of an item.
+const INDENT: &str = "        ";
+
+/// The blanks after a number and an offset: the words begin at the ninth column, two blanks on at least.
+#[derive(Clone, Copy)]
+struct Blanks {
+    number: u64,
+    offset: u64,
+}
+
+impl Text for Blanks {
+    ghost text = { λ b. blanks b.number b.offset };
+
+    fn write_to<O: Output>(&self, output: &mut O) -> Result<(), DeviceFault> {
+        if self.number < 10 && self.offset < 10 {
+            "   ".write_to(output)
+        } else {
+            "  ".write_to(output)
+        }
+    }
+}
+
+/// The beginning of a line with colours; empty without them.
+#[derive(Clone, Copy)]
+struct LineStart(Paint, Role);
+
+impl Text for LineStart {
+    ghost text = { λ l. started l.0.0 l.1 };
+
+    fn write_to<O: Output>(&self, output: &mut O) -> Result<(), DeviceFault> {
+        match self.0.0 {
+            true => self.0.started(self.1).write_to(output),
+            false => "".write_to(output),
+        }
+    }
+}
+
+/// The end of a line.
+#[derive(Clone, Copy)]
+struct LineEnd(Paint);
+
+impl Text for LineEnd {
+    ghost text = { λ l. ended l.0.0 };
+
+    fn write_to<O: Output>(&self, output: &mut O) -> Result<(), DeviceFault> {
+        match self.0.0 {
+            true => self.0.ended().write_to(output),
+            false => "\n".write_to(output),
+        }
+    }
+}
+
+/// Octets of a text, as they are.
+#[derive(Clone, Copy)]
+struct Octets<'o>(&'o [u8]);
+
+impl Text for Octets<'_> {
+    ghost text = { λ o. o.0.now };
+
+    fn write_to<O: Output>(&self, output: &mut O) -> Result<(), DeviceFault> {
+        output.write(self.0)
+    }
+}
+
+/// The first line of an item.
+#[derive(Clone, Copy)]
+struct FirstLine<'w> {
+    paint: Paint,
+    number: u64,
+    offset: u64,
+    words: Octets<'w>,
+}
+
+#[tactic(auto, unfolding(crate::specs::Lines::first_line))]
+impl Text for FirstLine<'_> {
+    ghost text = { λ l. first_line l.paint.0 l.number l.offset l.words.0.now };
+
+    fn write_to<O: Output>(&self, output: &mut O) -> Result<(), DeviceFault> {
+        let start = LineStart(self.paint, Role::Item);
+        let blanks = Blanks {
+            number: self.number,
+            offset: self.offset,
+        };
+        let (mut number, mut offset) = (Buffer::new(), Buffer::new());
+        let (number, offset) = (number.format(self.number), offset.format(self.offset));
+        let end = LineEnd(self.paint);
+        texts!(start, "#", number, " @", offset, blanks, self.words, end).write_to(output)
+    }
+}
+
+/// An error of the connection, which has ended, or of a stream.
+fn scope(phase: Phase) -> &'static str
+    ensures { result.now ≡ scope phase }
+{
+    match phase {
+        Phase::Preface | Phase::Settings | Phase::Running => scope_word(false),
+        Phase::Ended(_) => scope_word(true),
+    }
+}
+
+/// What follows the name of a cause, or of a reason, in its two lines: its rule, and a sentence on a line of its own.
+#[derive(Clone, Copy)]
+struct RuleLines<'w> {
+    paint: Paint,
+    role: Role,
+    rule: Rule,
+    sentence: &'w str,
+}
+
+impl Text for RuleLines<'_> {
+    ghost text = { λ l. rule_lines l.paint.0 l.role l.rule.section.now l.rule.server.now l.rule.client.now l.rule.client_section.now l.sentence.now };
+
+    fn write_to<O: Output>(&self, output: &mut O) -> Result<(), DeviceFault> {
+        let start = self.paint.started(self.role);
+        let end = self.paint.ended();
+        let (section, server) = (self.rule.section, self.rule.server);
+        let (client, client_section) = (self.rule.client, self.rule.client_section);
+        texts!(
+            ", ",
+            section,
+            ", ",
+            server,
+            "; broken: ",
+            client,
+            ", ",
+            client_section,
+            end,
+            INDENT,
+            start,
+            self.sentence,
+            end
+        )
+        .write_to(output)
+    }
+}
+
+/// The two lines of an error: its code, its cause, its rule, and a sentence.
+#[derive(Clone, Copy)]
+struct ErrorLines<'w> {
+    paint: Paint,
+    phase: Phase,
+    cause: Cause,
+    case: Option<SpecialCase>,
+    sentence: &'w str,
+}
+
+#[tactic(auto, unfolding(crate::specs::Lines::error_lines))]
+impl Text for ErrorLines<'_> {
+    ghost text = { λ l. error_lines l.paint.0 l.phase l.cause (rule_of_cause l.cause l.case) l.sentence.now };
+
+    fn write_to<O: Output>(&self, output: &mut O) -> Result<(), DeviceFault> {
+        let cause = self.cause;
+        let start = self.paint.started(Role::Error);
+        let scope = scope(self.phase);
+        let code = error_name(cause.code());
+        let rule = rule_of_cause(cause, self.case);
+        let rest = RuleLines {
+            paint: self.paint,
+            role: Role::Error,
+            rule,
+            sentence: self.sentence,
+        };
+        texts!(INDENT, start, scope, code, ": ", cause.name(), rest).write_to(output)
+    }
+}
+
+/// The two lines of an item that is ignored.
+#[derive(Clone, Copy)]
+struct IgnoredLines {
+    paint: Paint,
+    reason: Ignored,
+    case: Option<SpecialCase>,
+}
+
+#[tactic(auto, unfolding(crate::specs::Lines::ignored_lines))]
+impl Text for IgnoredLines {
+    ghost text = { λ l. ignored_lines l.paint.0 l.reason (rule_of_reason l.reason l.case) };
+
+    fn write_to<O: Output>(&self, output: &mut O) -> Result<(), DeviceFault> {
+        let reason = self.reason;
+        let start = self.paint.started(Role::Ignored);
+        let rule = rule_of_reason(reason, self.case);
+        let rest = RuleLines {
+            paint: self.paint,
+            role: Role::Ignored,
+            rule,
+            sentence: rule.sentence,
+        };
+        texts!(INDENT, start, "ignored: ", reason.name(), rest).write_to(output)
+    }
+}
+
+/// The lines of a cause, if there is one.
+#[derive(Clone, Copy)]
+struct CauseLines<'w> {
+    paint: Paint,
+    phase: Phase,
+    cause: Option<Cause>,
+    case: Option<SpecialCase>,
+    sentence: &'w str,
+}
+
+impl Text for CauseLines<'_> {
+    ghost text = { λ l. cause_lines l.paint.0 l.phase l.cause l.case l.sentence.now };
+
+    fn write_to<O: Output>(&self, output: &mut O) -> Result<(), DeviceFault> {
+        match self.cause {
+            None => "".write_to(output),
+            Some(cause) => ErrorLines {
+                paint: self.paint,
+                phase: self.phase,
+                cause,
+                case: self.case,
+                sentence: self.sentence,
+            }
+            .write_to(output),
+        }
+    }
+}
+
+/// The lines of why an item is ignored, if it is.
+#[derive(Clone, Copy)]
+struct ReasonLines {
+    paint: Paint,
+    ignored: Option<Ignored>,
+    case: Option<SpecialCase>,
+}
+
+impl Text for ReasonLines {
+    ghost text = { λ l. reason_lines l.paint.0 l.ignored l.case };
+
+    fn write_to<O: Output>(&self, output: &mut O) -> Result<(), DeviceFault> {
+        match self.ignored {
+            None => "".write_to(output),
+            Some(reason) => IgnoredLines {
+                paint: self.paint,
+                reason,
+                case: self.case,
+            }
+            .write_to(output),
+        }
+    }
+}
+
+/// Where each part but the last ends of the words of an item that no definition has, which are one text.
+#[derive(Clone, Copy)]
+struct Ends {
+    /// The end of the lines of what the server sent before the first item, which are empty for the others.
+    opening: usize,
+    /// The end of the item in words.
+    item: usize,
+    /// The end of the lines of its fields, which are empty unless they are shown with it.
+    fields: usize,
+    /// The end of the line of the other causes that hold of its block, which is empty if there are none.
+    also: usize,
+    /// The end of the lines of the warnings, and of the frames that were sent. After it are those of what changed.
+    sent: usize,
+}
+
+/// What is between two ends of parts.
+fn part(words: &[u8], from: usize, to: usize) -> Octets<'_> {
+    Octets(words.get(from..to).unwrap_or(&[]))
+}
+
+/// Puts the lines of the fields of the block that ends with an item last, if they are shown with it.
+fn say_shown_fields<A: Allocator + Copy>(
+    account: &Account<A>,
+    reader: &BlockReader<A>,
+    paint: Paint,
+    out: &mut TextBuilder<A>,
+) {
+    if account.shows_fields {
+        say_fields(reader, paint, out);
+    }
+}
+
+/// Puts the lines of what an item changed last.
+fn say_all_changes<A: Allocator + Copy>(
+    account: &Account<A>,
+    paint: Paint,
+    out: &mut TextBuilder<A>,
+) {
+    say_changes(account.changes.as_slice(), paint, out);
+    say_all_moved(account.unshown.as_slice(), paint, out);
+    say_entries(account.entries.as_slice(), paint, out);
+}
+
+/// Puts the words of an item in the place of those before; `answers` reads the fields of answers.
+fn say_words<A: Allocator + Copy>(
+    alloc: A,
+    item: &Explained<'_>,
+    account: &Account<A>,
+    reader: &BlockReader<A>,
+    paint: Paint,
+    answers: &mut BlockReader<A>,
+    out: &mut TextBuilder<A>,
+) -> Ends {
+    out.clear(account.is_full);
+    say_opening(account.opening.as_slice(), paint, out);
+    let opening = out.len();
+    say_item(item, out);
+    let item_end = out.len();
+    say_shown_fields(account, reader, paint, out);
+    let fields = out.len();
+    say_also(account.also.as_slice(), paint, out);
+    let also = out.len();
+    say_warnings(account.warnings, paint, out);
+    say_sent(alloc, item.sent, paint, account.is_brief, answers, out);
+    let sent = out.len();
+    say_all_changes(account, paint, out);
+    Ends {
+        opening,
+        item: item_end,
+        fields,
+        also,
+        sent,
+    }
+}
+
+/// Puts a text in the place of what was gathered.
+///
+/// `AllocError` where memory for it is refused.
+#[inline(always)]
+fn gather<A: Allocator, T: Text>(text: &T, out: &mut Gathered<A>) -> Result<(), AllocError>
+    ensures { OnOk result (out.new.octets.items ≡ T.text text.now) }
+{
+    out.octets.clear();
+    out.failed = false;
+    match text.write_to(out) {
+        Ok(()) => Ok(()),
+        Err(_) => Err(AllocError),
+    }
+}
+
+/// Lines that are left out where a text is brief: those of fields, and of what changed.
+fn detail(is_brief: bool, lines: Octets<'_>) -> Octets<'_>
+    ensures { result.0.now ≡ (if is_brief then [] else lines.entry.0.now) }
+{
+    if is_brief { Octets(&[]) } else { lines }
+}
+
+/// The first line of an item with these words.
+fn first_of<'w>(item: &Explained<'_>, words: &'w [u8], ends: Ends, paint: Paint) -> FirstLine<'w>
+    ensures number { result.number ≡ item.now.number }
+    ensures offset { result.offset ≡ item.now.offset }
+    ensures paint { result.paint ≡ paint }
+{
+    FirstLine {
+        paint,
+        number: item.number,
+        offset: item.offset as u64,
+        words: part(words, ends.opening, ends.item),
+    }
+}
+
+/// The words after an item that is no error and not ignored: where the text is brief, without those of fields and of what
+/// changed.
+fn plain_rest(words: &[u8], ends: Ends, is_brief: bool) -> Octets<'_> {
+    if is_brief {
+        part(words, ends.also, ends.sent)
+    } else {
+        part(words, ends.item, words.len())
+    }
+}
+
+/// The lines of an item with these words that is no error and not ignored, without those of an opening.
+#[inline(always)]
+fn plain_lines<A: Allocator>(
+    item: &Explained<'_>,
+    words: &[u8],
+    ends: Ends,
+    is_brief: bool,
+    paint: Paint,
+    out: &mut Gathered<A>,
+) -> Result<(), AllocError>
+    requires no_cause { item.now.cause ≡ None }
+    requires no_reason { item.now.ignored ≡ None }
+    ensures { OnOk result ((w : Said) × (out.new.octets.items ≡ lines paint.0 item.now (shown_words is_brief w))) }
+{
+    let first = first_of(item, words, ends, paint);
+    let rest = plain_rest(words, ends, is_brief);
+    gather(&texts!(first, rest), out)
+}
+
+/// The lines of an item with these words.
+fn lines_with<A: Allocator + Copy>(
+    item: &Explained<'_>,
+    words: &[u8],
+    ends: Ends,
+    account: &Account<A>,
+    paint: Paint,
+    out: &mut Gathered<A>,
+) -> Result<(), AllocError>
+    ensures { OnOk result ((w : Said) × (out.new.octets.items ≡ lines paint.0 item.now (shown_words account.now.is_brief w))) }
+{
+    let first = first_of(item, words, ends, paint);
+    let sentence = account.sentence.as_str();
+    let cause = CauseLines {
+        paint,
+        phase: item.after.counts.phase,
+        cause: item.cause,
+        case: case_of_error(item, account.facts),
+        sentence,
+    };
+    let reason = ReasonLines {
+        paint,
+        ignored: item.ignored,
+        case: case_of_reason(item, account.facts),
+    };
+    let opening = part(words, 0, ends.opening);
+    let all_fields = part(words, ends.item, ends.fields);
+    let fields = detail(account.is_brief, all_fields);
+    let also = part(words, ends.fields, ends.also);
+    let sent = part(words, ends.also, ends.sent);
+    let all_changes = part(words, ends.sent, words.len());
+    let changes = detail(account.is_brief, all_changes);
+    gather(
+        &texts!(opening, first, fields, cause, also, reason, sent, changes),
+        out,
+    )
+}
+
+/// Whether nothing is said about an item: the preface, as it has to be.
+fn is_silent(item: ItemHead) -> bool
+    ensures { result ≡ is_silent item }
+{
+    match item {
+        ItemHead::Preface => true,
+        ItemHead::BadPreface | ItemHead::Oversize(_) | ItemHead::Frame(_) => false,
+    }
+}
+
+/// The text of an item, and memory that is used again for those after it.
+pub struct ItemLines<A: Allocator = Global> {
+    /// The text.
+    text: Gathered<A>,
+    /// The words that no definition has.
+    words: TextBuilder<A>,
+    /// The reader of the fields of answers.
+    answers: BlockReader<A>,
+}
+
+/// By hand, so that a function that drops one makes one call.
+impl<A: Allocator> Drop for ItemLines<A> {
+    fn drop(self) {
+        let Self {
+            text: _,
+            words: _,
+            answers: _,
+        } = self;
+    }
+}
+
+impl<A: Allocator> Model for ItemLines<A> {
+    ghost use Rattle.std.specs.Prelude.{ℕ, List};
+
+    ghost Value = { List ℕ };
+
+    ghost view = { λ l. l.text.octets.items };
+}
+
+impl<A: Allocator + Copy> ItemLines<A> {
+    /// No text yet.
+    pub fn new(alloc: A) -> Result<ItemLines<A>, AllocError> {
+        Ok(ItemLines {
+            text: Gathered::new(alloc),
+            words: TextBuilder::new(alloc),
+            answers: answer_reader(alloc)?,
+        })
+    }
+
+    /// The octets of the text.
+    pub fn octets(&self) -> &[u8]
+        ensures { result.now ≡ self.now }
+    {
+        self.text.octets.as_slice()
+    }
+
+    /// As if there were no text: the memory stays.
+    pub fn clear(&mut self)
+        ensures { self.new ≡ [] }
+    {
+        self.text.octets.clear();
+    }
+
+    /// The memory of the octets, whatever they are: none is left here.
+    pub fn take(&mut self, alloc: A) -> Vec<u8, A> {
+        mem::replace(&mut self.text.octets, Vec::new(alloc))
+    }
+
+    /// Puts octets in the place of those before.
+    pub fn set(&mut self, octets: Vec<u8, A>)
+        ensures { self.new ≡ octets.items }
+    {
+        self.text.octets = octets;
+    }
+
+    /// Puts the text of an item in the place of that before, and first that of the server's opening, if the item is the
+    /// first; that of the preface itself is empty. `reader` has the fields of its block. Of a brief account the lines of
+    /// fields, and of what changed, are left out.
+    ///
+    /// `AllocError` where memory is refused.
+    pub fn put(
+        &mut self,
+        alloc: A,
+        item: &Explained<'_>,
+        account: &Account<A>,
+        reader: &BlockReader<A>,
+        paint: Paint,
+    ) -> Result<(), AllocError>
+        ensures { OnOk result ((w : Said) × (self.new ≡ lines_of paint.0 item.now (shown_words account.now.is_brief w))) }
+    {
+        let (answers, said) = (&mut self.answers, &mut self.words);
+        let ends = say_words(alloc, item, account, reader, paint, answers, said);
+        let words = self.words.octets()?;
+        let out = &mut self.text;
+        if is_silent(item.what) {
+            return gather(&part(words, 0, ends.opening), out);
+        }
+        if ends.opening == 0 && item.cause.is_none() && item.ignored.is_none() {
+            return plain_lines(item, words, ends, account.is_brief, paint, out);
+        }
+        lines_with(item, words, ends, account, paint, out)
+    }
+}

@@ -1,8 +1,0 @@
-//! An item of a connection explained: it is taken with what was before it and what is after it, and what it is, what it
-//! changed and which rule it breaks are found. Explanations of whole inputs are h2_explain.
-//! The values are those of h2_item, h2_changes and h2_facts; h2_account shows them as text.
-#![tactic(auto)]
-
-pub mod explainer;
-mod moved;
-pub mod taking;

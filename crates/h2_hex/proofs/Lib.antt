@@ -1,3 +1,0 @@
-pub mod Blocks
-mod Pairs
-pub mod Relations

@@ -1,0 +1,258 @@
+//! What the words of the command line ask for is done over the devices that they name, and what there is to say about a fault
+//! is said.
+
+use crate::case_input::{CaseInput, case_input, path_of, refusal_of_case};
+use crate::commands::Commands;
+use crate::ending::{Ending, end};
+use crate::file_word::with_file;
+use crate::files::NamedFiles;
+use crate::input::{Given, Standard, input_of, is_session, refusal_for_devices};
+use crate::{Noted, SessionOutput, SessionState, WaitingOutput, version};
+use h2_cmd_args::Words;
+use h2_cmd_args::command::{Devices, Plan, Refusal, devices_of, parse};
+use h2_io::{FromRead, IntoWrite, Output};
+use std::io;
+use std::io::{BufWriter, Write};
+use std::process::ExitCode;
+
+/// How many octets of output are gathered before they are written.
+const GATHERED: usize = 32768;
+
+/// The words of the command line, the program's name first. A FILE that is the input is the value of `--in`.
+fn words_of(rt: &HostRuntime) -> io::Result<Words> {
+    let mut words = Words::new(rt.alloc());
+    for word in std::env::args(rt)? {
+        words.add(word.as_str())?;
+    }
+    match with_file(rt, &words)? {
+        Some(named) => Ok(named),
+        None => Ok(words),
+    }
+}
+
+/// Says why nothing is done: memory was refused, or a word is not UTF-8.
+fn refuse<W: Write>(output: &mut W, error: &io::Error) -> ExitCode {
+    let (text, status) = match error.kind() {
+        io::ErrorKind::InvalidData => ("error: a word of the command line is not UTF-8\n", 2),
+        _ => ("fault 0\n", 1),
+    };
+    match output.write_all(text.as_bytes()) {
+        Ok(()) => ExitCode::from(status),
+        Err(_) => ExitCode::from(3),
+    }
+}
+
+/// What words say of devices that are refused: whether they ask for quiet.
+fn refused_devices(words: &Words) -> Devices<'static> {
+    Devices {
+        file: "",
+        raw: false,
+        quiet: words
+            .as_slice()
+            .iter()
+            .any(|word| word.as_str() == "--quiet"),
+        prompt: "",
+    }
+}
+
+/// What the words say of devices. Where memory is refused for that, the words are refused for it.
+fn devices_said<'w>(
+    rt: &HostRuntime,
+    words: &'w Words,
+    asked: &mut Result<Plan<'w>, Refusal>,
+) -> Devices<'w> {
+    match devices_of(rt.alloc(), words) {
+        Some(devices) => devices,
+        None => {
+            if asked.is_ok() {
+                *asked = Err(Refusal::NoMemory);
+            }
+            refused_devices(words)
+        }
+    }
+}
+
+/// Runs a session over an input: its output is looked at on the way.
+fn run_session<C: Commands, O: Output, E: Output>(
+    rt: &HostRuntime,
+    commands: &C,
+    asked: &Result<Plan<'_>, Refusal>,
+    devices: Devices<'_>,
+    given: &mut Given<'_, '_, C>,
+    output: &mut O,
+    errors: &mut E,
+) -> u8 {
+    let mut files = NamedFiles { rt };
+    let has_dots = devices.prompt == "dot";
+    let state = given.state;
+    let line = given.first_command(devices);
+    let mut input = FromRead::new(&mut given.taken);
+    let mut watched = SessionOutput::new(
+        rt.alloc(),
+        output,
+        rt.stderr(),
+        devices.quiet,
+        has_dots,
+        state,
+        line,
+    );
+    commands.carry_out(
+        rt.alloc(),
+        asked,
+        &mut files,
+        &mut input,
+        &mut watched,
+        errors,
+    )
+}
+
+/// Does what the words ask for over an input; gives the status, and whether a sentence was written for the book.
+fn carry_out_over<C: Commands, W: Write>(
+    rt: &HostRuntime,
+    commands: &C,
+    asked: &Result<Plan<'_>, Refusal>,
+    devices: Devices<'_>,
+    given: &mut Given<'_, '_, C>,
+    output: &mut W,
+) -> (u8, bool) {
+    let mut stderr = rt.stderr();
+    let mut errors = IntoWrite::new(&mut stderr);
+    let mut noted = Noted::new(&mut errors);
+    let mut output = IntoWrite::new(output);
+    if is_session(asked) {
+        let status = run_session(rt, commands, asked, devices, given, &mut output, &mut noted);
+        return (status, noted.is_written());
+    }
+    let mut files = NamedFiles { rt };
+    let mut input = FromRead::new(&mut given.taken);
+    let status = commands.carry_out(
+        rt.alloc(),
+        asked,
+        &mut files,
+        &mut input,
+        &mut output,
+        &mut noted,
+    );
+    (status, noted.is_written())
+}
+
+/// Writes why the words are refused, with status 2.
+fn refuse_words<W: Write>(output: &mut W, text: &str) -> ExitCode {
+    if output.write_all(text.as_bytes()).is_err() || output.flush().is_err() {
+        return ExitCode::from(3);
+    }
+    ExitCode::from(2)
+}
+
+/// Does what the words ask for, and says what is to be said about a fault; `case` is the input where that is a case.
+fn run_over<'w, C: Commands>(
+    rt: &HostRuntime,
+    commands: &C,
+    words: &Words,
+    asked: &mut Result<Plan<'w>, Refusal>,
+    devices: Devices<'w>,
+    case: Option<Vec<u8>>,
+    gathered: &mut BufWriter<Standard<'_>>,
+) -> ExitCode {
+    let state = SessionState::new();
+    let mut given = input_of(rt, commands, asked, devices, case, &state);
+    let (status, is_said) = match &*asked {
+        Ok(Plan::Serve(plan)) => commands.serve(rt, plan, gathered),
+        _ => carry_out_over(rt, commands, asked, devices, &mut given, gathered),
+    };
+    let status = match gathered.flush() {
+        Ok(()) => status,
+        Err(_) => 3,
+    };
+    let ending = Ending {
+        status,
+        is_said,
+        unwritten: gathered.get_ref().failure(),
+    };
+    if !devices.quiet {
+        end(rt, words, asked, &given, ending);
+    }
+    ExitCode::from(status)
+}
+
+/// What is printed where words of a case are refused: the file, and then what clap says.
+fn refused_in(rt: &HostRuntime, path: &str, printed: &str) -> Refusal {
+    match format!(in rt.alloc(); "{path}, words of its lines ;@\n{printed}") {
+        Ok(text) => Refusal::Words(text),
+        Err(_) => Refusal::NoMemory,
+    }
+}
+
+/// What the words of a case ask for.
+fn asked_of_case<'w>(rt: &HostRuntime, path: &str, words: &'w Words) -> Result<Plan<'w>, Refusal> {
+    match parse(rt.alloc(), words) {
+        Err(Refusal::Words(printed)) => Err(refused_in(rt, path, printed.as_str())),
+        asked => asked,
+    }
+}
+
+/// Does what the words ask for over a case.
+fn run_case<C: Commands>(
+    rt: &HostRuntime,
+    commands: &C,
+    path: &str,
+    case: CaseInput,
+    gathered: &mut BufWriter<Standard<'_>>,
+) -> ExitCode {
+    let refusal = refusal_of_case(rt, path, &case);
+    let CaseInput { words, text, .. } = case;
+    let mut asked = match refusal {
+        Ok(None) => asked_of_case(rt, path, &words),
+        Ok(Some(text)) => return refuse_words(gathered, text.as_str()),
+        Err(_) => Err(Refusal::NoMemory),
+    };
+    let devices = devices_said(rt, &words, &mut asked);
+    run_over(
+        rt,
+        commands,
+        &words,
+        &mut asked,
+        devices,
+        Some(text),
+        gathered,
+    )
+}
+
+/// Does what the words ask for. The output is gathered into larger writes; where there is no memory for that, nothing
+/// is done.
+fn run_words<C: Commands>(rt: &HostRuntime, commands: &C, words: &Words) -> ExitCode {
+    let mut asked = parse(rt.alloc(), words);
+    if version::is_asked(&asked) {
+        return version::print(rt);
+    }
+    let output = WaitingOutput::new(rt, rt.stdout());
+    let mut gathered = match BufWriter::with_capacity(rt.alloc(), GATHERED, output) {
+        Ok(gathered) => gathered,
+        Err(error) => return refuse(&mut rt.stdout(), &error),
+    };
+    let devices = devices_said(rt, words, &mut asked);
+    if let Some(text) = refusal_for_devices(&asked, devices) {
+        return refuse_words(&mut gathered, text);
+    }
+    let path = path_of(&asked, devices);
+    match case_input(rt, words, &mut asked, devices) {
+        Some(case) => run_case(rt, commands, path, case, &mut gathered),
+        None => run_over(
+            rt,
+            commands,
+            words,
+            &mut asked,
+            devices,
+            None,
+            &mut gathered,
+        ),
+    }
+}
+
+/// Does what the words of the command line ask for, by these commands.
+pub fn run_program<C: Commands>(rt: &HostRuntime, commands: &C) -> ExitCode {
+    match words_of(rt) {
+        Ok(words) => run_words(rt, commands, &words),
+        Err(error) => refuse(&mut rt.stdout(), &error),
+    }
+}

@@ -1,5 +1,0 @@
-use Rattle.std.proofs.Common.{rules}
-use Rattle.h2_instruction.proofs.instruction.Mode.prefix.Goals as goal
-
-pub returns-in-IncrementalIndexing : goal.returns-in-IncrementalIndexing
-returns-in-IncrementalIndexing c = search rules

@@ -1,0 +1,5 @@
+pub mod Appending
+pub mod HexTexts
+pub mod HexBlocks
+mod HexPairs
+pub mod HexRelations

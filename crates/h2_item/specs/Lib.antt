@@ -1,3 +1,0 @@
-pub mod ErrorContext
-pub mod Item
-pub mod Notes

@@ -1,5 +1,0 @@
-use Rattle.h2_laws.proofs.LocalSettingsLaws.{settings-kept}
-use Rattle.h2_laws.proofs.trace_laws.own_settings_wait_for_their_acknowledgement.Goals as goal
-
-pub returns : goal.returns
-returns c = settings-kept

@@ -1,6 +1,0 @@
-use Rattle.std.proofs.Common.{◌∙◌}
-use Rattle.h2_mark.proofs.KnownNames.{length-first}
-use Rattle.h2_mark.proofs.mark.KnownName.of.Goals as goal
-
-pub returns : goal.returns
-returns c = c.by_length.ensures ∙ length-first c.args.name.now

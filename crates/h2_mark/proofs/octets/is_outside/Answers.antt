@@ -1,5 +1,0 @@
-use Rattle.std.proofs.Common.{rules}
-use Rattle.h2_mark.proofs.octets.is_outside.Goals as goal
-
-pub returns-else-octet-le90 : goal.returns-else-octet-le90
-returns-else-octet-le90 c = search rules

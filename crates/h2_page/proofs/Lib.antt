@@ -1,0 +1,5 @@
+pub mod Given
+pub mod Runs
+pub mod Told
+pub mod Worded
+mod Blocks

@@ -1,0 +1,4 @@
+pub mod Web
+pub mod Whys
+pub mod Words
+pub mod Token

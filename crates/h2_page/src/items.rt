@@ -1,0 +1,127 @@
+//! Why each item of a run was an error, or was ignored. Definitions: `specs/Whys.antt`.
+
+ghost use Rattle.std.specs.Prelude.{◌≡◌, ◌<◌, ◌^◌, ◌++◌, ℕ, List, [], Some, false, length, IfOk, IfErr, OnOk};
+ghost use Rattle.std.specs.Io.KnownBytes.{Appends};
+ghost use Rattle.std.specs.List.{concat};
+ghost use Rattle.h2_spec.specs.Trace.{trace};
+ghost use Rattle.h2_conn.specs.Connection.{going};
+ghost use Rattle.h2_cmd_play.specs.Places.{StopsAt, items_shown, not_written, text_shown};
+ghost use Rattle.h2_cmd_play.specs.declared.places.PlacesFault.TheVariants.{NoMemory, NotWritten};
+ghost use Rattle.h2_page.specs.Whys.{TakesAnyWhy, why_text, why_texts};
+
+use h2_cmd_play::{PlacesFault, ShownPlaces, write_shown};
+use h2_conn::Conn;
+use h2_explain_words::why::WhyText;
+use h2_io::{DeviceFault, Number, Output, Text, texts};
+use h2_spec::causes::Cause;
+use h2_spec::ignored::Ignored;
+use h2_spec::octets::octets_from;
+use std::alloc::{AllocError, Allocator};
+
+/// An item that was taken: how many octets it has, whether it ended the connection, and why it was an error or was
+/// ignored.
+#[derive(Clone, Copy)]
+pub struct TakenWhy {
+    pub used: usize,
+    pub has_ended: bool,
+    pub cause: Option<Cause>,
+    pub ignored: Option<Ignored>,
+}
+
+/// The number of an item, and what `why` of `debug` says of it.
+#[derive(Clone, Copy)]
+struct ItemWhy {
+    place: usize,
+    taken: TakenWhy,
+}
+
+#[tactic(auto, using(h2_io::proofs::Appending::both), unfolding(crate::specs::Whys::why_text))]
+impl Text for ItemWhy {
+    ghost text = { λ w. why_text w.place w.taken.has_ended w.taken.cause w.taken.ignored };
+
+    fn write_to<O: Output>(&self, output: &mut O) -> Result<(), DeviceFault> {
+        let place = Number(self.place as u64);
+        texts!("item ", place, "\n").write_to(output)?;
+        let why = WhyText {
+            has_ended: self.taken.has_ended,
+            cause: self.taken.cause,
+            ignored: self.taken.ignored,
+        };
+        why.write_to(output)
+    }
+}
+
+/// Writes why an item was an error or was ignored, where it is shown. Takes no memory.
+fn write_why<O: Output>(
+    output: &mut O,
+    shown: ShownPlaces,
+    place: usize,
+    taken: TakenWhy,
+) -> Result<(), PlacesFault>
+    requires { O.has_failed output.old ≡ false }
+    ensures octets { OnOk result (Appends (O.written output.old) (O.written output.new) (text_shown shown.first place (why_text place taken.has_ended taken.cause taken.ignored))) }
+    ensures err { IfErr result (λ why. why ≡ NotWritten) }
+    ensures flag { O.has_failed output.new ≡ not_written result }
+{
+    write_shown(output, shown, place, &ItemWhy { place, taken })
+}
+
+/// Takes the next item of the octets; `None` where there is none.
+fn take_why<A: Allocator + Copy>(
+    alloc: A,
+    conn: &mut Conn<'_, A>,
+    octets: &[u8],
+) -> Result<Option<TakenWhy>, AllocError>
+    requires { conn.old ≡ going conn.old.state [] }
+    ensures { IfOk result (TakesAnyWhy conn.old.state octets.now conn.new) }
+{
+    let mut sent = Vec::new(alloc);
+    match conn.take_and_report(octets, &mut sent) {
+        Ok(Some(taken)) => Ok(Some(TakenWhy {
+            used: taken.used,
+            has_ended: conn.ended().is_some(),
+            cause: taken.cause,
+            ignored: taken.ignored,
+        })),
+        Ok(None) => Ok(None),
+        Err(refused) => Err(refused),
+    }
+}
+
+/// Takes each item of a connection over the octets, from place 1 on, until none is left that is shown, and writes why
+/// it was an error or was ignored.
+///
+/// `NoMemory` where memory is refused: those of some first items were written. `NotWritten` where a write failed.
+pub(crate) fn write_whys<A: Allocator + Copy, O: Output>(
+    alloc: A,
+    conn: &mut Conn<'_, A>,
+    octets: &[u8],
+    shown: ShownPlaces,
+    output: &mut O,
+) -> Result<(), PlacesFault>
+    requires new { conn.old ≡ going conn.old.state [] }
+    requires few { length octets.now < 2 ^ 63 }
+    requires writer { O.has_failed output.old ≡ false }
+    ensures printed { let whys = why_texts 1 conn.old.state (trace conn.old.state octets.now).events in
+        OnOk result ((held : List ℕ) → O.written output.old ≡ Some held → O.written output.new ≡ Some (held ++ concat (items_shown shown whys))) }
+    ensures cut { let whys = why_texts 1 conn.old.state (trace conn.old.state octets.now).events in
+        IfErr result (λ why. (held : List ℕ) → O.written output.old ≡ Some held → StopsAt shown whys held (O.written output.new) why) }
+{
+    let mut at = 0usize;
+    let mut place = 0usize;
+    while shown.goes_on(place) {
+        match take_why(alloc, conn, octets_from(octets, at)) {
+            Ok(Some(taken)) => {
+                at += taken.used;
+                place += 1;
+                match write_why(output, shown, place, taken) {
+                    Ok(()) => {}
+                    Err(why) => return Err(why),
+                }
+            }
+            Ok(None) => return Ok(()),
+            Err(_) => return Err(PlacesFault::NoMemory),
+        }
+    }
+    Ok(())
+}

@@ -1,5 +1,0 @@
-use Rattle.std.proofs.Common.{rules}
-use Rattle.h2_play.proofs.answer.entry_from.Goals as goal
-
-pub returns : goal.returns
-returns g c = search rules

@@ -1,5 +1,0 @@
-use Rattle.std.proofs.Common.{rules}
-use Rattle.h2_rules.proofs.control.on_ping.Goals as goal
-
-pub returns-clause-rule : goal.returns-clause-rule
-returns-clause-rule c = search rules

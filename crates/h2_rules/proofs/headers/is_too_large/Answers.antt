@@ -1,5 +1,0 @@
-use Rattle.std.proofs.Common.{rules}
-use Rattle.h2_rules.proofs.headers.is_too_large.Goals as goal
-
-pub returns : goal.returns
-returns c = search rules

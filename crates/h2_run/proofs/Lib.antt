@@ -1,6 +1,0 @@
-mod Checked
-mod Explained
-mod InMemory
-mod Parsed
-mod Served
-mod Shown

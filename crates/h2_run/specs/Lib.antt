@@ -1,4 +1,0 @@
-pub mod CheckProgram
-pub mod ExplainProgram
-pub mod Memory
-pub mod ProgramEnd

@@ -1,0 +1,8 @@
+-- The table of rules: causes, reasons, duties, sentences.
+pub mod Cause
+pub mod CauseWords
+pub mod Errors
+pub mod Ignored
+pub mod IgnoredWords
+pub mod Rules
+pub mod SpecialCases

@@ -1,0 +1,18 @@
+//! Calls of the library, for a reader who wants to make them: integers, strings, field blocks, frames, streams and a
+//! connection. Each call that takes memory and that the program does not make is made here once.
+//! Tests alone. Expected values come from RFC 9113, RFC 7541 and computation by hand; more of them are computed from the
+//! definitions, in `h2_spec_examples/proofs`.
+#![tactic(auto)]
+
+#[cfg(test)]
+mod blocks;
+#[cfg(test)]
+mod connection;
+#[cfg(test)]
+mod frames;
+#[cfg(test)]
+mod integers;
+#[cfg(test)]
+mod same;
+#[cfg(test)]
+mod streams;

@@ -1,5 +1,0 @@
-use Rattle.std.proofs.Common.{refl}
-use Rattle.h2_text.proofs.show.index_of.Goals as goal
-
-pub returns : goal.returns
-returns c = refl

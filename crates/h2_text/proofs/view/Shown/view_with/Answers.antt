@@ -1,5 +1,0 @@
-use Rattle.std.proofs.Common.{rules}
-use Rattle.h2_text.proofs.view.Shown.view_with.Goals as goal
-
-pub returns : goal.returns
-returns g c = search rules

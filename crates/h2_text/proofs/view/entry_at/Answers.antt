@@ -1,5 +1,0 @@
-use Rattle.h2_text.proofs.Views.{from-first}
-use Rattle.h2_text.proofs.view.entry_at.Goals as goal
-
-pub returns : goal.returns
-returns g c = from-first c.args.place c.args.table.now.table.entries _ c.get.ensures

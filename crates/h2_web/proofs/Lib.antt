@@ -1,4 +1,0 @@
-pub mod Given
-pub mod Runs
-pub mod Told
-pub mod Worded

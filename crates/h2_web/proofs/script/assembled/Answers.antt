@@ -1,4 +1,0 @@
-use Rattle.h2_web.proofs.script.assembled.Goals as goal
-
-pub returns-in_default : goal.returns-in_default
-returns-in_default g c = (c.new.ensures.items, c.in_default.ensures.cases.0)

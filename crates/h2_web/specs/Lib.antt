@@ -1,3 +1,0 @@
-pub mod Web
-pub mod Whys
-pub mod Words
