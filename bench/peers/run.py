@@ -26,7 +26,7 @@ PIECE = "8000"
 
 # What `play` does, by the names of functions; the first is the connection's. A function that the compiler put into its caller counts there.
 PARTS = {
-    "connection": r"h2_cmd_batch::play::played\b",
+    "connection": r"h2_cmd_batch::commands::play::played\b",
     "text in": r"h2_cmd_batch::input::read_all\b",
     "hex in": r"h2_cmd_batch::input::read_hex\b",
     "hex out": r"h2_io::hex_text::HexTextText::write_to\b",

@@ -13,8 +13,8 @@ use Rattle.h2_spec.proofs.ParseLaws.{Uses, parse_all-step}
 use Rattle.h2_cmd_batch.specs.Each.{not_written, printed_after}
 use Rattle.h2_cmd_batch.specs.Printing.{OrCutShort, Printed, failed_after}
 use Rattle.h2_cmd_batch.specs.TableProgram.{behind_line, command_of, first_line, line_at, line_end, lines_of, obeyed, printed_lines, printed_of, printed_parts, table_parts, table_text, used_to}
-use Rattle.h2_cmd_batch.specs.declared.each.PrintFault.{PrintFault}
-use Rattle.h2_cmd_batch.specs.declared.each.PrintFault.TheVariants.{Fault, NotWritten}
+use Rattle.h2_cmd_batch.specs.declared.commands.each.PrintFault.{PrintFault}
+use Rattle.h2_cmd_batch.specs.declared.commands.each.PrintFault.TheVariants.{Fault, NotWritten}
 use Rattle.h2_cmd_batch.specs.declared.fault.BenchFault.TheVariants.{NoMemory}
 use Rattle.h2_cmd_batch.proofs.Written.{more-written}
 

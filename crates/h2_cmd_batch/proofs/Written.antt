@@ -6,8 +6,8 @@ use Rattle.std.proofs.lemmas.List.{append-nil}
 use Rattle.h2_cmd_batch.specs.Reports.{Gives, seen}
 use Rattle.h2_cmd_batch.specs.Each.{printed_after}
 use Rattle.h2_cmd_batch.specs.Printing.{OrCutShort, Printed, done, failed}
-use Rattle.h2_cmd_batch.specs.declared.each.PrintFault.{PrintFault}
-use Rattle.h2_cmd_batch.specs.declared.each.PrintFault.TheVariants.{Fault}
+use Rattle.h2_cmd_batch.specs.declared.commands.each.PrintFault.{PrintFault}
+use Rattle.h2_cmd_batch.specs.declared.commands.each.PrintFault.TheVariants.{Fault}
 use Rattle.h2_cmd_batch.specs.declared.fault.BenchFault.{BenchFault}
 use Rattle.h2_cmd_batch.specs.declared.fault.BenchFault.TheVariants.{NoMemory}
 use Rattle.h2_cmd_batch.specs.declared.report.Report.{Report}

@@ -5,8 +5,8 @@ use Rattle.h2_spec.specs.State.{State}
 use Rattle.h2_spec.specs.Texts.View.{view}
 use Rattle.h2_cmd_batch.specs.Printing.{OrCutShort, Printed, done, failed_after}
 use Rattle.h2_cmd_batch.specs.Printed.{item_text, places_from, sent_and_state}
-use Rattle.h2_cmd_batch.specs.declared.each.PrintFault.{PrintFault}
-use Rattle.h2_cmd_batch.specs.declared.each.PrintFault.TheVariants.{Fault, NotWritten}
+use Rattle.h2_cmd_batch.specs.declared.commands.each.PrintFault.{PrintFault}
+use Rattle.h2_cmd_batch.specs.declared.commands.each.PrintFault.TheVariants.{Fault, NotWritten}
 
 -- whether a write failed
 abbrev pub not_written : Result (Unit {0}) PrintFault → Bool

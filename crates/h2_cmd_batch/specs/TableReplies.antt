@@ -3,8 +3,8 @@ use Rattle.std.specs.Prelude.{ℕ, List}
 use Rattle.h2_spec.specs.Hpack.DynamicTable.{LimitedTable}
 use Rattle.h2_cmd_batch.specs.Faults.{fault_line}
 use Rattle.h2_cmd_batch.specs.TableProgram.{counts_line}
-use Rattle.h2_cmd_batch.specs.declared.table.TableReply.{TableReply}
-use Rattle.h2_cmd_batch.specs.declared.table.TableReply.TheVariants.{Counts, Refused}
+use Rattle.h2_cmd_batch.specs.declared.commands.table.TableReply.{TableReply}
+use Rattle.h2_cmd_batch.specs.declared.commands.table.TableReply.TheVariants.{Counts, Refused}
 
 -- the text of a reply, of this table
 abbrev pub reply_text : LimitedTable → TableReply → List ℕ

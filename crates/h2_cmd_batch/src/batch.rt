@@ -14,15 +14,15 @@ ghost use Rattle.h2_cmd_batch.specs.Printed.{OrCutShort, done, failed, failed_as
 ghost use Rattle.h2_cmd_batch.specs.declared.fault.BenchFault.TheVariants.{NoMemory};
 
 use crate::advice::advise_batch;
-use crate::asm::asm_report;
 use crate::books::book_for_words;
-use crate::dis::dis_text;
-use crate::each::{PrintFault, write_text};
+use crate::commands::asm::asm_report;
+use crate::commands::dis::dis_text;
+use crate::commands::each::{PrintFault, write_text};
+use crate::commands::play::write_play;
+use crate::commands::table::write_table;
 use crate::fault::{BenchFault, FaultText};
 use crate::input::read_all;
-use crate::play::write_play;
 use crate::report::{Report, whole};
-use crate::table::write_table;
 use h2_cmd_args::command::{Batch, Play};
 use h2_cmd_book_file::Files;
 use h2_io::{Input, Output, Text};

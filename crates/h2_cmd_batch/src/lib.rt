@@ -5,24 +5,20 @@
 
 mod advice;
 mod answer;
-mod asm;
 mod batch;
 mod books;
 mod case_setup;
-mod dis;
-mod each;
+mod commands;
 mod fault;
 mod input;
-mod play;
 mod report;
-mod table;
 
 pub use advice::advise;
 pub use answer::parse_answer;
 pub use batch::{print, print_end, print_fault, print_fault_as, respond};
 pub use books::{book_for_words, write_reason};
 pub use case_setup::{Case, CaseSetup, Common, OwnFault, RefusedWords, own_of, words_line};
-pub use each::PrintFault;
+pub use commands::each::PrintFault;
+pub use commands::play::refused_limits;
 pub use fault::BenchFault;
 pub use input::{read_all, read_hex};
-pub use play::refused_limits;

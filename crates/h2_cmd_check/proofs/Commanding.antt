@@ -7,8 +7,8 @@ use Rattle.h2_debug.specs.Debugging.{Debugging}
 use Rattle.h2_debug.specs.Places.{at, cause_at, ignored_at}
 use Rattle.h2_debug.specs.Commands.{Command, command_of}
 use Rattle.h2_debug.specs.Replies.{Obeys, answer, fault_line, number_line, place_text, reply_text}
-use Rattle.h2_debug.specs.declared.reply.Reply.{Reply}
-use Rattle.h2_debug.specs.declared.reply.Reply.TheVariants as code
+use Rattle.h2_debug.specs.declared.commands.reply.Reply.{Reply}
+use Rattle.h2_debug.specs.declared.commands.reply.Reply.TheVariants as code
 use Rattle.h2_spec.specs.State.{ended_code}
 use Rattle.h2_spec.specs.declared.causes.Cause.{Cause}
 use Rattle.h2_spec.specs.declared.ignored.Ignored.{Ignored}

@@ -4,8 +4,8 @@ use Rattle.std.specs.List.{starts_with}
 use Rattle.h2_debug.specs.Debugging.{Debugging}
 use Rattle.h2_debug.specs.Commands.{command_of}
 use Rattle.h2_debug.specs.Replies.{Answer, answer, shown_text}
-use Rattle.h2_debug.specs.declared.reply.Reply.{Reply}
-use Rattle.h2_debug.specs.declared.reply.Reply.TheVariants as code
+use Rattle.h2_debug.specs.declared.commands.reply.Reply.{Reply}
+use Rattle.h2_debug.specs.declared.commands.reply.Reply.TheVariants as code
 
 -- what a debugger answers to a line where memory is given, and the debugger after it
 unfoldable pub answered : Debugging → List ℕ → Answer

@@ -4,7 +4,7 @@ ghost use Rattle.std.specs.Prelude.{◌≡◌, ◌<◌, is_some, not, IfOk, IfSo
 ghost use Rattle.h2_debug.specs.Loaded.{loaded};
 ghost use Rattle.h2_cmd_check.specs.Commands.{answered, fault_in, is_memory_fault, is_refusal};
 
-use h2_debug::obey::obey;
+use h2_debug::commands::obey::obey;
 use h2_debug::{Debugger, Reply, command_of};
 use h2_request_book::book::Book;
 use h2_spec::connection::Config;

@@ -6,7 +6,7 @@ use Rattle.h2_cmd_cases.specs.Files.{case_length, cases_from, cases_in, preamble
 use Rattle.h2_cmd_check.specs.Blessed.{kept_line}
 use Rattle.h2_cmd_cases.proofs.CaseLists.{case-at, none-left}
 use Rattle.h2_cmd_batch.specs.declared.case_setup.CaseSetup.{CaseSetup}
-use Rattle.h2_cmd_batch.specs.declared.each.PrintFault.{PrintFault}
+use Rattle.h2_cmd_batch.specs.declared.commands.each.PrintFault.{PrintFault}
 use Rattle.h2_cmd_run.specs.Blessing.{Blesses, BlessesFile, BlessesFiles, PrintsFile, PrintsFiles, blessed_case, blessed_lines, kept_lines}
 
 -- one case more

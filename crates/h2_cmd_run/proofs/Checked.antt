@@ -13,8 +13,8 @@ use Rattle.h2_cmd_run.specs.CheckProgram.{AreReported, ChecksFiles, IsChecked, I
 use Rattle.h2_cmd_batch.specs.Input.{most}
 use Rattle.h2_cmd_batch.specs.Printing.{failed_after}
 use Rattle.h2_cmd_run.specs.declared.check.CaseTally.{CaseTally}
-use Rattle.h2_cmd_batch.specs.declared.each.PrintFault.{PrintFault}
-use Rattle.h2_cmd_batch.specs.declared.each.PrintFault.TheVariants.{Fault}
+use Rattle.h2_cmd_batch.specs.declared.commands.each.PrintFault.{PrintFault}
+use Rattle.h2_cmd_batch.specs.declared.commands.each.PrintFault.TheVariants.{Fault}
 use Rattle.h2_cmd_batch.specs.declared.fault.BenchFault.TheVariants.{NoMemory}
 use Rattle.h2_cmd_batch.specs.declared.case_setup.CaseSetup.{CaseSetup}
 

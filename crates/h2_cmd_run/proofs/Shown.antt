@@ -8,7 +8,7 @@ use Rattle.h2_explain.specs.declared.run.Form.{Form}
 use Rattle.h2_serve.specs.Lines.{listening_line}
 use Rattle.h2_serve.specs.Ports.{Event, Listening, localhost, start_of}
 use Rattle.h2_serve.specs.Shown.{GainsAllShown, clients_status}
-use Rattle.h2_serve.specs.declared.explain.Clients.{Clients}
+use Rattle.h2_serve.specs.declared.explained.explain.Clients.{Clients}
 use Rattle.h2_serve.specs.declared.fault.ServeFault.{ServeFault}
 use Rattle.h2_cmd_run.specs.ProgramEnd.{EndsShown}
 

@@ -17,8 +17,8 @@ use Rattle.h2_cmd_batch.specs.CommandEnd.{PrintsSome}
 use Rattle.h2_cmd_batch.specs.Input.{most}
 use Rattle.h2_cmd_batch.specs.Printing.{Printed, failed, failed_after, refused}
 use Rattle.h2_cmd_run.specs.declared.check.CaseTally.{CaseTally}
-use Rattle.h2_cmd_batch.specs.declared.each.PrintFault.{PrintFault}
-use Rattle.h2_cmd_batch.specs.declared.each.PrintFault.TheVariants.{Fault, NotWritten}
+use Rattle.h2_cmd_batch.specs.declared.commands.each.PrintFault.{PrintFault}
+use Rattle.h2_cmd_batch.specs.declared.commands.each.PrintFault.TheVariants.{Fault, NotWritten}
 use Rattle.h2_cmd_batch.specs.declared.fault.BenchFault.TheVariants.{NoMemory}
 use Rattle.h2_cmd_batch.specs.declared.case_setup.CaseSetup.{CaseSetup}
 use Rattle.h2_cmd_batch.specs.declared.case_setup.Common.{Common}

@@ -19,8 +19,8 @@ use Rattle.h2_cmd_batch.specs.Input.{most}
 use Rattle.h2_io.specs.HexText.{octets_spelled}
 use Rattle.h2_cmd_batch.specs.Printing.{Printed, failed, failed_as, failed_after_as, refused_as}
 use Rattle.h2_cmd_batch.specs.CommandEnd.{PrintsSome}
-use Rattle.h2_cmd_batch.specs.declared.each.PrintFault.{PrintFault}
-use Rattle.h2_cmd_batch.specs.declared.each.PrintFault.TheVariants.{Fault, NotWritten}
+use Rattle.h2_cmd_batch.specs.declared.commands.each.PrintFault.{PrintFault}
+use Rattle.h2_cmd_batch.specs.declared.commands.each.PrintFault.TheVariants.{Fault, NotWritten}
 use Rattle.h2_cmd_run.specs.declared.explain.ExplainOutcome.{ExplainOutcome}
 use Rattle.h2_cmd_batch.specs.declared.fault.BenchFault.TheVariants.{BadConfig, BadHex, NoMemory, Read}
 

@@ -6,15 +6,15 @@ use Rattle.h2_spec.specs.declared.connection.Config.{Config}
 use Rattle.h2_cmd_book_file.specs.Entries.{Directory}
 use Rattle.h2_explain.specs.declared.run.Form.{Form}
 use Rattle.h2_spec.specs.State.{is_allowed}
-use Rattle.h2_serve.specs.declared.drive_fault.DriveEnd.{DriveEnd}
-use Rattle.h2_serve.specs.declared.drive_fault.DriveFault.{DriveFault}
+use Rattle.h2_serve.specs.declared.driving.drive_fault.DriveEnd.{DriveEnd}
+use Rattle.h2_serve.specs.declared.driving.drive_fault.DriveFault.{DriveFault}
 use Rattle.h2_serve.specs.Faults as serving
 use Rattle.h2_serve.specs.Lines.{end_lines, listening_line}
 use Rattle.h2_serve.specs.Wires.{grown}
 use Rattle.h2_serve.specs.Ports.{Event, Listening, ListensSome, localhost, start_of}
 use Rattle.h2_serve.specs.Serves.{Gains, Serves}
 use Rattle.h2_serve.specs.Shown.{GainsAllShown, clients_status}
-use Rattle.h2_serve.specs.declared.explain.Clients.{Clients}
+use Rattle.h2_serve.specs.declared.explained.explain.Clients.{Clients}
 use Rattle.h2_serve.specs.declared.fault.ServeFault.{ServeFault}
 use Rattle.h2_serve.specs.declared.fault.ServeFault.TheVariants as server
 use Rattle.h2_debug.specs.Session as session

@@ -14,7 +14,7 @@ ghost use Rattle.h2_cmd_run.specs.Blessing.{EndsBless};
 ghost use Rattle.h2_cmd_run.specs.CheckProgram.{ChecksFiles, EndsCheck, IsChecked, PlansCases, Reports, ReportsOne, all_subjects, cases_if, checked_after, common_of, first_tally, is_failure, not_checked, plan_line, subject, subjects_of, tallied, version_line};
 ghost use Rattle.h2_cmd_batch.specs.CommandEnd.{Prints, PrintsSome};
 ghost use Rattle.h2_cmd_batch.specs.Each.{not_written};
-ghost use Rattle.h2_cmd_batch.specs.declared.each.PrintFault.TheVariants.{Fault};
+ghost use Rattle.h2_cmd_batch.specs.declared.commands.each.PrintFault.TheVariants.{Fault};
 ghost use Rattle.h2_cmd_batch.specs.declared.fault.BenchFault.TheVariants.{NoMemory};
 ghost use Rattle.h2_cmd_batch.specs.declared.case_setup.CaseSetup.{CaseSetup};
 

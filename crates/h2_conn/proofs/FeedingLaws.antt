@@ -14,7 +14,7 @@ use Rattle.h2_frame.specs.Rest.{Rest}
 use Rattle.h2_frame.proofs.MissingLaws.{missing-some}
 use Rattle.h2_conn.specs.Connection.{Connection, Fits, IsAtRest, awaits_preface, connection, going, halted, is_ended}
 use Rattle.h2_conn.specs.First.{TakesFirst}
-use Rattle.h2_conn.specs.declared.one.One as code
+use Rattle.h2_conn.specs.declared.feed.one.One as code
 use Rattle.h2_conn.specs.Runs.{Feeds, FeedsAs, FeedsOne, Halts, Takes, TakesOne, Waits, fed}
 use Rattle.h2_spec.proofs.ParseLaws.{Uses}
 use Rattle.h2_spec.proofs.TraceLaws.{event-uses}

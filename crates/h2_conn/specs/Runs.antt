@@ -9,7 +9,7 @@ use Rattle.h2_spec.specs.Opening.{opening_octets}
 use Rattle.h2_spec.specs.State.{State, opening}
 use Rattle.h2_spec.specs.Trace.{Event, Run, left_by, next_event, sent_octets, trace}
 use Rattle.h2_spec.specs.Texts.View.{View, view}
-use Rattle.h2_conn.specs.declared.one.One as code
+use Rattle.h2_conn.specs.declared.feed.one.One as code
 use Rattle.h2_conn.specs.Connection.{Connection, going, halted}
 use Rattle.h2_conn.specs.Does.{AreShort}
 

@@ -10,8 +10,8 @@ ghost use Rattle.h2_conn.specs.Checkpoint.{IsConsistent, Precedes, checkpoint_of
 ghost use Rattle.h2_conn.specs.Follows.{Follows, is_reset_by};
 
 use crate::conn::Conn;
-use crate::kept_block::{KeptBlock, keep_open, restore_open};
-use crate::open_block::OpenBlock;
+use crate::field_block::kept_block::{KeptBlock, keep_open, restore_open};
+use crate::field_block::open_block::OpenBlock;
 use crate::state::State;
 use h2_request_book::book::Book;
 use h2_spec::connection::{Config, ConnectionState, Purpose};

@@ -25,12 +25,12 @@ ghost use Rattle.h2_spec.specs.Trace.{next_item};
 
 use crate::checkpoint::Checkpoint;
 use crate::fault::ConnFault;
-use crate::feeding::{take_one, take_piece};
-use crate::first::empty_splitter;
-use crate::one::One;
-use crate::open_block::fields_at_hand;
+use crate::feed::feeding::{take_one, take_piece};
+use crate::feed::first::empty_splitter;
+use crate::feed::one::One;
+use crate::field_block::open_block::fields_at_hand;
+use crate::field_block::scratch::Scratch;
 use crate::report::{TakenItem, report_first_in_order};
-use crate::scratch::Scratch;
 use crate::state::State;
 use crate::view::View;
 use h2_conn_send::write_opening;

@@ -11,8 +11,8 @@ ghost use Rattle.h2_conn.specs.Reports.{item_head, reported, used_by};
 ghost use Rattle.h2_conn.specs.Shown.{Shows, fields_at_hand, next_fields};
 
 use crate::conn::is_ended;
-use crate::first::awaits_preface;
-use crate::scratch::Scratch;
+use crate::feed::first::awaits_preface;
+use crate::field_block::scratch::Scratch;
 use crate::state::State;
 use h2_frame::{Item, Outgoing, first_item};
 use h2_spec::causes::Cause;

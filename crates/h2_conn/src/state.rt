@@ -7,7 +7,7 @@ ghost use Rattle.h2_conn_rules.specs.Sound.{AreInRange, HasBody, IsSoundState, I
 ghost use Rattle.h2_spec.specs.State.{configured, opening, opening_core};
 ghost use Rattle.h2_spec.specs.Stream.{stream_at};
 
-use crate::open_block::{OpenBlock, copy_of};
+use crate::field_block::open_block::{OpenBlock, copy_of};
 use h2_request_book::book::Book;
 use h2_spec::connection::{Config, ConnectionState, Phase};
 use h2_spec::flow::{Credit, LocalSettings, Settings, Window};

@@ -3,7 +3,7 @@
 ghost use Rattle.std.specs.Prelude.{◌≡◌};
 ghost use Rattle.h2_spec.specs.Texts.View.{shown_block, view};
 
-use crate::open_block::OpenBlock;
+use crate::field_block::open_block::OpenBlock;
 use crate::state::State;
 use h2_conn_view::view::Shown;
 pub use h2_conn_view::view::View;

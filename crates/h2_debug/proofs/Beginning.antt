@@ -12,10 +12,10 @@ use Rattle.h2_debug.specs.Reading.{IsCut, most}
 use Rattle.h2_debug.specs.Responses.{IsRefusal, IsResponse}
 use Rattle.h2_debug.specs.Session.{IsAnswered, IsFollowed, IsGiven, IsLoaded, IsSession, Printed, Prints, closed, failed}
 use Rattle.h2_debug.specs.Takes.{TakesFirst}
-use Rattle.h2_debug.specs.declared.session_fault.SessionFault.{SessionFault}
-use Rattle.h2_debug.specs.declared.session_fault.SessionFault.TheVariants.{NoMemory}
-use Rattle.h2_debug.specs.declared.line.LineEnd.{LineEnd}
-use Rattle.h2_debug.specs.declared.line.LineEnd.TheVariants.{Input, LineFeed}
+use Rattle.h2_debug.specs.declared.commands.session_fault.SessionFault.{SessionFault}
+use Rattle.h2_debug.specs.declared.commands.session_fault.SessionFault.TheVariants.{NoMemory}
+use Rattle.h2_debug.specs.declared.commands.line.LineEnd.{LineEnd}
+use Rattle.h2_debug.specs.declared.commands.line.LineEnd.TheVariants.{Input, LineFeed}
 use Rattle.h2_debug.proofs.Giving.{cut-given, end-given, known, last-given, line-given}
 
 -- nothing more can be read

@@ -7,8 +7,8 @@ use Rattle.h2_debug.specs.Reading.{IsCut, TakesLast, TakesLine, most}
 use Rattle.h2_debug.specs.Replies.{Obeys}
 use Rattle.h2_debug.specs.Session.{IsAnswered, IsFollowed, Printed, closed}
 use Rattle.h2_debug.specs.Takes.{TakesNext}
-use Rattle.h2_debug.specs.declared.line.LineEnd.{LineEnd}
-use Rattle.h2_debug.specs.declared.line.LineEnd.TheVariants.{Input, LineFeed}
+use Rattle.h2_debug.specs.declared.commands.line.LineEnd.{LineEnd}
+use Rattle.h2_debug.specs.declared.commands.line.LineEnd.TheVariants.{Input, LineFeed}
 use Rattle.h2_debug.proofs.Giving.{cut-given, end-given, last-given, line-given}
 
 -- a text, and after it what is reported

@@ -5,8 +5,8 @@ use Rattle.h2_spec.specs.declared.connection.Config.{Config}
 use Rattle.h2_spec.specs.Requests.Answer.{Entry}
 use Rattle.h2_debug.specs.Debugging.{Debugging}
 use Rattle.h2_debug.specs.Loaded.{loaded}
-use Rattle.h2_debug.specs.declared.session_fault.SessionFault.{SessionFault}
-use Rattle.h2_debug.specs.declared.session_fault.SessionFault.TheVariants.{BadConfig, BadHex, NoMemory}
+use Rattle.h2_debug.specs.declared.commands.session_fault.SessionFault.{SessionFault}
+use Rattle.h2_debug.specs.declared.commands.session_fault.SessionFault.TheVariants.{BadConfig, BadHex, NoMemory}
 
 -- a debugger over the octets that a line spells
 abbrev pub Loads : List Entry → Config → Option (List ℕ) → Debugging → Type 0

@@ -10,8 +10,8 @@ use Rattle.h2_debug.specs.Places.{at, cause_at, end, events, ignored_at, sent_oc
 use Rattle.h2_debug.specs.declared.fault.DebugFault.{DebugFault}
 use Rattle.h2_debug.specs.Commands.{Command, Step, Back, Go, Run, BreakOn, Clear, Show, Why}
 use Rattle.h2_explain_words.specs.Why.{why_lines}
-use Rattle.h2_debug.specs.declared.reply.Reply.{Reply}
-use Rattle.h2_debug.specs.declared.reply.Reply.TheVariants as code
+use Rattle.h2_debug.specs.declared.commands.reply.Reply.{Reply}
+use Rattle.h2_debug.specs.declared.commands.reply.Reply.TheVariants as code
 
 -- a word, a number and a line feed
 unfoldable pub number_line : List ℕ → ℕ → List ℕ

@@ -3,9 +3,9 @@ use Rattle.std.specs.Prelude.{◌≡◌, ℕ, Bool, true, false, List, [], Optio
 use Rattle.h2_debug.specs.Debugging.{Debugging}
 use Rattle.h2_debug.specs.SessionFaults.{fault_number}
 use Rattle.h2_debug.specs.Session.{IsFollowed, Printed, Prints, closed, failed}
-use Rattle.h2_debug.specs.declared.session_fault.SessionFault.{SessionFault}
-use Rattle.h2_debug.specs.declared.line.LineEnd.{LineEnd}
-use Rattle.h2_debug.specs.declared.line.LineEnd.TheVariants.{Input, LineFeed}
+use Rattle.h2_debug.specs.declared.commands.session_fault.SessionFault.{SessionFault}
+use Rattle.h2_debug.specs.declared.commands.line.LineEnd.{LineEnd}
+use Rattle.h2_debug.specs.declared.commands.line.LineEnd.TheVariants.{Input, LineFeed}
 
 -- nothing more after a line that ends with the input, else the answers to the lines that are ahead, at most that many
 -- octets

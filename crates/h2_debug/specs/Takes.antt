@@ -2,10 +2,10 @@
 use Rattle.std.specs.Prelude.{◌≡◌, ◌⊎◌, ◌<◌, ℕ, Bool, false, List, [], length, take, Option, Some, None}
 use Rattle.h2_debug.specs.Commands.{longest}
 use Rattle.h2_debug.specs.Reading.{TakesLast, TakesLine}
-use Rattle.h2_debug.specs.declared.session_fault.SessionFault.{SessionFault}
-use Rattle.h2_debug.specs.declared.session_fault.SessionFault.TheVariants.{BadHex, NoMemory, Read}
-use Rattle.h2_debug.specs.declared.line.LineEnd.{LineEnd}
-use Rattle.h2_debug.specs.declared.line.LineEnd.TheVariants.{Input, LineFeed}
+use Rattle.h2_debug.specs.declared.commands.session_fault.SessionFault.{SessionFault}
+use Rattle.h2_debug.specs.declared.commands.session_fault.SessionFault.TheVariants.{BadHex, NoMemory, Read}
+use Rattle.h2_debug.specs.declared.commands.line.LineEnd.{LineEnd}
+use Rattle.h2_debug.specs.declared.commands.line.LineEnd.TheVariants.{Input, LineFeed}
 
 -- a line that ends so
 abbrev pub TakesFirst : Option (List ℕ) → Option (List ℕ) → ℕ → ℕ → List ℕ → LineEnd → Type 0

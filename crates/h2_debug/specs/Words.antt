@@ -1,8 +1,8 @@
 -- What the code's commands represent.
 use Rattle.h2_debug.specs.Breakpoints.{break_of}
 use Rattle.h2_debug.specs.Commands as spec
-use Rattle.h2_debug.specs.declared.command.Command.{Command}
-use Rattle.h2_debug.specs.declared.command.Command.TheVariants as code
+use Rattle.h2_debug.specs.declared.commands.command.Command.{Command}
+use Rattle.h2_debug.specs.declared.commands.command.Command.TheVariants as code
 
 abbrev pub asked_by : Command → spec.Command
 asked_by (code.Step n) = spec.Step n

@@ -21,10 +21,12 @@ ghost use Rattle.h2_debug.specs.declared.fault.DebugFault.TheVariants.{NoMemory,
 
 use crate::breakpoints::Break;
 use crate::fault::DebugFault;
-use crate::forward::{LEG, SPACING, forward_to, forward_to_stop, keep_and_advance, keep_if_due};
-use crate::kept_place::KeptPlace;
-use crate::place::Place;
-use crate::source::Source;
+use crate::places::forward::{
+    LEG, SPACING, forward_to, forward_to_stop, keep_and_advance, keep_if_due,
+};
+use crate::places::kept_place::KeptPlace;
+use crate::places::place::Place;
+use crate::places::source::Source;
 use h2_conn::view::View;
 use h2_conn::{Conn, ConnFault};
 use h2_request_book::book::Book;

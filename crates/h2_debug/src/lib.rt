@@ -6,26 +6,16 @@
 #![tactic(auto)]
 
 mod breakpoints;
-mod command;
+pub mod commands;
 pub mod debugger;
 mod fault;
-mod forward;
-mod kept_place;
 pub mod laws;
-mod line;
-pub mod obey;
-mod place;
-mod reader;
+mod places;
 mod reasons;
-mod reply;
-pub mod session;
-mod session_fault;
-mod source;
-mod written;
 
 pub use breakpoints::Break;
-pub use command::{Command, command_of};
+pub use commands::command::{Command, command_of};
+pub use commands::reply::{FaultLine, Reply, ReplyText};
+pub use commands::session::debug_session;
 pub use debugger::Debugger;
 pub use fault::DebugFault;
-pub use reply::{FaultLine, Reply, ReplyText};
-pub use session::debug_session;

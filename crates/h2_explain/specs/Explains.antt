@@ -11,8 +11,8 @@ use Rattle.h2_explain_text.specs.Rest.{is_said}
 use Rattle.h2_explain_item.specs.Item.{head_in}
 use Rattle.h2_explain_item.specs.Warnings.{AreWarnings, warning_count}
 use Rattle.h2_explain_item.specs.declared.item.Explained.{Explained}
-use Rattle.h2_explain_item.specs.declared.special.CaseFacts.{CaseFacts}
-use Rattle.h2_explain_item.specs.declared.warning.Warnings.{Warnings}
+use Rattle.h2_explain_item.specs.declared.diagnosis.special.CaseFacts.{CaseFacts}
+use Rattle.h2_explain_item.specs.declared.diagnosis.warning.Warnings.{Warnings}
 use Rattle.h2_explain.specs.declared.verdict.ClientVerdict.{ClientVerdict}
 use Rattle.h2_explain.specs.Verdicts.{IsVerdict}
 use Rattle.h2_explain.specs.declared.run.ExplainFault.{ExplainFault}

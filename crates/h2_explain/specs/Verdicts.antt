@@ -11,9 +11,9 @@ use Rattle.h2_conn.specs.Connection.{Connection, is_ended}
 use Rattle.h2_explain_step.specs.Explained.{ExplainsItem}
 use Rattle.h2_explain_item.specs.Warnings.{AreWarnings, duty_of_error, duty_of_reason, is_breach, is_unacknowledged, warning_count}
 use Rattle.h2_explain_item.specs.declared.item.Explained.{Explained}
-use Rattle.h2_explain_item.specs.declared.special.CaseFacts.{CaseFacts}
+use Rattle.h2_explain_item.specs.declared.diagnosis.special.CaseFacts.{CaseFacts}
 use Rattle.h2_explain.specs.declared.verdict.ClientVerdict.{ClientVerdict}
-use Rattle.h2_explain_item.specs.declared.warning.Warnings.{Warnings}
+use Rattle.h2_explain_item.specs.declared.diagnosis.warning.Warnings.{Warnings}
 
 -- what is counted of items: the causes of their errors, in order; how many warnings they have; whether the client broke a
 -- rule, and whether it was above a limit of this server

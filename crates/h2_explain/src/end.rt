@@ -12,7 +12,7 @@ use crate::shown::{shows_opening, shows_stream};
 use crate::verdict::{Tally, is_answer_unfinished, verdict_at};
 use crate::verdict_words::{put_verdict, say_tally};
 use h2_conn::{Conn, is_ended};
-use h2_explain_item::warning::{Warning, Warnings, all_warnings, is_unacknowledged};
+use h2_explain_item::diagnosis::warning::{Warning, Warnings, all_warnings, is_unacknowledged};
 use h2_explain_json::end::{put_end, put_wait};
 use h2_explain_json::json::{line_of, put_opening};
 use h2_explain_json::json_words::JsonWords;

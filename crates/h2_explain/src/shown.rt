@@ -7,8 +7,8 @@ ghost use Rattle.h2_explain_step.specs.Explained.{stream_in};
 ghost use Rattle.h2_explain.specs.Explains.{is_notable, shows_item, shows_stream};
 
 use crate::run::Form;
+use h2_explain_item::diagnosis::warning::Warnings;
 use h2_explain_item::item::Explained;
-use h2_explain_item::warning::Warnings;
 
 /// Whether a stream is shown: each, unless one is named.
 pub(crate) fn shows_stream(only: Option<u32>, stream: u32) -> bool

@@ -5,11 +5,11 @@ ghost use Rattle.std.specs.Prelude.{◌≡◌, ◌==◌, false, OnOk};
 ghost use Rattle.h2_explain.specs.Verdicts.{is_answer_unfinished, is_limit, no_tally, strict_status, tally_with, verdict_at, breaks_rule};
 
 use h2_conn::{Conn, is_ended};
-use h2_explain_item::item::Explained;
-use h2_explain_item::special::CaseFacts;
-use h2_explain_item::warning::{
+use h2_explain_item::diagnosis::special::CaseFacts;
+use h2_explain_item::diagnosis::warning::{
     Warnings, duty_of_error, duty_of_reason, is_breach, is_unacknowledged,
 };
+use h2_explain_item::item::Explained;
 use h2_spec::causes::Cause;
 use h2_spec::rules::ClientDuty;
 use std::alloc::{AllocError, Allocator, Global};

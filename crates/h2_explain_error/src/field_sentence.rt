@@ -1,7 +1,7 @@
 //! The sentences of malformed requests and trailers, with the field that is at fault (RFC 9113, 8.1 to 8.5). The
 //! causes: h2_spec's `specs/Causes/CauseWords.antt`.
 
-use h2_explain_item::fields::{
+use h2_explain_item::diagnosis::fields::{
     FieldFault, bad_octet_of_name, bad_octet_of_value, double_pseudo, first_wrong, has,
     has_other_scheme, is_blank, is_connect, is_number, late_pseudo, other_length, refused_length,
 };

@@ -1,7 +1,7 @@
 //! The parts of a sentence: words, and the names of values that an item and what was noted before it have. A sentence is
 //! a list of parts, so that what it says is data; the values are looked up when it is put together.
 
-use h2_explain_item::error_context::ErrorContext;
+use h2_explain_item::diagnosis::error_context::ErrorContext;
 use h2_explain_item::item::{Explained, Moment};
 use h2_explain_item::notes::StreamNote;
 use h2_explain_words::say::{Cut, FieldCount, HexOctet, OctetCount, Say, TextBuilder};

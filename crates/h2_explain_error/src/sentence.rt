@@ -3,9 +3,9 @@
 use crate::field_sentence::say_field;
 use crate::part::{SentencePart, first_line, say_parts};
 use crate::string_sentence::say_huffman;
-use h2_explain_item::error_context::ErrorContext;
-use h2_explain_item::fields::has;
-use h2_explain_item::header_table::Gone;
+use h2_explain_item::change::header_table::Gone;
+use h2_explain_item::diagnosis::error_context::ErrorContext;
+use h2_explain_item::diagnosis::fields::has;
 use h2_explain_words::say::{Cut, Ordinal, TextBuilder};
 use h2_explain_words::say_all;
 use h2_explain_words::spelled::Stopped;

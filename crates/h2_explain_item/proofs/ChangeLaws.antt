@@ -18,8 +18,8 @@ use Rattle.h2_spec.specs.declared.streams.StreamState.TheVariants.{Idle, Skipped
 use Rattle.h2_explain_item.specs.Changes.{CountsAreAsBefore, Differs, IsAsBefore, are_same_numbers, are_same_windows, client_table, code_of, connection_changes, connection_table, is_other, is_same_kind, is_same_pick, is_same_stream, last_of, listed, listed_flag, listed_if_any, numbers_table, state_row, stops, stops_with, stream_changes, stream_table}
 use Rattle.h2_spec.specs.Stream.{is_live}
 use Rattle.h2_explain_item.specs.declared.item.Moment.{Moment}
-use Rattle.h2_explain_item.specs.declared.changes.ShownChange.{ShownChange}
-use Rattle.h2_explain_item.specs.declared.changes.ShownChange.TheVariants.{Number, State, Acknowledged, Stops}
+use Rattle.h2_explain_item.specs.declared.change.changes.ShownChange.{ShownChange}
+use Rattle.h2_explain_item.specs.declared.change.changes.ShownChange.TheVariants.{Number, State, Acknowledged, Stops}
 
 -- the rows of four tables that are kept, one after another
 pub filter_four : (p : ShownChange → Bool) (o o1 o2 o3 o4 a1 b1 c1 d1 a b c d : List ShownChange) → a1 ≡ a → b1 ≡ b → c1 ≡ c → d1 ≡ d

@@ -13,9 +13,9 @@ use Rattle.h2_spec.specs.declared.streams.Pick.{Pick}
 use Rattle.h2_spec.specs.declared.streams.Pick.TheVariants.{Listed, NotFound, Connect}
 use Rattle.h2_spec.specs.declared.streams.Stream.{Stream}
 use Rattle.h2_spec.specs.Stream.{is_live}
-use Rattle.h2_explain_item.specs.declared.changes.ShownChange.{ShownChange}
-use Rattle.h2_explain_item.specs.declared.changes.ShownChange.TheVariants.{Number, State, Acknowledged, Stops}
-use Rattle.h2_explain_item.specs.declared.count.Count.TheVariants.{ReceiveWindow, UnreturnedOctets, SendWindow, LastStream, GoawayLastStream, GoawayCode, ClientHeaderTableSize, ClientEnablePush, ClientMaxConcurrentStreams, ClientInitialWindowSize, ClientMaxFrameSize, ClientMaxHeaderListSize, SizeUpdatePending, OwnHeaderTableSize, OwnInitialWindowSize, OwnMaxFrameSize, TableEntries, TableOctets, TableMaximum, ContentReceived}
+use Rattle.h2_explain_item.specs.declared.change.changes.ShownChange.{ShownChange}
+use Rattle.h2_explain_item.specs.declared.change.changes.ShownChange.TheVariants.{Number, State, Acknowledged, Stops}
+use Rattle.h2_explain_item.specs.declared.change.count.Count.TheVariants.{ReceiveWindow, UnreturnedOctets, SendWindow, LastStream, GoawayLastStream, GoawayCode, ClientHeaderTableSize, ClientEnablePush, ClientMaxConcurrentStreams, ClientInitialWindowSize, ClientMaxFrameSize, ClientMaxHeaderListSize, SizeUpdatePending, OwnHeaderTableSize, OwnInitialWindowSize, OwnMaxFrameSize, TableEntries, TableOctets, TableMaximum, ContentReceived}
 use Rattle.h2_explain_item.specs.declared.item.Moment.{Moment}
 
 -- a number as it is listed: at most 2^63 - 1, which is also listed for all above it

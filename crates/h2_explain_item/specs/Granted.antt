@@ -9,7 +9,7 @@ use Rattle.h2_spec.specs.Window.{sendable}
 use Rattle.h2_spec.specs.declared.frames.ItemHead.{ItemHead}
 use Rattle.h2_spec.specs.declared.frames.ItemHead.TheVariants as head
 use Rattle.h2_spec.specs.declared.streams.Stream.{Stream}
-use Rattle.h2_explain_item.specs.declared.granted.Granted.{Granted}
+use Rattle.h2_explain_item.specs.declared.change.granted.Granted.{Granted}
 use Rattle.h2_explain_item.specs.declared.item.Explained.{Explained}
 
 -- the octets that flow control counts of an item: the payload of DATA with its padding (6.9)

@@ -19,7 +19,7 @@ use Rattle.h2_spec.specs.Causes.Rules.{Row}
 use Rattle.h2_spec.specs.Causes.SpecialCases.{special_row}
 use Rattle.h2_explain_item.specs.Item.{head_in}
 use Rattle.h2_explain_item.specs.declared.item.Explained.{Explained}
-use Rattle.h2_explain_item.specs.declared.special.CaseFacts.{CaseFacts}
+use Rattle.h2_explain_item.specs.declared.diagnosis.special.CaseFacts.{CaseFacts}
 
 -- this case, where it is so
 abbrev pub case_if : Bool → SpecialCase → Option SpecialCase

@@ -14,11 +14,11 @@ use Rattle.h2_spec.specs.declared.streams.StreamState.TheVariants as kind
 use Rattle.h2_explain_item.specs.Notes.{is_opened}
 use Rattle.h2_explain_item.specs.Special.{rule_of_cause, rule_of_reason, special_cause, special_reason}
 use Rattle.h2_explain_item.specs.declared.item.Explained.{Explained}
-use Rattle.h2_explain_item.specs.declared.request_facts.RequestFacts.{RequestFacts}
-use Rattle.h2_explain_item.specs.declared.special.CaseFacts.{CaseFacts}
-use Rattle.h2_explain_item.specs.declared.warning.Warning.{Warning}
-use Rattle.h2_explain_item.specs.declared.warning.Warning.TheVariants.{BadMethod, BadScheme, BadPath, Userinfo, HostTwice, HostDiffers, StreamAfterGoaway, OnClosedStream, IncrementOfZero, SentBeforeGranted, SettingsNotAcknowledged, AnswerUnfinished}
-use Rattle.h2_explain_item.specs.declared.warning.Warnings.{Warnings}
+use Rattle.h2_explain_item.specs.declared.diagnosis.request_facts.RequestFacts.{RequestFacts}
+use Rattle.h2_explain_item.specs.declared.diagnosis.special.CaseFacts.{CaseFacts}
+use Rattle.h2_explain_item.specs.declared.diagnosis.warning.Warning.{Warning}
+use Rattle.h2_explain_item.specs.declared.diagnosis.warning.Warning.TheVariants.{BadMethod, BadScheme, BadPath, Userinfo, HostTwice, HostDiffers, StreamAfterGoaway, OnClosedStream, IncrementOfZero, SentBeforeGranted, SettingsNotAcknowledged, AnswerUnfinished}
+use Rattle.h2_explain_item.specs.declared.diagnosis.warning.Warnings.{Warnings}
 
 -- ---- what is printed of a warning
 

@@ -7,16 +7,7 @@
 //! that is h2_explain_step's.
 #![tactic(auto)]
 
-pub mod change_laws;
-pub mod changes;
-pub mod count;
-pub mod error_context;
-pub mod facts;
-pub mod fields;
-pub mod granted;
-pub mod header_table;
+pub mod change;
+pub mod diagnosis;
 pub mod item;
 pub mod notes;
-pub mod request_facts;
-pub mod special;
-pub mod warning;

@@ -9,11 +9,13 @@ ghost use Rattle.h2_explain_text.specs.Lines.{EndsLine};
 use crate::json_words::{JsonWords, Member};
 use crate::warnings::put_warnings;
 use crate::{element, member};
-use h2_explain_item::changes::{ShownChange, UnshownChange};
-use h2_explain_item::count::Count;
-use h2_explain_item::header_table::EntryChange;
+use h2_explain_item::change::changes::{ShownChange, UnshownChange};
+use h2_explain_item::change::count::Count;
+use h2_explain_item::change::header_table::EntryChange;
+use h2_explain_item::diagnosis::special::{
+    case_of_error, case_of_reason, rule_of_cause, rule_of_reason,
+};
 use h2_explain_item::item::Explained;
-use h2_explain_item::special::{case_of_error, case_of_reason, rule_of_cause, rule_of_reason};
 use h2_explain_text::account::Account;
 use h2_explain_text::text::{mode_name, read_answer, say_item};
 use h2_explain_words::frame_words::say_frame_in;

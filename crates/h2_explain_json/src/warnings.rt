@@ -2,7 +2,7 @@
 
 use crate::json_words::JsonWords;
 use crate::member;
-use h2_explain_item::warning::{Warning, Warnings, all_warnings};
+use h2_explain_item::diagnosis::warning::{Warning, Warnings, all_warnings};
 use std::alloc::Allocator;
 
 /// Puts a warning, as an element.

@@ -13,7 +13,7 @@ use Rattle.h2_explain_step.specs.Account.{KeepsBlocks, ListsChanges, NotesItem, 
 use Rattle.h2_explain_item.specs.Changes.{Differs, connection_changes, stream_changes}
 use Rattle.h2_explain_item.specs.Item.{head_in}
 use Rattle.h2_explain_item.specs.Notes.{AreNotes, Sees, is_noted, note_of, note_or, noted, with_later_note, with_note}
-use Rattle.h2_explain_item.specs.declared.changes.ShownChange.{ShownChange}
+use Rattle.h2_explain_item.specs.declared.change.changes.ShownChange.{ShownChange}
 use Rattle.h2_explain_item.specs.declared.item.Explained.{Explained}
 use Rattle.h2_explain_item.specs.declared.notes.Notes.{Notes}
 use Rattle.h2_explain_item.specs.declared.notes.StreamNote.{StreamNote}

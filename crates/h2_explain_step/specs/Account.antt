@@ -24,7 +24,7 @@ use Rattle.h2_spec.specs.Stream.{stream_at}
 use Rattle.h2_explain_item.specs.Item.{head_in}
 use Rattle.h2_explain_item.specs.Notes.{AreNotes, block_end_after, note_of, with_later_note, with_note}
 use Rattle.h2_explain_item.specs.Changes.{Differs, connection_changes, stream_changes}
-use Rattle.h2_explain_item.specs.declared.changes.ShownChange.{ShownChange}
+use Rattle.h2_explain_item.specs.declared.change.changes.ShownChange.{ShownChange}
 use Rattle.h2_explain_item.specs.declared.item.Explained.{Explained}
 use Rattle.h2_explain_item.specs.declared.item.Moment.{Moment}
 use Rattle.h2_explain_item.specs.declared.notes.Notes.{Notes}

@@ -14,16 +14,18 @@ ghost use Rattle.h2_explain_item.specs.Warnings.{AreWarnings};
 use crate::unshown_changes::{Live, note_moved, put_moved, sent_streams};
 use h2_conn::{Conn, is_ended, write_opening};
 use h2_explain_error::sentence::say_sentence;
-use h2_explain_item::changes::{Changes, connection_changes, is_same_stream, stream_changes};
-use h2_explain_item::error_context::ErrorContext;
-use h2_explain_item::facts::{facts_of, others_of, wider_of};
-use h2_explain_item::granted::Granted;
-use h2_explain_item::header_table::{EntryChange, Followed};
+use h2_explain_item::change::changes::{
+    Changes, connection_changes, is_same_stream, stream_changes,
+};
+use h2_explain_item::change::granted::Granted;
+use h2_explain_item::change::header_table::{EntryChange, Followed};
+use h2_explain_item::diagnosis::error_context::ErrorContext;
+use h2_explain_item::diagnosis::facts::{facts_of, others_of, wider_of};
+use h2_explain_item::diagnosis::request_facts::{RequestFacts, request_facts};
+use h2_explain_item::diagnosis::special::CaseFacts;
+use h2_explain_item::diagnosis::warning::{opens_stream, warnings_of};
 use h2_explain_item::item::Explained;
 use h2_explain_item::notes::{Notes, StreamNote};
-use h2_explain_item::request_facts::{RequestFacts, request_facts};
-use h2_explain_item::special::CaseFacts;
-use h2_explain_item::warning::{opens_stream, warnings_of};
 use h2_explain_text::account::Account;
 use h2_explain_words::say::TextBuilder;
 use h2_explain_words::sent::next_frame;

@@ -6,8 +6,8 @@ ghost use Rattle.std.specs.Prelude.{◌≡◌, false, OnOk};
 ghost use Rattle.h2_explain_step.specs.Account.{KeepsBlocks, moves_windows};
 
 use h2_conn::Conn;
-use h2_explain_item::changes::UnshownChange;
-use h2_explain_item::count::Count;
+use h2_explain_item::change::changes::UnshownChange;
+use h2_explain_item::change::count::Count;
 use h2_explain_item::item::Explained;
 use h2_explain_item::notes::Notes;
 use h2_explain_words::sent::next_frame;

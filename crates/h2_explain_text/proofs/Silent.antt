@@ -1,7 +1,7 @@
 -- The lines of an item of which nothing is said: those of the opening alone.
 use Rattle.std.proofs.Common.{◌≡◌, ◌∙◌, ℕ, Bool, true, false, List, [], if◌then◌else◌, ap, refl, sym}
 use Rattle.h2_explain_text.specs.Lines.{Words, is_silent, lines_of, lines_unless, shown_words}
-use Rattle.h2_explain_item.specs.declared.special.CaseFacts.{CaseFacts}
+use Rattle.h2_explain_item.specs.declared.diagnosis.special.CaseFacts.{CaseFacts}
 use Rattle.h2_explain_item.specs.declared.item.Explained.{Explained}
 
 -- nothing decides a special case

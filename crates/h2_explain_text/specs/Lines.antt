@@ -17,7 +17,7 @@ use Rattle.h2_spec.specs.Texts.Show.{joined}
 use Rattle.h2_explain_item.specs.declared.item.Explained.{Explained}
 use Rattle.h2_explain_text.specs.declared.paint.Role.{Role}
 use Rattle.h2_explain_text.specs.declared.paint.Role.TheVariants as role
-use Rattle.h2_explain_item.specs.declared.special.CaseFacts.{CaseFacts}
+use Rattle.h2_explain_item.specs.declared.diagnosis.special.CaseFacts.{CaseFacts}
 use Rattle.h2_explain_item.specs.Special.{rule_of_cause, rule_of_reason, case_of_error, case_of_reason}
 
 -- ---- lines and their colours

@@ -1,9 +1,9 @@
 //! What there is to show of an item: values of which the text and the JSON are views.
 
-use h2_explain_item::changes::{Changes, UnshownChange};
-use h2_explain_item::header_table::EntryChange;
-use h2_explain_item::special::CaseFacts;
-use h2_explain_item::warning::Warnings;
+use h2_explain_item::change::changes::{Changes, UnshownChange};
+use h2_explain_item::change::header_table::EntryChange;
+use h2_explain_item::diagnosis::special::CaseFacts;
+use h2_explain_item::diagnosis::warning::Warnings;
 use h2_spec::causes::Cause;
 use std::alloc::{Allocator, Global};
 

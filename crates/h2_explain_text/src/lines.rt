@@ -13,10 +13,10 @@ use crate::text::{
     say_opening, say_sent,
 };
 use crate::warning_words::say_warnings;
-use h2_explain_item::item::Explained;
-use h2_explain_item::special::{
+use h2_explain_item::diagnosis::special::{
     Rule, case_of_error, case_of_reason, rule_of_cause, rule_of_reason,
 };
+use h2_explain_item::item::Explained;
 use h2_explain_words::names::{error_name, scope_word};
 use h2_explain_words::say::TextBuilder;
 use h2_explain_words::spelled::BlockReader;

@@ -2,9 +2,9 @@
 //! changed. No definition speaks of them, the format is in docs/EXPLAIN.md.
 
 use crate::paint::{Paint, Role};
-use h2_explain_item::changes::{ShownChange, UnshownChange};
-use h2_explain_item::count::Count;
-use h2_explain_item::header_table::EntryChange;
+use h2_explain_item::change::changes::{ShownChange, UnshownChange};
+use h2_explain_item::change::count::Count;
+use h2_explain_item::change::header_table::EntryChange;
 use h2_explain_item::item::Explained;
 use h2_explain_words::frame_words::{say_frame, say_frame_in, say_head};
 use h2_explain_words::names::kind_name;

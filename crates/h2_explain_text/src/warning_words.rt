@@ -1,7 +1,7 @@
 //! Warnings as lines of text. The form: docs/EXPLAIN.md.
 
 use crate::paint::{Paint, Role};
-use h2_explain_item::warning::{Warning, Warnings, all_warnings};
+use h2_explain_item::diagnosis::warning::{Warning, Warnings, all_warnings};
 use h2_explain_words::say::TextBuilder;
 use h2_explain_words::say_all;
 use std::alloc::Allocator;

@@ -1,8 +1,8 @@
 //! A case as the input of `explain FILE` and `debug --in FILE`: the words of its lines `;@` come after those of the command,
 //! and the octets of its script are the input.
 
+use crate::devices::input::read_file;
 use crate::hex_of;
-use crate::input::read_file;
 use h2_cmd_args::Words;
 use h2_cmd_args::command::{Devices, Plan, Refusal};
 use h2_cmd_cases::{ShellFault, add_case_words, idle_place};

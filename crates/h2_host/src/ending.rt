@@ -1,8 +1,8 @@
 //! What is said on standard error once a command has ended.
 
 use crate::commands::Commands;
-use crate::files::failure_of;
-use crate::input::{Given, read_file};
+use crate::devices::files::failure_of;
+use crate::devices::input::{Given, read_file};
 use crate::{Outcome, say_outcome, say_refused_words};
 use h2_cmd_args::Words;
 use h2_cmd_args::command::{Check, Plan, Refusal};

@@ -3,10 +3,10 @@
 
 use crate::case_input::{CaseInput, case_input, path_of, refusal_of_case};
 use crate::commands::Commands;
+use crate::devices::file_word::with_file;
+use crate::devices::files::NamedFiles;
+use crate::devices::input::{Given, Standard, input_of, is_session, refusal_for_devices};
 use crate::ending::{Ending, end};
-use crate::file_word::with_file;
-use crate::files::NamedFiles;
-use crate::input::{Given, Standard, input_of, is_session, refusal_for_devices};
 use crate::{Noted, SessionOutput, SessionState, WaitingOutput, version};
 use h2_cmd_args::Words;
 use h2_cmd_args::command::{Devices, Plan, Refusal, devices_of, parse};

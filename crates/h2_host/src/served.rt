@@ -3,8 +3,8 @@
 
 ghost use Rattle.std.specs.Prelude.{◌≤◌, length};
 
+use crate::devices::stopwatch::Stopwatch;
 use crate::items::number_in;
-use crate::stopwatch::Stopwatch;
 use h2_io::{IntoWrite, Number, Text, texts};
 use std::alloc::Global;
 use std::io;

@@ -13,10 +13,10 @@ use Rattle.h2_conn.specs.Connection.{Connection, going, is_ended}
 use Rattle.h2_conn.specs.Runs.{Fed, Halts, fed}
 use Rattle.h2_serve.specs.Wires.{Writes, grown}
 use Rattle.h2_serve.specs.Drives.{AreNonempty, Drives, DrivesAs, ReadsAs, HasNoItem, HasRead, DriveState, drive_state, Exchanges, TakesTurns, FedOrHalted, TurnEndsAs, TakesTurn}
-use Rattle.h2_serve.specs.declared.drive_fault.DriveEnd.{DriveEnd}
-use Rattle.h2_serve.specs.declared.drive_fault.DriveEnd.TheVariants.{Input}
-use Rattle.h2_serve.specs.declared.drive_fault.DriveFault.{DriveFault}
-use Rattle.h2_serve.specs.declared.drive_fault.DriveFault.TheVariants.{NoMemory, Failed, Read, Write, TurnLimit}
+use Rattle.h2_serve.specs.declared.driving.drive_fault.DriveEnd.{DriveEnd}
+use Rattle.h2_serve.specs.declared.driving.drive_fault.DriveEnd.TheVariants.{Input}
+use Rattle.h2_serve.specs.declared.driving.drive_fault.DriveFault.{DriveFault}
+use Rattle.h2_serve.specs.declared.driving.drive_fault.DriveFault.TheVariants.{NoMemory, Failed, Read, Write, TurnLimit}
 use Rattle.h2_serve.proofs.Growing.{grown-nil, grown-grown}
 use Rattle.h2_serve.proofs.Halting.{both, fed-halts, fed-more, sent-none}
 

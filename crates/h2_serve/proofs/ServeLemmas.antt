@@ -1,8 +1,8 @@
 -- Lines that are printed one after another.
 use Rattle.std.proofs.Common.{◌≡◌, ◌∙◌, ℕ, ◌+◌, ◌≤◌, Bool, true, false, List, [], ◌∷◌, ◌++◌, length, Option, Some, None, option_map, Result, Ok, Err, IfErr, OnOk, inl, inr, refl, subst, sym, ap, arith, append_assoc, length-append}
 use Rattle.std.proofs.lemmas.List.{append-nil}
-use Rattle.h2_serve.specs.declared.drive_fault.DriveEnd.{DriveEnd}
-use Rattle.h2_serve.specs.declared.drive_fault.DriveFault.{DriveFault}
+use Rattle.h2_serve.specs.declared.driving.drive_fault.DriveEnd.{DriveEnd}
+use Rattle.h2_serve.specs.declared.driving.drive_fault.DriveFault.{DriveFault}
 use Rattle.h2_serve.specs.Lines.{end_line, end_lines, listening_line}
 use Rattle.h2_spec.specs.Causes.Errors.{code_number}
 use Rattle.h2_spec.specs.State.{State, ended_code}

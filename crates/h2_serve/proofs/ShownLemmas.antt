@@ -4,8 +4,8 @@ use Rattle.std.proofs.lemmas.Bool.{false≢true}
 use Rattle.std.proofs.lemmas.List.{append-nil}
 use Rattle.std.specs.Io.KnownBytes.{Appends}
 use Rattle.h2_spec.specs.State.{State}
-use Rattle.h2_serve.specs.declared.drive_fault.DriveEnd.{DriveEnd}
-use Rattle.h2_serve.specs.declared.drive_fault.DriveFault.{DriveFault}
+use Rattle.h2_serve.specs.declared.driving.drive_fault.DriveEnd.{DriveEnd}
+use Rattle.h2_serve.specs.declared.driving.drive_fault.DriveFault.{DriveFault}
 use Rattle.h2_explain.specs.declared.run.Form.{Form}
 use Rattle.h2_explain.specs.declared.run.Summary.{Summary}
 use Rattle.h2_serve.specs.Faults.{faults_limits, is_of_printing}
@@ -18,9 +18,9 @@ use Rattle.h2_serve.specs.Serves.{Gains, opening_fault}
 use Rattle.h2_serve.specs.Shown.{AreShown, GainsAllShown, GainsShown, GainsSomeShown, IsShown, no_clients, told_end, with_client}
 use Rattle.h2_serve.specs.ExplainedConns.{Explains, Shows}
 use Rattle.h2_serve.proofs.ServeLemmas.{drives-client, events-of, handles-then}
-use Rattle.h2_serve.specs.declared.explain.Clients.{Clients}
-use Rattle.h2_serve.specs.declared.explain.ClientEnd.{ClientEnd}
-use Rattle.h2_serve.specs.declared.explained_conn.Conclusion.{Conclusion}
+use Rattle.h2_serve.specs.declared.explained.explain.Clients.{Clients}
+use Rattle.h2_serve.specs.declared.explained.explain.ClientEnd.{ClientEnd}
+use Rattle.h2_serve.specs.declared.explained.explained_conn.Conclusion.{Conclusion}
 use Rattle.h2_serve.specs.declared.fault.ServeFault.{ServeFault}
 use Rattle.h2_serve.specs.declared.fault.ServeFault.TheVariants.{BadConfig, NoMemory, Socket, Write}
 

@@ -18,7 +18,7 @@ use Rattle.h2_explain.specs.declared.run.Form.{Form}
 use Rattle.h2_explain.specs.declared.run_explainer.RunExplainer.{RunExplainer}
 use Rattle.h2_explain.specs.declared.run.Summary.{Summary}
 use Rattle.h2_explain.proofs.Steps.{new-begins, new-explains}
-use Rattle.h2_serve.specs.declared.explained_conn.Conclusion.{Conclusion}
+use Rattle.h2_serve.specs.declared.explained.explained_conn.Conclusion.{Conclusion}
 use Rattle.h2_serve.specs.declared.fault.ServeFault.{ServeFault}
 use Rattle.h2_serve.specs.declared.fault.TextFault.{TextFault}
 use Rattle.h2_serve.specs.Numbered.{PrintsPrefixed, fresh_after, gathered_text, prefix_of, prefixed}

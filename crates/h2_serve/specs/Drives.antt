@@ -4,10 +4,10 @@ use Rattle.std.specs.List.{AllByRecursion}
 use Rattle.h2_conn.specs.Connection.{Connection}
 use Rattle.h2_conn.specs.Runs.{Fed, Halts}
 use Rattle.h2_serve.specs.Wires.{grown}
-use Rattle.h2_serve.specs.declared.drive_fault.DriveEnd.{DriveEnd}
-use Rattle.h2_serve.specs.declared.drive_fault.DriveEnd.TheVariants.{Input, Goaway}
-use Rattle.h2_serve.specs.declared.drive_fault.DriveFault.{DriveFault}
-use Rattle.h2_serve.specs.declared.drive_fault.DriveFault.TheVariants.{NoMemory, Failed, Read, Write, TurnLimit}
+use Rattle.h2_serve.specs.declared.driving.drive_fault.DriveEnd.{DriveEnd}
+use Rattle.h2_serve.specs.declared.driving.drive_fault.DriveEnd.TheVariants.{Input, Goaway}
+use Rattle.h2_serve.specs.declared.driving.drive_fault.DriveFault.{DriveFault}
+use Rattle.h2_serve.specs.declared.driving.drive_fault.DriveFault.TheVariants.{NoMemory, Failed, Read, Write, TurnLimit}
 
 abbrev pub fault_number : DriveFault → ℕ
 fault_number NoMemory = 0

@@ -10,7 +10,7 @@ use Rattle.h2_explain.specs.declared.run_explainer.RunExplainer.{RunExplainer}
 use Rattle.h2_explain.specs.declared.run.Form.{Form}
 use Rattle.h2_explain.specs.declared.run.Summary.{Summary}
 use Rattle.h2_serve.specs.Numbered.{prefix_of, prefixed}
-use Rattle.h2_serve.specs.declared.explained_conn.Conclusion.{Conclusion}
+use Rattle.h2_serve.specs.declared.explained.explained_conn.Conclusion.{Conclusion}
 
 -- the text explains a connection over octets, or, memory being refused, some first items of it; and this sums it up, if
 -- there is a summary

@@ -2,9 +2,9 @@
 use Rattle.std.specs.Prelude.{ℕ, ◌+◌, ◌++◌, List, [], ◌∷◌, codes, decimal, Result, Ok, Err}
 use Rattle.h2_spec.specs.Texts.Show.{joined}
 use Rattle.h2_serve.specs.Drives.{fault_number}
-use Rattle.h2_serve.specs.declared.drive_fault.DriveEnd.{DriveEnd}
-use Rattle.h2_serve.specs.declared.drive_fault.DriveEnd.TheVariants.{Input, Goaway}
-use Rattle.h2_serve.specs.declared.drive_fault.DriveFault.{DriveFault}
+use Rattle.h2_serve.specs.declared.driving.drive_fault.DriveEnd.{DriveEnd}
+use Rattle.h2_serve.specs.declared.driving.drive_fault.DriveEnd.TheVariants.{Input, Goaway}
+use Rattle.h2_serve.specs.declared.driving.drive_fault.DriveFault.{DriveFault}
 
 -- the port that is listened on
 unfoldable pub listening_line : ℕ → List ℕ

@@ -8,8 +8,8 @@ use Rattle.h2_spec.specs.declared.connection.Config.{Config}
 use Rattle.h2_conn.specs.Connection.{Connection, going}
 use Rattle.h2_serve.specs.Drives.{Drives, EndsAs, drive_state, is_wire_fault}
 use Rattle.h2_serve.specs.Wires.{grown}
-use Rattle.h2_serve.specs.declared.drive_fault.DriveEnd.{DriveEnd}
-use Rattle.h2_serve.specs.declared.drive_fault.DriveFault.{DriveFault}
+use Rattle.h2_serve.specs.declared.driving.drive_fault.DriveEnd.{DriveEnd}
+use Rattle.h2_serve.specs.declared.driving.drive_fault.DriveFault.{DriveFault}
 
 -- what a contract sees of a wire: the octets read and written so far and the lengths of the reads, each where the wire
 -- reports it, and whether its last call failed

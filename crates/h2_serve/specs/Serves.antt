@@ -1,7 +1,7 @@
 -- What a server prints, where the octets that its output holds are known.
 use Rattle.std.specs.Prelude.{◌≡◌, ◌⊎◌, ℕ, ◌<◌, ◌≤◌, ◌++◌, Bool, true, false, List, [], ◌∷◌, length, Option, Some, Result, Ok, Err}
-use Rattle.h2_serve.specs.declared.drive_fault.DriveEnd.{DriveEnd}
-use Rattle.h2_serve.specs.declared.drive_fault.DriveFault.{DriveFault}
+use Rattle.h2_serve.specs.declared.driving.drive_fault.DriveEnd.{DriveEnd}
+use Rattle.h2_serve.specs.declared.driving.drive_fault.DriveFault.{DriveFault}
 use Rattle.h2_serve.specs.Wires.{grown}
 use Rattle.h2_serve.specs.Lines.{end_line, end_lines, listening_line}
 use Rattle.h2_serve.specs.Ports.{Event, HandlesAll, HandlesOne, Listening, Start, localhost}

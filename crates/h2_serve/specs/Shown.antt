@@ -3,9 +3,9 @@
 use Rattle.std.specs.Prelude.{◌≡◌, ◌<◌, ℕ, zero, suc, ◌+◌, ◌++◌, Bool, ◌||◌, if◌then◌else◌, true, false, List, [], ◌∷◌, Option, Some, None, is_none, is_some, Result, Ok, Err, IfErr}
 use Rattle.h2_serve.specs.Drives.{is_out_of_memory}
 use Rattle.h2_serve.specs.Wires.{grown}
-use Rattle.h2_serve.specs.declared.drive_fault.DriveEnd.{DriveEnd}
-use Rattle.h2_serve.specs.declared.drive_fault.DriveFault.{DriveFault}
-use Rattle.h2_serve.specs.declared.drive_fault.DriveFault.TheVariants as drive
+use Rattle.h2_serve.specs.declared.driving.drive_fault.DriveEnd.{DriveEnd}
+use Rattle.h2_serve.specs.declared.driving.drive_fault.DriveFault.{DriveFault}
+use Rattle.h2_serve.specs.declared.driving.drive_fault.DriveFault.TheVariants as drive
 use Rattle.h2_explain.specs.Verdicts.{strict_status}
 use Rattle.h2_explain.specs.declared.run.Form.{Form}
 use Rattle.h2_explain.specs.declared.run.Summary.{Summary}
@@ -15,8 +15,8 @@ use Rattle.h2_serve.specs.Numbered.{prefix_of, prefixed}
 use Rattle.h2_serve.specs.Ports.{Accepted, Closed, DrivesClient, Event, Seen, Start}
 use Rattle.h2_serve.specs.Serves.{Gains}
 use Rattle.h2_serve.specs.ExplainedConns.{Explains}
-use Rattle.h2_serve.specs.declared.explain.Clients.{Clients}
-use Rattle.h2_serve.specs.declared.explain.ClientEnd.{ClientEnd}
+use Rattle.h2_serve.specs.declared.explained.explain.Clients.{Clients}
+use Rattle.h2_serve.specs.declared.explained.explain.ClientEnd.{ClientEnd}
 use Rattle.h2_serve.specs.declared.fault.ServeFault.{ServeFault}
 
 -- how the line says that a connection ended: out of memory where some of its explanation is missing

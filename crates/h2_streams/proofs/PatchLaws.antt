@@ -1,7 +1,7 @@
 -- A patch with one more record of its own.
 use Rattle.std.proofs.Common.{◌≡◌, List, [], ◌∷◌, ◌++◌, refl, ap, ◌∙◌, sym, append-nil, append_assoc}
 use Rattle.h2_spec.specs.declared.streams.Stream.{Stream}
-use Rattle.h2_streams.specs.declared.patch.Run.{Run}
+use Rattle.h2_streams.specs.declared.sharing.patch.Run.{Run}
 use Rattle.h2_streams.specs.Patches.{Step, run_of, steps_of, patched}
 
 steps-more : (base : List Stream) (steps : List Step) (step : Step) → steps_of base (steps ++ step ∷ []) ≡ steps_of base steps ++ (run_of base step.run ++ step.own ∷ [])

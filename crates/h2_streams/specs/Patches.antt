@@ -2,7 +2,7 @@
 -- a last run.
 use Rattle.std.specs.Prelude.{List, [], ◌∷◌, ◌++◌, take, drop}
 use Rattle.h2_spec.specs.declared.streams.Stream.{Stream}
-use Rattle.h2_streams.specs.declared.patch.Run.{Run}
+use Rattle.h2_streams.specs.declared.sharing.patch.Run.{Run}
 
 -- the records of a run
 abbrev pub run_of : List Stream → Run → List Stream

@@ -5,8 +5,8 @@ use Rattle.h2_spec.specs.declared.streams.Stream.{Stream}
 use Rattle.h2_spec.specs.Change.{follows_initial_window, with_send, with_recv}
 use Rattle.h2_spec.specs.Stream.{is_live}
 use Rattle.h2_spec.specs.Window.{max_window, is_above_max}
-use Rattle.h2_streams.specs.declared.shift.InitialWindow.{InitialWindow}
-use Rattle.h2_streams.specs.declared.shift.InitialWindow.TheVariants.{Peer, Own}
+use Rattle.h2_streams.specs.declared.windows.shift.InitialWindow.{InitialWindow}
+use Rattle.h2_streams.specs.declared.windows.shift.InitialWindow.TheVariants.{Peer, Own}
 
 -- settings leave the stream's window above what a window can be at least
 abbrev pub CanShift : ℤ → Stream → Type 0

@@ -3,25 +3,15 @@
 //! `h2_spec/specs/Stream.antt`.
 #![tactic(auto)]
 
-mod base;
-mod greatest;
-mod hash;
-mod ids;
-mod kept;
 mod kinds;
-mod live;
+mod lookup;
 mod own;
-mod patch;
-mod places;
-mod rebuilt;
 mod records;
-mod sends;
-mod shared;
-mod shift;
-mod walks;
+mod sharing;
+mod windows;
 
 pub use h2_spec::errors::FlowFault;
 pub use h2_spec::streams::{Numbers, Pick, Stream, StreamState, is_live};
-pub use kept::KeptStreams;
 pub use kinds::{not_live, octets_waiting, server_ended};
 pub use records::Streams;
+pub use sharing::kept::KeptStreams;

@@ -16,11 +16,11 @@ ghost use Rattle.h2_streams.specs.Put.{CanPut, can_become};
 ghost use Rattle.h2_streams.specs.Rebuilt as earlier;
 ghost use Rattle.h2_streams.specs.Shift as shift;
 
-use crate::base::{Base, replace, share_again, share_first};
-use crate::greatest::overflows_with;
 use crate::kinds::{not_live, peer_closed, reset_kind, server_ended};
 use crate::own::OwnRecords;
-use crate::rebuilt::insert_closed;
+use crate::sharing::base::{Base, replace, share_again, share_first};
+use crate::sharing::rebuilt::insert_closed;
+use crate::windows::greatest::overflows_with;
 use h2_spec::errors::FlowFault;
 use h2_spec::flow::Window;
 use h2_spec::streams::{Numbers, Pick, Stream, StreamState};

@@ -1,8 +1,8 @@
 use Rattle.std.proofs.Common.{◌≡◌, ◌∙◌, ◌++◌, ℕ, List, Some, Result, Err, ap, subst, sym, append_assoc}
 use Rattle.h2_cmd_batch.specs.Each.{not_written, printed_after}
 use Rattle.h2_cmd_batch.specs.CommandEnd.{Prints}
-use Rattle.h2_cmd_batch.specs.declared.each.PrintFault.{PrintFault}
-use Rattle.h2_cmd_batch.specs.declared.each.PrintFault.TheVariants.{Fault}
+use Rattle.h2_cmd_batch.specs.declared.commands.each.PrintFault.{PrintFault}
+use Rattle.h2_cmd_batch.specs.declared.commands.each.PrintFault.TheVariants.{Fault}
 use Rattle.h2_cmd_batch.proofs.batch.print_end.Goals as goal
 
 pub returns-in-Fault-clause-printed : goal.returns-in-Fault-clause-printed

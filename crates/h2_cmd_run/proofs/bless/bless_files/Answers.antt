@@ -1,6 +1,6 @@
 use Rattle.std.proofs.Common.{◌∙◌, Bool, List, Result, ℕ, ap, is_err, map}
 use Rattle.h2_cmd_run.specs.CheckProgram.{common_of, not_checked}
-use Rattle.h2_cmd_batch.specs.declared.each.PrintFault.{PrintFault}
+use Rattle.h2_cmd_batch.specs.declared.commands.each.PrintFault.{PrintFault}
 use Rattle.h2_cmd_run.proofs.Blessed.{file-went, file-stopped, file-told}
 use Rattle.h2_cmd_run.proofs.bless.bless_files.Goals as goal
 

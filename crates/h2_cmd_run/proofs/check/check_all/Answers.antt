@@ -1,7 +1,7 @@
 use Rattle.std.proofs.Common.{◌∙◌, Result, ap, is_err, map}
 use Rattle.h2_cmd_run.specs.CheckProgram.{all_subjects, common_of}
 use Rattle.h2_cmd_batch.specs.Each.{not_written}
-use Rattle.h2_cmd_batch.specs.declared.each.PrintFault.{PrintFault}
+use Rattle.h2_cmd_batch.specs.declared.commands.each.PrintFault.{PrintFault}
 use Rattle.h2_cmd_run.proofs.Checked.{files_ended, files_stopped, files_went}
 use Rattle.h2_cmd_run.proofs.check.check_all.Goals as goal
 

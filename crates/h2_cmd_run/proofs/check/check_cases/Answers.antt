@@ -3,7 +3,7 @@ use Rattle.h2_cmd_book_file.specs.Entries.{Directory}
 use Rattle.h2_cmd_cases.specs.Files.{case_length, cases_in}
 use Rattle.h2_cmd_run.specs.CheckProgram.{Reports, Subject, common_of, subject}
 use Rattle.h2_cmd_batch.specs.Each.{not_written}
-use Rattle.h2_cmd_batch.specs.declared.each.PrintFault.{PrintFault}
+use Rattle.h2_cmd_batch.specs.declared.commands.each.PrintFault.{PrintFault}
 use Rattle.h2_cmd_run.proofs.Checked.{cases_cut, cases_ended, cases_next}
 use Rattle.h2_cmd_run.proofs.check.check_cases.Goals as goal
 

@@ -2,7 +2,7 @@ use Rattle.std.proofs.Common.{◌∙◌, Err, true, false, Result, ap, is_err, m
 use Rattle.h2_cmd_run.specs.CheckProgram.{ChecksFiles, Reports, all_subjects, common_of}
 use Rattle.h2_cmd_batch.specs.Each.{not_written}
 use Rattle.h2_cmd_run.specs.declared.check.CaseTally.{CaseTally}
-use Rattle.h2_cmd_batch.specs.declared.each.PrintFault.{PrintFault}
+use Rattle.h2_cmd_batch.specs.declared.commands.each.PrintFault.{PrintFault}
 use Rattle.h2_cmd_run.proofs.Checked.{checks_cut, checks_whole}
 use Rattle.h2_cmd_run.proofs.check.check_files.Goals as goal
 

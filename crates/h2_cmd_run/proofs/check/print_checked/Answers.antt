@@ -1,8 +1,8 @@
 use Rattle.std.proofs.Common.{◌≡◌, ◌∙◌, ◌++◌, Bool, ℕ, List, Some, Result, Err, ap, rules, subst, sym, append_assoc}
 use Rattle.h2_cmd_run.specs.CheckProgram.{checked_after}
 use Rattle.h2_cmd_batch.specs.CommandEnd.{Prints}
-use Rattle.h2_cmd_batch.specs.declared.each.PrintFault.{PrintFault}
-use Rattle.h2_cmd_batch.specs.declared.each.PrintFault.TheVariants.{Fault}
+use Rattle.h2_cmd_batch.specs.declared.commands.each.PrintFault.{PrintFault}
+use Rattle.h2_cmd_batch.specs.declared.commands.each.PrintFault.TheVariants.{Fault}
 use Rattle.h2_cmd_run.proofs.check.print_checked.Goals as goal
 
 pub returns-in-Err-Fault-clause-printed : goal.returns-in-Err-Fault-clause-printed

@@ -3,7 +3,7 @@ use Rattle.h2_explain.specs.declared.run.Summary.{Summary}
 use Rattle.h2_explain.specs.declared.run.ExplainFault.{ExplainFault}
 use Rattle.h2_explain.specs.Explains.{IsExplanation, not_written}
 use Rattle.h2_cmd_run.specs.ExplainProgram.{ReportsRun, explained_after}
-use Rattle.h2_cmd_batch.specs.declared.each.PrintFault.{PrintFault}
+use Rattle.h2_cmd_batch.specs.declared.commands.each.PrintFault.{PrintFault}
 use Rattle.h2_cmd_run.proofs.Explained.{end-reports, status-of}
 use Rattle.h2_cmd_run.proofs.explain.explain_conn.Goals as goal
 

@@ -1,0 +1,6 @@
+//! What one item does: its rule, and the change that is made of it (RFC 9113, 5 and 6).
+
+pub(crate) mod apply_change;
+pub(crate) mod data_frame;
+pub(crate) mod item;
+pub(crate) mod receive;

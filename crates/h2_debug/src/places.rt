@@ -1,0 +1,6 @@
+//! Places in a run, and the moves between them.
+
+pub(crate) mod forward;
+pub(crate) mod kept_place;
+pub(crate) mod place;
+pub(crate) mod source;

@@ -1,7 +1,0 @@
-use Rattle.std.proofs.Common.{refl}
-use Rattle.h2_explain_item.specs.Counts.{all_counts}
-use Rattle.h2_explain_item.proofs.count.names.Goals as goal
-
-pub returns : goal.returns
-unfolding all_counts
-returns c = refl

@@ -1,0 +1,8 @@
+//! What is wrong with an item, and which special case or warning that is.
+
+pub mod error_context;
+pub mod facts;
+pub mod fields;
+pub mod request_facts;
+pub mod special;
+pub mod warning;

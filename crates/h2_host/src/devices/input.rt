@@ -1,0 +1,327 @@
+//! Which device is the input of a command: standard input, a file that the words name, or the lines of a console; and
+//! the octets themselves or their hex.
+
+use crate::commands::Commands;
+use crate::devices::files::STANDARD_INPUT;
+use crate::prompt::session_explainer::SessionExplainer;
+use crate::{
+    Behind, Console, Front, Hexed, Manner, SessionState, TakenInput, WaitingInput, WaitingOutput,
+    hex_of, one_line,
+};
+use h2_cmd_args::command::{Batch, Check, Devices, Plan, Refusal};
+use h2_cmd_book_file::{Files, FilesFault, StdFiles};
+use h2_cmd_messages::InputSource;
+use h2_io::MAX_INPUT;
+use std::alloc::AllocError;
+use std::io::{ErrorKind, Stderr, Stdin, Stdout};
+
+/// Standard output as the program writes to it.
+pub type Standard<'r> = WaitingOutput<'r, HostRuntime, Stdout>;
+
+/// Standard input as a command reads it.
+type StandardInput<'r> = Hexed<WaitingInput<'r, HostRuntime, Stdin>>;
+
+/// The input of a command.
+pub type CommandInput<'r, 'c, C> = TakenInput<Lines<'r, 'c, C>>;
+
+/// What is read of standard input.
+type Lines<'r, 'c, C> = Behind<'c, StandardInput<'r>, Stdout, Stderr, SessionExplainer<'r, 'c, C>>;
+
+/// The input of a command, and what is known of it.
+#[derive(Drop)]
+pub struct Given<'r, 'c, C> {
+    /// The input itself.
+    pub taken: CommandInput<'r, 'c, C>,
+    /// What it is called where a sentence names it.
+    pub source: InputSource<'c>,
+    /// What is known of a session.
+    pub state: &'c SessionState,
+}
+
+impl<C> Given<'_, '_, C> {
+    /// The line of standard input that has a session's first command, from 1; `None` where a console answers lines too.
+    pub fn first_command(&self, devices: Devices<'_>) -> Option<usize> {
+        match self.source {
+            _ if devices.prompt != "" => None,
+            InputSource::Input => Some(2),
+            InputSource::File(_) => Some(1),
+        }
+    }
+}
+
+/// Whether a session is asked for.
+pub fn is_session(asked: &Result<Plan<'_>, Refusal>) -> bool {
+    match asked {
+        Ok(Plan::Debug(_)) => true,
+        _ => false,
+    }
+}
+
+/// Why words of `check` are refused that don't go together, where they don't.
+fn refusal_of_check(check: &Check<'_>) -> Option<&'static str> {
+    if check.in_place && !check.bless {
+        return Some("error: --in-place needs --bless\n");
+    }
+    if check.in_place && check.files.iter().any(|file| *file == STANDARD_INPUT) {
+        return Some("error: --in-place needs files: standard input can't be written anew\n");
+    }
+    if check.bless && !check.in_place && check.files.len() > 1 {
+        return Some(
+            "error: --bless writes one file to standard output; --in-place writes each where it is\n",
+        );
+    }
+    None
+}
+
+/// Why words that don't go together are refused, where they don't.
+fn refusal_of(asked: &Result<Plan<'_>, Refusal>, devices: Devices<'_>) -> Option<&'static str> {
+    if let Ok(Plan::Check(check)) = asked {
+        return refusal_of_check(check);
+    }
+    if let Ok(Plan::Explain(explain)) = asked
+        && explain.file != ""
+        && devices.file != ""
+    {
+        return Some("error: FILE and --in FILE are two inputs: leave out one\n");
+    }
+    if !is_session(asked) {
+        return None;
+    }
+    if devices.prompt != "" && devices.prompt != "dot" && devices.prompt != "line" {
+        return Some("error: invalid value for '--prompt <prompt>': dot or line\n");
+    }
+    if devices.raw && devices.file == "" {
+        return Some(
+            "error: --raw of debug needs --in FILE: the lines of standard input are its commands\n",
+        );
+    }
+    None
+}
+
+/// The path of the book that a plan has; empty where it has none.
+fn book_of<'p>(plan: &'p Plan<'_>) -> &'p str {
+    match plan {
+        Plan::Batch(Batch::Play(play)) => play.book.file,
+        Plan::Debug(debug) => debug.book.file,
+        Plan::Serve(serve) => serve.book.file,
+        Plan::Explain(explain) => explain.book.file,
+        Plan::Check(check) => check.book.file,
+        Plan::Batch(_) => "",
+    }
+}
+
+/// Whether a command reads standard input for something else than its book.
+fn reads_input(plan: &Plan<'_>, devices: Devices<'_>) -> bool {
+    match plan {
+        Plan::Batch(_) => devices.file == "",
+        Plan::Debug(_) => true,
+        Plan::Serve(_) => false,
+        Plan::Explain(explain) => explain.file == "" && devices.file == "",
+        Plan::Check(check) => check.files.iter().any(|file| *file == STANDARD_INPUT),
+    }
+}
+
+/// Why the words are refused where both the book and the input are standard input.
+fn refusal_of_book(plan: &Plan<'_>, devices: Devices<'_>) -> Option<&'static str> {
+    if book_of(plan) == STANDARD_INPUT && reads_input(plan, devices) {
+        return Some(
+            "error: --book - reads the book from standard input, which this command reads for something else: name a file\n",
+        );
+    }
+    None
+}
+
+/// Why the words are refused for the devices that they name, where they are.
+pub fn refusal_for_devices(
+    asked: &Result<Plan<'_>, Refusal>,
+    devices: Devices<'_>,
+) -> Option<&'static str> {
+    match asked {
+        Ok(plan) => refusal_of_book(plan, devices).or(refusal_of(asked, devices)),
+        Err(_) => None,
+    }
+}
+
+/// The path of the file that is the input: that of `--in`; of `explain` also its FILE, where it is a case, or the words say
+/// that it has the octets themselves, since the command itself reads hex. Empty where standard input, or the command itself,
+/// has the input.
+fn file_of<'w>(
+    asked: &mut Result<Plan<'w>, Refusal>,
+    devices: Devices<'w>,
+    is_case: bool,
+) -> &'w str {
+    match asked {
+        Ok(Plan::Explain(explain)) if explain.file != "" && (devices.raw || is_case) => {
+            let file = explain.file;
+            explain.file = "";
+            file
+        }
+        _ => devices.file,
+    }
+}
+
+/// Standard input.
+fn standard<'r>(rt: &'r HostRuntime, is_raw: bool) -> StandardInput<'r> {
+    Hexed::new(WaitingInput::new(rt, rt.stdin()), is_raw)
+}
+
+/// What is read of standard input: its octets, or the lines of a console. Those of a session over a file are commands
+/// alone; `octets` are then the file's.
+fn behind<'r, 'c, C: Commands>(
+    rt: &'r HostRuntime,
+    devices: Devices<'_>,
+    octets: Option<Vec<u8>>,
+    explainer: SessionExplainer<'r, 'c, C>,
+    state: &'c SessionState,
+) -> Lines<'r, 'c, C> {
+    if devices.prompt == "" {
+        return Behind::Plain(standard(rt, devices.raw && octets.is_none()));
+    }
+    let manner = Manner {
+        has_prompt: devices.prompt == "line",
+        has_dots: devices.prompt == "dot",
+        has_first: octets.is_none(),
+        octets: octets.unwrap_or(Vec::new(rt.alloc())),
+        explainer,
+    };
+    Behind::Console(Console::new(
+        rt.alloc(),
+        standard(rt, false),
+        rt.stdout(),
+        rt.stderr(),
+        manner,
+        state,
+    ))
+}
+
+/// The octets of a file, at most that many as an input may have; `OutOfMemory` only where memory was refused.
+pub fn read_file(rt: &HostRuntime, path: &str, most: usize) -> Result<Vec<u8>, ErrorKind> {
+    let mut files = StdFiles { runtime: rt };
+    match files.read(rt.alloc(), path, most) {
+        Ok(octets) => Ok(octets),
+        Err(FilesFault::NoMemory) => Err(ErrorKind::OutOfMemory),
+        Err(FilesFault::TooLong) => Err(ErrorKind::FileTooLarge),
+        Err(FilesFault::Failed) => Err(files.failure(path).unwrap_or(ErrorKind::Other)),
+    }
+}
+
+/// The text of a file: as it is, or the hex of its octets.
+fn text_of(rt: &HostRuntime, path: &str, is_raw: bool) -> Result<Vec<u8>, ErrorKind> {
+    if !is_raw {
+        return read_file(rt, path, MAX_INPUT);
+    }
+    let octets = read_file(rt, path, MAX_INPUT / 2)?;
+    match hex_of(rt.alloc(), octets.as_slice()) {
+        Ok(text) => Ok(text),
+        Err(_) => Err(ErrorKind::OutOfMemory),
+    }
+}
+
+/// What a session is given of a file: its text as one line; and the text itself, where a person or a program may ask what
+/// it means.
+fn session_front(
+    rt: &HostRuntime,
+    has_prompt: bool,
+    text: Vec<u8>,
+) -> Result<(Front, Vec<u8>), AllocError> {
+    let line = one_line(rt.alloc(), text.as_slice())?;
+    let octets = if has_prompt {
+        text.as_slice().to_vec(rt.alloc())?
+    } else {
+        Vec::new(rt.alloc())
+    };
+    let front = Front {
+        text: line,
+        seen: text,
+        failure: None,
+        reads_on: true,
+    };
+    Ok((front, octets))
+}
+
+/// What a command other than a session is given of a file.
+fn whole_front(rt: &HostRuntime, text: Vec<u8>) -> Result<(Front, Vec<u8>), AllocError> {
+    let seen = text.as_slice().to_vec(rt.alloc())?;
+    let front = Front {
+        text,
+        seen,
+        failure: None,
+        reads_on: false,
+    };
+    Ok((front, Vec::new(rt.alloc())))
+}
+
+/// What a command is given of the text of a file.
+fn front_over(
+    rt: &HostRuntime,
+    asked: &Result<Plan<'_>, Refusal>,
+    has_prompt: bool,
+    text: Vec<u8>,
+) -> Result<(Front, Vec<u8>), AllocError> {
+    match asked {
+        Ok(Plan::Debug(_)) => session_front(rt, has_prompt, text),
+        _ => whole_front(rt, text),
+    }
+}
+
+/// What a command is given of a file, and the file's text, for a session. The text of a case is that of its script.
+fn front_of(
+    rt: &HostRuntime,
+    asked: &Result<Plan<'_>, Refusal>,
+    devices: Devices<'_>,
+    path: &str,
+    case: Option<Vec<u8>>,
+) -> (Front, Vec<u8>) {
+    let read = match case {
+        Some(text) => Ok(text),
+        None => text_of(rt, path, devices.raw),
+    };
+    let text = match read {
+        Ok(text) => text,
+        Err(kind) => return (Front::unread(rt.alloc(), kind), Vec::new(rt.alloc())),
+    };
+    match front_over(rt, asked, devices.prompt != "", text) {
+        Ok(front) => front,
+        Err(_) => (
+            Front::unread(rt.alloc(), ErrorKind::OutOfMemory),
+            Vec::new(rt.alloc()),
+        ),
+    }
+}
+
+/// Refuses the words where memory for the input's file was refused.
+fn refuse_for_memory(asked: &mut Result<Plan<'_>, Refusal>, failure: Option<ErrorKind>) {
+    if failure == Some(ErrorKind::OutOfMemory) {
+        *asked = Err(Refusal::NoMemory);
+    }
+}
+
+/// The input of a command; `case` is the text of its file, where that is a case. Where memory for a file is refused, the
+/// words are refused for that.
+pub fn input_of<'r, 'c, 'w: 'c, C: Commands>(
+    rt: &'r HostRuntime,
+    commands: &'r C,
+    asked: &mut Result<Plan<'w>, Refusal>,
+    devices: Devices<'w>,
+    case: Option<Vec<u8>>,
+    state: &'c SessionState,
+) -> Given<'r, 'c, C> {
+    let path = file_of(asked, devices, case.is_some());
+    let explainer = SessionExplainer::new(rt, commands, asked);
+    if path == "" {
+        let behind = behind(rt, devices, None, explainer, state);
+        return Given {
+            taken: TakenInput::new(Front::empty(rt.alloc()), behind),
+            source: InputSource::Input,
+            state,
+        };
+    }
+    let (front, octets) = front_of(rt, asked, devices, path, case);
+    refuse_for_memory(asked, front.failure);
+    let behind = behind(rt, devices, Some(octets), explainer, state);
+    Given {
+        taken: TakenInput::new(front, behind),
+        source: InputSource::File(path),
+        state,
+    }
+}

@@ -1,0 +1,172 @@
+//! The input of a command: the text of a file, or what a reader gives. What was given is kept for a second look, since
+//! a reader can't be read again.
+
+ghost use Rattle.std.specs.Prelude.{◌≤◌, length, IfOk};
+
+use crate::devices::copied::copy_from;
+use std::alloc::{AllocError, Global};
+use std::io;
+use std::io::{ErrorKind, Read};
+
+/// What a file gives before the reader is read, if that is read at all.
+#[derive(Drop)]
+pub struct Front {
+    /// What is given first.
+    pub text: Vec<u8>,
+    /// What was refused is looked for in this text.
+    pub seen: Vec<u8>,
+    /// Why the file was not read, where it was not.
+    pub failure: Option<ErrorKind>,
+    /// Whether the reader is read after it.
+    pub reads_on: bool,
+}
+
+impl Front {
+    /// Nothing: all is what the reader gives.
+    pub fn empty(alloc: Global) -> Front {
+        Front {
+            text: Vec::new(alloc),
+            seen: Vec::new(alloc),
+            failure: None,
+            reads_on: true,
+        }
+    }
+
+    /// A file that can't be read for this reason.
+    pub fn unread(alloc: Global, failure: ErrorKind) -> Front {
+        Front {
+            text: Vec::new(alloc),
+            seen: Vec::new(alloc),
+            failure: Some(failure),
+            reads_on: false,
+        }
+    }
+}
+
+/// The input of a command.
+#[derive(Drop)]
+pub struct TakenInput<R> {
+    /// What is given first.
+    front: Vec<u8>,
+    given: usize,
+    reader: R,
+    /// Whether the reader is read after what is given first.
+    reads_on: bool,
+    /// What was refused is looked for in this text: that of the file, or of the reader where there is no file.
+    seen: Vec<u8>,
+    /// Whether the reader's text is kept there.
+    keeps: bool,
+    /// How many octets there were in all.
+    count: usize,
+    /// Whether it was the reader that could not be read.
+    is_reader_failure: bool,
+    /// Whether memory for that text was refused.
+    is_cut: bool,
+    /// Why the file or the reader was not read.
+    failure: Option<ErrorKind>,
+}
+
+/// The text of a file as the first line of a session: without its line feeds, and one after it.
+pub fn one_line(alloc: Global, text: &[u8]) -> Result<Vec<u8>, AllocError> {
+    let mut line = Vec::new(alloc);
+    for octet in text {
+        if *octet != b'\n' {
+            line.push(*octet)?;
+        }
+    }
+    line.push(b'\n')?;
+    Ok(line)
+}
+
+impl<R: Read> TakenInput<R> {
+    /// What a file gives, and then what a reader gives, if that is read at all.
+    pub fn new(front: Front, reader: R) -> TakenInput<R> {
+        TakenInput {
+            keeps: front.text.is_empty(),
+            count: front.text.len(),
+            front: front.text,
+            given: 0,
+            reader,
+            reads_on: front.reads_on,
+            seen: front.seen,
+            is_reader_failure: false,
+            is_cut: false,
+            failure: front.failure,
+        }
+    }
+
+    /// What was refused, if anything was, is in this text.
+    pub fn seen(&self) -> &[u8] {
+        self.seen.as_slice()
+    }
+
+    /// How many octets there were in all: those of the file, and those that were read after it.
+    pub fn count(&self) -> usize {
+        self.count
+    }
+
+    /// Whether it was the reader that could not be read, and no file.
+    pub fn is_reader_failure(&self) -> bool {
+        self.is_reader_failure
+    }
+
+    /// Whether memory for that text was refused, so that it is not whole.
+    pub fn is_cut(&self) -> bool {
+        self.is_cut
+    }
+
+    /// Why the last read failed, where it did.
+    pub fn failure(&self) -> Option<ErrorKind> {
+        self.failure
+    }
+
+    /// Gives of what is given first as much as there is space for.
+    fn give_front(&mut self, buffer: &mut [u8]) -> usize
+        ensures { result ≤ length buffer.new }
+    {
+        let count = copy_from(self.front.as_slice(), self.given, buffer);
+        self.given = self.given.saturating_add(count);
+        count
+    }
+
+    /// Reads after what is given first.
+    fn read_after(&mut self, buffer: &mut [u8]) -> io::Result<usize>
+        ensures { IfOk result (λ count. count ≤ length buffer.new) }
+    {
+        if self.reads_on {
+            self.reader.read(buffer)
+        } else {
+            Ok(0)
+        }
+    }
+
+    fn keep(&mut self, octets: &[u8]) {
+        self.count = self.count.saturating_add(octets.len());
+        if self.keeps && !self.is_cut {
+            self.is_cut = self.seen.extend_from_slice(octets).is_err();
+        }
+    }
+}
+
+impl<R: Read> Read for TakenInput<R> {
+    fn read(&mut self, buffer: &mut [u8]) -> io::Result<usize> {
+        if let Some(kind) = self.failure {
+            return Err(io::Error::from(kind));
+        }
+        let count = self.give_front(buffer);
+        if count > 0 {
+            return Ok(count);
+        }
+        match self.read_after(buffer) {
+            Ok(count) => {
+                self.keep(&buffer[..count]);
+                Ok(count)
+            }
+            Err(error) => {
+                self.failure = Some(error.kind());
+                self.is_reader_failure = true;
+                Err(error)
+            }
+        }
+    }
+}

@@ -1,0 +1,37 @@
+use Rattle.std.proofs.Common.{◌∙◌, ◌++◌, List, ℕ, ap, refl}
+use Rattle.h2_spec.specs.Opening.{opening_octets}
+use Rattle.h2_conn.specs.Connection.{Connection}
+use Rattle.h2_serve.specs.Ports.{start_of}
+use Rattle.h2_serve.proofs.ServeLemmas.{handles-first, handles-none-but, handles-one}
+use Rattle.h2_serve.proofs.ShownLemmas.{next-shown, prints-no-limits, prints-no-socket}
+use Rattle.h2_serve.proofs.explained.explain.explain_next.Goals as goal
+
+pub returns-in-Ok-shown-clause-shown : goal.returns-in-Ok-shown-clause-shown
+returns-in-Ok-shown-clause-shown g c =
+    let pending = c.in-Ok-open.ensures.sent ∙ ap (λ (xs : List ℕ). xs ++ opening_octets c.args.config) c.new-out.ensures.items in
+    next-shown c.args.form (start_of c.args.book.now c.args.config) _ _ c.args.number (g.W.Write.contents c.args.output.now) (g.W.Write.contents c.print.new.output)
+    (g.W.Write.contents c.explain_over-shown.new.output) (g.W.Write.contents c.print_end.new.output) _ (g.L.Listener.events c.accept.new.self) _ _ _ _ c.in-Ok-shown.shown c.print_end.result
+    (ap (λ (d : Connection). d.state) c.in-Ok-open.ensures.opened) pending c.in-Ok.ensures.ok c.close.ensures
+    c.in-Ok-print.ensures.ok c.in-Ok-shown.ensures.drives c.in-Ok-shown.ensures.shows c.in-Ok-shown.ensures.lost c.print_end.ensures.ok c.print_end.ensures.conclusion
+
+pub returns-in-Ok-shown-clause-wires : goal.returns-in-Ok-shown-clause-wires
+returns-in-Ok-shown-clause-wires g c =
+    let pending = c.in-Ok-open.ensures.sent ∙ ap (λ (xs : List ℕ). xs ++ opening_octets c.args.config) c.new-out.ensures.items in
+    handles-first (start_of c.args.book.now c.args.config) c.in-Ok-shown.shown.end _ _
+    (handles-one (start_of c.args.book.now c.args.config) _ _ c.in-Ok-shown.shown.end _ _ _ _ _ _
+    (ap (λ (d : Connection). d.state) c.in-Ok-open.ensures.opened) pending c.in-Ok.ensures.ok c.close.ensures c.in-Ok-shown.ensures.drives)
+
+pub returns-in-Err-shown-clause-wires : goal.returns-in-Err-shown-clause-wires
+returns-in-Err-shown-clause-wires g c = handles-none-but (start_of c.args.book.now c.args.config) 1 _ _ _ c.in-Ok.ensures.ok
+
+pub returns-in-Ok-shown-clause-fault : goal.returns-in-Ok-shown-clause-fault
+returns-in-Ok-shown-clause-fault g c = λ allowed. prints-no-limits c.print_end.result (c.print_end.ensures.fault c.in-Ok-shown.ensures.fault)
+
+pub returns-in-Ok-shown-clause-socket : goal.returns-in-Ok-shown-clause-socket
+returns-in-Ok-shown-clause-socket g c = prints-no-socket c.print_end.result _ (c.print_end.ensures.fault c.in-Ok-shown.ensures.fault)
+
+pub returns-in-Err-print-clause-wires : goal.returns-in-Err-print-clause-wires
+returns-in-Err-print-clause-wires g c = handles-none-but (start_of c.args.book.now c.args.config) 1 _ _ _ c.in-Ok.ensures.ok
+
+pub returns-in-Err-open-clause-wires : goal.returns-in-Err-open-clause-wires
+returns-in-Err-open-clause-wires g c = handles-none-but (start_of c.args.book.now c.args.config) 1 _ _ _ c.in-Ok.ensures.ok

@@ -1,0 +1,154 @@
+//! A connection that is explained while it is driven over a wire.
+//! Definitions: `specs/ExplainedConns.antt`.
+
+ghost use Rattle.std.specs.Prelude.{◌≡◌, ℕ, List, [], ◌++◌, Bool, true, false, None, is_none, IfErr, IfOk};
+ghost use Rattle.std.specs.Io.KnownBytes.{Appends};
+ghost use Rattle.h2_serve.specs.Faults.{is_of_printing};
+ghost use Rattle.h2_serve.specs.Numbered.{PrintsPrefixed, prefixed};
+ghost use Rattle.h2_serve.specs.ExplainedConns.{Concludes, GoesOn, IsWatched, whole};
+ghost use Rattle.std.proofs.Common.{refl, ◌∙◌};
+ghost use Rattle.h2_serve.specs.Passes.{goes-more, goes-none, prints-none, prints-then};
+
+use crate::Driven;
+use crate::explained::keeper::Keeper;
+use crate::explained::numbered::Printer;
+use crate::fault::ServeFault;
+use h2_conn::Conn;
+use h2_explain::{RunExplainer, Summary};
+use h2_io::Gathered;
+use std::alloc::{AllocError, Global};
+use std::io::Write;
+
+/// More octets than a connection ever has: those of a million reads are less.
+const MOST: usize = 1 << 63;
+
+/// What is known of a connection once its end was explained.
+#[derive(Clone, Copy)]
+pub struct Conclusion {
+    /// Whether memory was refused for some of the explanation, which is not printed.
+    pub is_cut: bool,
+    /// What sums the connection up; nothing where memory was refused while it was driven.
+    pub summary: Option<Summary>,
+}
+
+/// A connection that is driven, its explanation, and what prints and keeps it.
+#[derive(Drop)]
+pub(crate) struct ExplainedConn<'b, 'o, W, K> {
+    pub(crate) alloc: Global,
+    pub(crate) conn: Conn<'b, Global>,
+    pub(crate) explanation: RunExplainer,
+    pub(crate) printer: Printer<'o, W>,
+    pub(crate) keeper: &'o mut K,
+    /// How many octets came.
+    pub(crate) came: usize,
+    /// Whether memory was refused.
+    pub(crate) failed: bool,
+}
+
+impl<W: Write, K: Keeper> Driven<Vec<u8>> for ExplainedConn<'_, '_, W, K> {
+    ghost connection = { λ w. whole w.failed w.conn.state w.explanation.held.items };
+
+    ghost is_ready = { λ w. IsWatched w.failed w.conn w.explanation w.came };
+
+    ghost passes = { λ refused w octets x. w.failed ≡ false
+        → (x.failed ≡ refused) × (x.printer.prefix.items ≡ w.printer.prefix.items) × (x.printer.json ≡ w.printer.json)
+        × (x.printer.output.ghost_name ≡ w.printer.output.ghost_name)
+        × GoesOn refused w.conn w.explanation
+        (λ more. PrintsPrefixed w.printer.prefix.items w.printer.json w.printer.fresh w.printer.fault (W.contents w.printer.output.now)
+        more x.printer.fresh x.printer.fault (W.contents x.printer.output.now))
+        octets x.conn x.explanation };
+
+    fn take_octets(&mut self, piece: &[u8], out: &mut Vec<u8>) -> Result<(), AllocError> {
+        self.keeper.keep_read(piece);
+        let came = self.came.saturating_add(piece.len());
+        if came >= MOST {
+            self.failed = true;
+            return Err(AllocError);
+        }
+        self.came = came;
+        let mut text = Gathered::new(self.alloc);
+        let fed = self.explanation.feed(
+            self.alloc,
+            &mut self.conn,
+            piece,
+            out,
+            &mut text,
+            self.keeper,
+        );
+        self.printer.print_gathered(self.alloc, &text);
+        match fed {
+            Ok(()) => Ok(()),
+            Err(_) => {
+                self.failed = true;
+                Err(AllocError)
+            }
+        }
+    }
+
+    fn end_code(&self) -> Option<u32> {
+        self.conn.ended()
+    }
+
+    fn is_failed(&self) -> bool {
+        self.failed
+    }
+
+    ghost passes_none = { λ w going. (going, refl, refl, refl, goes-none _ _ _ (prints-none w.printer.prefix.items w.printer.json w.printer.fresh w.printer.fault (W.contents w.printer.output.now))) };
+
+    ghost passes_more = { λ refused w x y a b first later going.
+        let one = first going in
+        let two = later one.0 in (
+          two.0,
+          two.1 ∙ one.1,
+          two.2 ∙ one.2,
+          two.3 ∙ one.3,
+          goes-more refused _ _ _ _ _ _ _ _ _ a b (λ s t p q. prints-then _ _ _ _ _ _ _ _ _ _ _ _ _ s t one.1 one.2 p q) one.4 two.4,
+        ) };
+}
+
+impl<'b, 'o, W: Write, K: Keeper> ExplainedConn<'b, 'o, W, K> {
+    /// Prints the end of the explanation, and sums the connection up.
+    fn print_end(&mut self) -> Conclusion
+        requires ready { IsWatched self.old.failed self.old.conn self.old.explanation self.old.came }
+        ensures ended { Concludes self.old.failed result self.old.conn self.old.explanation
+            (λ more. PrintsPrefixed self.old.printer.prefix.items self.old.printer.json self.old.printer.fresh self.old.printer.fault (W.contents self.old.printer.output.now)
+            more self.new.printer.fresh self.new.printer.fault (W.contents self.new.printer.output.now)) }
+        ensures lost { is_none result.summary ≡ self.old.failed }
+        ensures same_reference { self.new.printer.output.ghost_name ≡ self.old.printer.output.ghost_name }
+    {
+        if self.failed {
+            return Conclusion {
+                is_cut: true,
+                summary: None,
+            };
+        }
+        let mut text = Gathered::new(self.alloc);
+        let ended = self.explanation.end(self.alloc, &self.conn, &mut text);
+        self.printer.print_gathered(self.alloc, &text);
+        Conclusion {
+            is_cut: ended.is_err(),
+            summary: Some(self.explanation.summary(&self.conn)),
+        }
+    }
+
+    /// Prints the end of the explanation, and sums the connection up; a fault says why not all that was explained was
+    /// printed. Gives the output back.
+    pub(crate) fn finish(self) -> (Result<Conclusion, ServeFault>, &'o mut W)
+        requires ready { IsWatched self.failed self.conn self.explanation self.came }
+        ensures ended { IfOk result.0 (λ x. Concludes self.entry.failed x self.entry.conn self.entry.explanation
+            (λ more. (self.entry.printer.fault ≡ None) × Appends (W.contents self.entry.printer.output.now) (W.contents result.1.now)
+            (prefixed self.entry.printer.prefix.items self.entry.printer.json self.entry.printer.fresh more))) }
+        ensures lost { IfOk result.0 (λ x. is_none x.summary ≡ self.entry.failed) }
+        ensures fault { IfErr result.0 (λ fault. is_of_printing fault ≡ true) }
+        ensures same_reference { result.1.ghost_name ≡ self.entry.printer.output.ghost_name }
+    {
+        let mut watched = self;
+        let conclusion = watched.print_end();
+        let Self { printer, .. } = watched;
+        let (output, fault) = printer.into_parts();
+        match fault {
+            None => (Ok(conclusion), output),
+            Some(fault) => (Err(fault.of_server()), output),
+        }
+    }
+}
