@@ -41,7 +41,15 @@ impl<'b, A: Allocator> Model for Checkpoint<'b, A> {
 
     ghost Value = { CheckpointView };
 
-    ghost view = { λ m. record { book = m.book.now; config = m.config; core = m.core; block = m.block; table = m.table.table; count = m.count; changing = m.changing } };
+    ghost view = { λ m. record {
+      book = m.book.now;
+      config = m.config;
+      core = m.core;
+      block = m.block;
+      table = m.table.table;
+      count = m.count;
+      changing = m.changing;
+    } };
 
     ghost invariant = { λ m. (m.table.limit ≡ m.core.own.table) × AreInRange (configured m.config) };
 }

@@ -44,7 +44,8 @@ impl<'b, A: Allocator> Model for State<'b, A> {
 
     ghost view = { λ s. record { book = s.book.now; config = s.config; core = s.core; block = s.block; table = s.table.table; streams = s.streams.streams } };
 
-    ghost invariant = { λ s. IsSoundState s.book.now s.core s.streams × (s.table.limit ≡ s.core.own.table) × IsOpenFor s.streams s.block × AreInRange (configured s.config) };
+    ghost invariant = { λ s. IsSoundState s.book.now s.core s.streams × (s.table.limit ≡ s.core.own.table)
+        × IsOpenFor s.streams s.block × AreInRange (configured s.config) };
 }
 
 /// By hand, as that of `Conn`.
