@@ -82,15 +82,6 @@ fn reset_by<A: Allocator>(block: &Option<OpenBlock<A>>) -> Option<u32>
     }
 }
 
-impl<'b, A: Allocator> State<'b, A> {
-    /// What is true of the state of every connection.
-    pub(crate) fn consistent(&self)
-        ensures { IsConsistent self.now }
-    {
-        let _rising = self.streams.last();
-    }
-}
-
 /// The header table of a checkpoint, if there is a checkpoint.
 fn table_of<'m, A: Allocator>(
     checkpoint: Option<&'m Checkpoint<'_, A>>,

@@ -2,6 +2,7 @@
 //! `specs/State.antt`.
 
 ghost use Rattle.std.specs.Prelude.{◌≡◌, IfOk};
+ghost use Rattle.h2_conn.specs.Checkpoint.{IsConsistent};
 ghost use Rattle.h2_conn.specs.Records.{records};
 ghost use Rattle.h2_conn_rules.specs.Sound.{AreInRange, HasBody, IsSoundState, IsSoundStream, in_force};
 ghost use Rattle.h2_spec.specs.State.{configured, opening, opening_core};
@@ -145,5 +146,14 @@ impl<'b, A: Allocator + Copy> State<'b, A> {
         ensures waits { HasBody self.now.book result }
     {
         self.streams.stream_at(id)
+    }
+}
+
+impl<'b, A: Allocator> State<'b, A> {
+    /// For the prover alone, as each `let _` of these crates: what is true of the state of every connection.
+    pub fn consistent(&self)
+        ensures { IsConsistent self.now }
+    {
+        let _rising = self.streams.last();
     }
 }

@@ -264,7 +264,7 @@ impl<'b, A: Allocator + Copy> State<'b, A> {
         ensures rule { cell_of result ≡ headers_cell id (stream_at self.now.core.last self.now.streams id).kind }
         ensures known { IfOk result (λ purpose. IsOpenAt (records self.now) id purpose) }
     {
-        let _core = self.core();
+        self.consistent();
         headers_purpose(id, self.stream_at(id).kind)
     }
 
