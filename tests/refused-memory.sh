@@ -106,13 +106,13 @@ refused_sessions() {
 
 # A session for programs that was refused memory for what it keeps of its octets: each `explain` and `list` answers `fault 0`.
 cut_session() {
-    python3 -c '
-import sys
-commands = open(sys.argv[1]).read().splitlines()[1:]
-answers = open(sys.argv[2]).read().split("\n.\n")
-for command, answer in zip(commands, answers):
-    print("fault 0" if command in ("explain", "list") else answer, ".", sep="\n")
-' "$made/input" "$made/whole" > "$made/session-cut"
+    awk '
+        FNR == NR { command[FNR - 1] = $0; next }
+        FNR == 1 { place = 1 }
+        { is_refused = command[place] == "explain" || command[place] == "list" }
+        $0 == "." { if (is_refused) print "fault 0"; print; place++; next }
+        !is_refused
+    ' "$made/input" "$made/whole" > "$made/session-cut"
 }
 
 is_session_with_a_refusal() {
@@ -175,7 +175,7 @@ refuse_each() {
     if [ "$alone" = 0 ]; then fail 1 "no run ended in 'fault 0': is the malloc of this script loaded?"; fi
 }
 
-# Serves one connection, whose client sends $made/input as octets; leaves as `run` does, and what the client received.
+# Serves one connection, whose client sends the octets of $made/input; leaves as `run` does, and what the client received.
 serve() {
     local call=$1 server
     shift
@@ -184,7 +184,7 @@ serve() {
     port=$((20000 + RANDOM % 20000))
     REFUSED_CALL=$call LD_PRELOAD=$made/refuse.so "$program" serve "$port" 1 "$@" > "$made/output" 2> "$made/errors" 9> "$made/refused" &
     server=$!
-    python3 "$top/tests/clients/refused.py" "$port" "$server" < "$made/octets" > "$made/received"
+    python3 "$top/tests/clients/refused.py" "$port" "$server" < "$made/input" > "$made/received"
     wait "$server" || status=$?
 }
 
@@ -236,7 +236,6 @@ refuse_each_served() {
     local how=$1
     name=$2
     shift 2
-    python3 -c 'import sys; sys.stdout.buffer.write(bytes.fromhex(sys.stdin.read()))' < "$made/input" > "$made/octets"
     serve 0 "$@"
     cp "$made/received" "$made/whole"
     cp "$made/errors" "$made/whole-errors"

@@ -1,8 +1,8 @@
 #!/usr/bin/env bash
-# Words to avoid, each with a better one, in documents and in the comments of *.rt and *.antt. What is between backticks, indented by four spaces in a page, or
-# in the table of rules that is made from sources, is not looked at.
+# Words to avoid, each with a better one, in documents, in the comments of *.rt and *.antt, and in the strings of *.rt that have a blank. What is between backticks,
+# indented by four spaces in a page, or in the table of rules that is made from sources, is not looked at.
 #
-#   tools/words.sh              README.md, CONTRIBUTING.md, CHANGELOG.md and docs, but for the pages made from sources, and all comments
+#   tools/words.sh              README.md, CONTRIBUTING.md, CHANGELOG.md and docs, but for the pages made from sources, and all comments and strings
 #   tools/words.sh --since REV  the lines of these that were added since a revision
 #   tools/words.sh --all        how many there are, by file, in all of these; the status is 0
 #
@@ -54,6 +54,17 @@ texts() {
     awk -F: 'FNR == NR { made[$0]; next } !(($1 ":" $2) in made)' "$work/made" - | grep -vE '^[^:]*\.md:[0-9]*:    ' | grep -E '^[^:]*\.md:|^[^:]*:[0-9]*: *(//|--)' | sed 's/`[^`]*`//g'
 }
 
+# Of lines `FILE:NUMBER:TEXT` of code the strings that have a blank.
+strings() {
+    grep -P '^crates/[^:]*/src/[^:]*\.rt:\d+: *(?!//)' | awk -F'"' '
+        NF > 2 {
+            split($1, at, ":")
+            text = ""
+            for (i = 2; i <= NF; i += 2) if ($i ~ / /) text = text " " $i
+            if (text != "") print at[1] ":" at[2] ":" text
+        }' | sed 's/`[^`]*`//g'
+}
+
 # The places of such lines that have a word to avoid, and what to write.
 found() {
     local avoided better shown
@@ -84,7 +95,7 @@ case ${1-} in
 esac
 made >"$work/made"
 echo >>"$work/made"
-texts <"$work/lines" >"$work/texts"
+{ texts <"$work/lines"; strings <"$work/lines"; } >"$work/texts"
 found "$work/texts" | sort -t: -k1,1 -k2,2n >"$work/found"
 if [ "${1-}" = --all ]; then
     cut -d: -f1 "$work/found" | sort | uniq -c | sort -rn

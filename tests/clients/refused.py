@@ -1,5 +1,5 @@
 #!/usr/bin/env python3
-"""refused.py PORT PROCESS: sends standard input to a server of this process, ends its side, and prints what it receives."""
+"""refused.py PORT PROCESS: sends the octets that standard input has as hex to a server of this process, ends its side, and prints what it receives."""
 import socket
 import sys
 import time
@@ -24,7 +24,7 @@ while not has_ended():
 else:
     sys.exit(0)
 try:
-    peer.sendall(sys.stdin.buffer.read())
+    peer.sendall(bytes.fromhex(sys.stdin.read()))
     peer.shutdown(socket.SHUT_WR)
 except OSError:
     pass  # the server has ended the connection

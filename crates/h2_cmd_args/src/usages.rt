@@ -207,7 +207,7 @@ const ANSWERS: Word = Word {
 const INPUT: Word = Word {
     name: "ANSWER",
     kind: Kind::Texts,
-    help: "A first word without | is a FILE, the input in place of standard input; the others are answers: METHOD|PATH|STATUS|BODYHEX, any number of |NAME=VALUE, and at most one |early",
+    help: "A first word without | is a FILE, the input instead of standard input; the others are answers: METHOD|PATH|STATUS|BODYHEX, any number of |NAME=VALUE, and at most one |early",
 };
 
 const LIMIT: Word = Word {
