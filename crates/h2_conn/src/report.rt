@@ -66,15 +66,13 @@ fn report_first<'b, A: Allocator + Copy, O: Outgoing<'b, A>>(
     match first_item(octets, awaits_preface(phase), state.limit()) {
         None => Ok(None),
         Some((item, used)) => {
-            match state.item(&item, scratch, out) {
-                Ok(verdict) => Ok(Some(TakenItem {
-                    used,
-                    item: item_head(&item),
-                    cause: verdict.cause,
-                    ignored: verdict.ignored,
-                })),
-                Err(error) => Err(error),
-            }
+            let verdict = state.item(&item, scratch, out)?;
+            Ok(Some(TakenItem {
+                used,
+                item: item_head(&item),
+                cause: verdict.cause,
+                ignored: verdict.ignored,
+            }))
         }
     }
 }

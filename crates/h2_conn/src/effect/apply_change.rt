@@ -69,13 +69,9 @@ impl<'b, A: Allocator + Copy> State<'b, A> {
         requires sound { IsSoundChange self.old.book (records self.old) (in_force self.old.core) change.now }
         ensures { Settles self.old (O.octets out.old) (Makes self.old change.now) result self.new (O.octets out.new) }
     {
-        match send_and_update(self.book, &mut self.streams, change, out) {
-            Ok(count) => {
-                self.core = with_sent(change.core, count);
-                Ok(verdict_of(change))
-            }
-            Err(error) => Err(error),
-        }
+        let count = send_and_update(self.book, &mut self.streams, change, out)?;
+        self.core = with_sent(change.core, count);
+        Ok(verdict_of(change))
     }
 }
 
@@ -95,13 +91,9 @@ impl<'b, A: Allocator + Copy> State<'b, A> {
         requires same { change.now.core ≡ with_counts self.old.core change.now.core }
         ensures { Settles self.old (O.octets out.old) (Makes self.old change.now) result self.new (O.octets out.new) }
     {
-        match send_and_update(self.book, &mut self.streams, change, out) {
-            Ok(count) => {
-                set_counts(&mut self.core, &change.core, count);
-                Ok(verdict_of(change))
-            }
-            Err(error) => Err(error),
-        }
+        let count = send_and_update(self.book, &mut self.streams, change, out)?;
+        set_counts(&mut self.core, &change.core, count);
+        Ok(verdict_of(change))
     }
 }
 
@@ -120,13 +112,9 @@ impl<'b, A: Allocator + Copy> State<'b, A> {
         requires same { change.now.core ≡ self.old.core }
         ensures { Settles self.old (O.octets out.old) (Makes self.old change.now) result self.new (O.octets out.new) }
     {
-        match send_and_update(self.book, &mut self.streams, change, out) {
-            Ok(count) => {
-                self.core.send = without(self.core.send, count);
-                Ok(verdict_of(change))
-            }
-            Err(error) => Err(error),
-        }
+        let count = send_and_update(self.book, &mut self.streams, change, out)?;
+        self.core.send = without(self.core.send, count);
+        Ok(verdict_of(change))
     }
 }
 

@@ -34,10 +34,10 @@ fn advance<'b, A: Allocator + Copy, O: Outgoing<'b, A>>(
     }
     match splitter.next(state.limit()) {
         None => Ok(false),
-        Some(item) => match state.item(&item, scratch, out) {
-            Ok(_) => Ok(true),
-            Err(error) => Err(error),
-        },
+        Some(item) => {
+            state.item(&item, scratch, out)?;
+            Ok(true)
+        }
     }
 }
 
@@ -57,13 +57,9 @@ fn take_completed<'b, A: Allocator + Copy, O: Outgoing<'b, A>>(
     ensures fits { OnOk result (Fits splitter.new state.new.core.phase) }
     ensures err { OnErr result ((state.new ≡ state.old) × (O.octets out.new ≡ O.octets out.old)) }
 {
-    match state.on_plain_data(head, out) {
-        Ok(_) => {
-            splitter.forget_frame();
-            Ok(true)
-        }
-        Err(error) => Err(error),
-    }
+    state.on_plain_data(head, out)?;
+    splitter.forget_frame();
+    Ok(true)
 }
 
 /// Takes the item that octets complete after those held, if they do, and says whether.

@@ -49,10 +49,10 @@ pub(crate) fn take_first<'b, A: Allocator + Copy, O: Outgoing<'b, A>>(
     }
     match first_item(octets, awaits_preface(phase), state.limit()) {
         None => Ok(None),
-        Some((item, used)) => match state.item(&item, scratch, out) {
-            Ok(_) => Ok(Some(used)),
-            Err(error) => Err(error),
-        },
+        Some((item, used)) => {
+            state.item(&item, scratch, out)?;
+            Ok(Some(used))
+        }
     }
 }
 

@@ -31,23 +31,23 @@ returns-in-None-clause-report g c =
     let none = rw (c.awaits_preface.ensures, c.phase-phase.ensures, c.limit.ensures.value) at c.in-None.ensures.item in
     sym (ap (reported c.args.state.now) (item-is c.args.state.now c.args.octets.now goes ∙ sym none))
 
-pub returns-in-Ok-clause-ok : goal.returns-in-Ok-clause-ok
-returns-in-Ok-clause-ok g c =
+pub returns-in_ok-verdict-in-Some-clause-ok : goal.returns-in_ok-verdict-in-Some-clause-ok
+returns-in_ok-verdict-in-Some-clause-ok g c =
     let goes : is_ended c.args.state.now.core.phase ≡ false = rw c.phase-phase.ensures at (sym c.is_ended.ensures ∙ c.if-is_ended.false) in
     let found = rw (c.awaits_preface.ensures, c.phase-phase.ensures, c.limit.ensures.value) at c.in-Some.ensures.item in
-    first-taken c.args.state.now c.item.new.self c.args.octets.now (g.O.Outgoing.octets c.args.out.now) (g.O.Outgoing.octets c.item.new.out) (item_of c.in-Some.item) c.in-Some.used goes found c.in-Ok.ensures.ok
+    first-taken c.args.state.now c.item.new.self c.args.octets.now (g.O.Outgoing.octets c.args.out.now) (g.O.Outgoing.octets c.item.new.out) (item_of c.in-Some.item) c.in-Some.used goes found c.in_ok-verdict-in-Some.ensures.ok
 
-pub returns-in-Ok-clause-report : goal.returns-in-Ok-clause-report
-returns-in-Ok-clause-report g c =
+pub returns-in_ok-verdict-in-Some-clause-report : goal.returns-in_ok-verdict-in-Some-clause-report
+returns-in_ok-verdict-in-Some-clause-report g c =
     let goes : is_ended c.args.state.now.core.phase ≡ false = rw c.phase-phase.ensures at (sym c.is_ended.ensures ∙ c.if-is_ended.false) in
     let found = rw (c.awaits_preface.ensures, c.phase-phase.ensures, c.limit.ensures.value) at c.in-Some.ensures.item in
-    rw (item-is c.args.state.now c.args.octets.now goes, ← found, c.item_head.ensures, c.in-Ok.ensures.verdict) refl
+    rw (item-is c.args.state.now c.args.octets.now goes, ← found, c.item_head.ensures, c.in_ok-verdict-in-Some.ensures.verdict) refl
 
-pub returns-in-Ok-clause-fields : goal.returns-in-Ok-clause-fields
-returns-in-Ok-clause-fields g c =
+pub returns-in_ok-verdict-in-Some-clause-fields : goal.returns-in_ok-verdict-in-Some-clause-fields
+returns-in_ok-verdict-in-Some-clause-fields g c =
     let goes : is_ended c.args.state.now.core.phase ≡ false = rw c.phase-phase.ensures at (sym c.is_ended.ensures ∙ c.if-is_ended.false) in
     let found = rw (c.awaits_preface.ensures, c.phase-phase.ensures, c.limit.ensures.value) at c.in-Some.ensures.item in
-    rw (item-is c.args.state.now c.args.octets.now goes, ← found) c.in-Ok.ensures.fields
+    rw (item-is c.args.state.now c.args.octets.now goes, ← found) c.in_ok-verdict-in-Some.ensures.fields
 
 pub returns-in-None-clause-fields : goal.returns-in-None-clause-fields
 returns-in-None-clause-fields g c =

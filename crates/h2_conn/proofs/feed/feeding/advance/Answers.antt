@@ -23,18 +23,18 @@ returns-in-None-clause-ok g c =
       refl,
     )
 
-pub returns-in-Ok-clause-ok : goal.returns-in-Ok-clause-ok
-returns-in-Ok-clause-ok g c =
+pub returns-in_ok-item-in-Some-clause-ok : goal.returns-in_ok-item-in-Some-clause-ok
+returns-in_ok-item-in-Some-clause-ok g c =
     let left : c.next.follows.lender-at-none ≡ rest_after c.limit.result c.args.splitter.now = search rules in
     let goes : is_ended c.args.state.now.core.phase ≡ false = rw c.phase.ensures at (sym c.is_ended.ensures ∙ c.if-is_ended.false) in
     rw (left, c.limit.ensures.value)
     (item-taken c.args.splitter.now c.args.state.now c.item.new.self (item_of c.in-Some.item) (g.O.Outgoing.octets c.args.out.now) (g.O.Outgoing.octets c.item.new.out)
-    c.requires goes (rw c.limit.ensures.value at c.in-Some.ensures.item) c.in-Ok.ensures.ok)
+    c.requires goes (rw c.limit.ensures.value at c.in-Some.ensures.item) c.in_ok-item-in-Some.ensures.ok)
 
-pub returns-in-Ok-clause-fits : goal.returns-in-Ok-clause-fits
-returns-in-Ok-clause-fits g c =
+pub returns-in_ok-item-in-Some-clause-fits : goal.returns-in_ok-item-in-Some-clause-fits
+returns-in_ok-item-in-Some-clause-fits g c =
     let left : c.next.follows.lender-at-none ≡ rest_after c.limit.result c.args.splitter.now = search rules in
     let goes : is_ended c.args.state.now.core.phase ≡ false = rw c.phase.ensures at (sym c.is_ended.ensures ∙ c.if-is_ended.false) in
     rw (left, c.limit.ensures.value)
     (item-fits c.args.splitter.now c.args.state.now c.item.new.self (item_of c.in-Some.item) (g.O.Outgoing.octets c.args.out.now) (g.O.Outgoing.octets c.item.new.out)
-    c.requires goes (rw c.limit.ensures.value at c.in-Some.ensures.item) c.in-Ok.ensures.ok)
+    c.requires goes (rw c.limit.ensures.value at c.in-Some.ensures.item) c.in_ok-item-in-Some.ensures.ok)

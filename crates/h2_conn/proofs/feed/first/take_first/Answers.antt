@@ -19,8 +19,8 @@ returns-in-None-clause-ok g c =
     let none = rw (c.awaits_preface.ensures, c.phase-phase.ensures, c.limit.ensures.value) at c.in-None.ensures.item in
     record { none = first-none c.args.state.now c.args.octets.now goes none; same = refl; quiet = refl }
 
-pub returns-in-Ok-clause-ok : goal.returns-in-Ok-clause-ok
-returns-in-Ok-clause-ok g c =
+pub returns-in_ok-item-in-Some-clause-ok : goal.returns-in_ok-item-in-Some-clause-ok
+returns-in_ok-item-in-Some-clause-ok g c =
     let goes : is_ended c.args.state.now.core.phase ≡ false = rw c.phase-phase.ensures at (sym c.is_ended.ensures ∙ c.if-is_ended.false) in
     let found = rw (c.awaits_preface.ensures, c.phase-phase.ensures, c.limit.ensures.value) at c.in-Some.ensures.item in
-    first-taken c.args.state.now c.item.new.self c.args.octets.now (g.O.Outgoing.octets c.args.out.now) (g.O.Outgoing.octets c.item.new.out) (item_of c.in-Some.item) c.in-Some.used goes found c.in-Ok.ensures.ok
+    first-taken c.args.state.now c.item.new.self c.args.octets.now (g.O.Outgoing.octets c.args.out.now) (g.O.Outgoing.octets c.item.new.out) (item_of c.in-Some.item) c.in-Some.used goes found c.in_ok-item-in-Some.ensures.ok

@@ -25,26 +25,26 @@ send_and_update-requires g c =
       ),
     )
 
-pub invariant_of-self : goal.invariant_of-self
-invariant_of-self g c =
+pub invariant_of-self-2 : goal.invariant_of-self-2
+invariant_of-self-2 g c =
     let inside = c.self.inside in
     let change = c.args.change.now in
     let sound = subst (λ (s : State). IsSoundChange s.book (records s) (in_force s.core) change) (sym c.self.view_is) c.requires.sound in
     let opened = subst (λ (s : State). IsOpenFor (updated_records change.record_update (records s)) s.block) (sym c.self.view_is) c.requires.kept in
-    let kept = keeps inside.book.now inside.core c.set_counts.new.core inside.streams c.send_and_update.new.streams change inside.block inside.table.limit c.in-Ok.count c.self.invariant.0 c.self.invariant.1 sound opened c.set_counts.ensures c.in-Ok.ensures.sends.records in
+    let kept = keeps inside.book.now inside.core c.set_counts.new.core inside.streams c.send_and_update.new.streams change inside.block inside.table.limit c.in_ok-count.count c.self.invariant.0 c.self.invariant.1 sound opened c.set_counts.ensures c.in_ok-count.ensures.sends.records in
     (kept.0, kept.1, kept.2, c.self.invariant.3)
 
-pub returns-in-Ok : goal.returns-in-Ok
-returns-in-Ok g c =
+pub returns : goal.returns
+returns g c =
     let inside = c.self.inside in
     let change = c.args.change.now in
     let held : State = record { book = inside.book.now; config = inside.config; core = inside.core; block = inside.block; table = inside.table.table; streams = inside.streams.streams } in
-    let counts = counts-sent change.core (updated_streams change.record_update inside.streams.streams) c.in-Ok.count c.set_counts.new.core c.in-Ok.ensures.sends.count.0 c.set_counts.ensures in
+    let counts = counts-sent change.core (updated_streams change.record_update inside.streams.streams) c.in_ok-count.count c.set_counts.new.core c.in_ok-count.ensures.sends.count.0 c.set_counts.ensures in
     record {
       ok = subst (λ (s : State). Does (then_sent change.core.phase (made s change)) (g.O.Outgoing.octets c.args.out.now)
           (record held { core = c.set_counts.new.core; streams = c.send_and_update.new.streams.streams }) (g.O.Outgoing.octets c.send_and_update.new.out)) c.self.view_is
           (did held change inside.streams c.send_and_update.new.streams c.set_counts.new.core (g.O.Outgoing.octets c.args.out.now) (g.O.Outgoing.octets c.send_and_update.new.out)
-          refl counts c.in-Ok.ensures.sends.records c.in-Ok.ensures.sends.sent c.in-Ok.ensures.sends.short);
+          refl counts c.in_ok-count.ensures.sends.records c.in_ok-count.ensures.sends.sent c.in_ok-count.ensures.sends.short);
       verdict = search rules;
       err = search rules;
     }
