@@ -1,7 +1,8 @@
 //! A case as the input of `explain FILE` and `debug --in FILE`: the words of its lines `;@` come after those of the command,
-//! and the octets of its script are the input.
+//! and the octets of its script are the input. Those of a dump with offsets are the input too.
 
 use crate::devices::input::read_file;
+use crate::dump_input::hex_of_dump;
 use crate::hex_of;
 use h2_cmd_args::Words;
 use h2_cmd_args::command::{Devices, Plan, Refusal};
@@ -10,7 +11,7 @@ use h2_io::MAX_INPUT;
 use h2_script::{ScriptFault, assemble};
 use std::alloc::{AllocError, Global};
 use std::fs::Files;
-use std::io::ErrorKind;
+use std::io::{ErrorKind, Write};
 use std::path::{Path, PathBuf};
 use std::str;
 
@@ -19,7 +20,7 @@ use std::str;
 pub struct CaseInput {
     /// The words of the command, and after them those of the case.
     pub words: Words,
-    /// The octets of its script, as hex; of a pipe that is no case what it had.
+    /// The octets of its script, or of a dump, as hex; of a pipe that is none what it had.
     pub text: Vec<u8>,
     /// The number of its first line that has a word without effect, if one has.
     pub idle_line: Option<usize>,
@@ -165,20 +166,47 @@ fn is_lasting(rt: &HostRuntime, path: &str) -> bool {
     }
 }
 
-/// What a file gives a command, where it is a case that can be read; and of a pipe what it had, since it can't be read again.
-fn case_at(rt: &HostRuntime, words: &Words, path: &str) -> Result<Option<CaseInput>, AllocError> {
+/// The sentence about a dump whose octets were read.
+const READ_AS_DUMP: &str =
+    "a dump with offsets: its octets were read, without the offsets and the text beside them.\n";
+
+/// The octets of a file that is a dump, as hex, and says so.
+fn dump_in(rt: &HostRuntime, octets: &[u8], is_quiet: bool) -> Result<Option<Vec<u8>>, AllocError> {
+    let Ok(text) = str::from_utf8(octets) else {
+        return Ok(None);
+    };
+    let hex = hex_of_dump(rt.alloc(), text)?;
+    if hex.is_some() && !is_quiet {
+        let _ = rt.stderr().write_all(READ_AS_DUMP.as_bytes());
+    }
+    Ok(hex)
+}
+
+/// What a file gives a command, where it is a case that can be read, or a dump; and of a pipe what it had, since it can't
+/// be read again.
+fn case_at(
+    rt: &HostRuntime,
+    words: &Words,
+    path: &str,
+    is_quiet: bool,
+) -> Result<Option<CaseInput>, AllocError> {
     let octets = match read_file(rt, path, MAX_INPUT) {
         Ok(octets) => octets,
         Err(ErrorKind::OutOfMemory) => return Err(AllocError),
         Err(_) => return Ok(None),
     };
     let case = case_in(rt, words, path, octets.as_slice())?;
-    if case.is_some() || is_lasting(rt, path) {
+    if case.is_some() {
         return Ok(case);
     }
+    let text = match dump_in(rt, octets.as_slice(), is_quiet)? {
+        Some(hex) => hex,
+        None if is_lasting(rt, path) => return Ok(None),
+        None => octets,
+    };
     Ok(Some(CaseInput {
         words: copy_of(rt.alloc(), words)?,
-        text: octets,
+        text,
         idle_line: None,
     }))
 }
@@ -194,7 +222,7 @@ pub fn case_input<'w>(
     if path.is_empty() {
         return None;
     }
-    match case_at(rt, words, path) {
+    match case_at(rt, words, path, devices.quiet) {
         Ok(case) => case,
         Err(_) => {
             *asked = Err(Refusal::NoMemory);

@@ -8,6 +8,7 @@
 mod case_input;
 mod commands;
 mod devices;
+mod dump_input;
 mod ending;
 mod items;
 mod program;
