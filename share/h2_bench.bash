@@ -13,7 +13,7 @@ _h2_bench() {
         debug) words="--streams --credit --table --window --frame --book --why --quiet --in --raw --prompt --help" ;;
         serve) words="--streams --credit --table --window --frame --explain --times --record --json --color --strict --full --brief --errors --stream --book --why --quiet --help" ;;
         explain) words="--streams --credit --table --window --frame --json --color --strict --full --brief --errors --stream --book --why --quiet --in --raw --help" ;;
-        check) words="--streams --credit --table --window --frame --book --bless --in-place --quiet --help" ;;
+        check) words="--streams --credit --table --window --frame --book --bless --in-place --junit --quiet --help" ;;
     esac
     if [[ $current == -* ]]; then
         mapfile -t COMPREPLY < <(compgen -W "$words" -- "$current")
@@ -21,7 +21,7 @@ _h2_bench() {
         mapfile -t COMPREPLY < <(compgen -W "dot line" -- "$current")
     else
         case ${COMP_WORDS[1]}:$before in
-            play:* | asm:* | dis:* | table:* | debug:* | explain:* | check:* | *:--book | *:--in) mapfile -t COMPREPLY < <(compgen -f -- "$current") ;;
+            play:* | asm:* | dis:* | table:* | debug:* | explain:* | check:* | *:--book | *:--in | *:--junit) mapfile -t COMPREPLY < <(compgen -f -- "$current") ;;
             help:help) mapfile -t COMPREPLY < <(compgen -W "play asm dis table debug serve explain check" -- "$current") ;;
         esac
     fi

@@ -92,4 +92,5 @@ complete -c h2_bench -n '__fish_seen_subcommand_from check' -l frame -x -d 'SETT
 complete -c h2_bench -n '__fish_seen_subcommand_from check' -l book -r -F -d 'A TOML file of answers, which come before those of the command line'
 complete -c h2_bench -n '__fish_seen_subcommand_from check' -l bless -d 'Writes the file anew, with what is sent and what is an error instead of the lines ;< and ;!'
 complete -c h2_bench -n '__fish_seen_subcommand_from check' -l in-place -d 'With --bless: into the files, instead of to standard output'
+complete -c h2_bench -n '__fish_seen_subcommand_from check' -l junit -r -F -d 'Writes the results as JUnit XML into this file too'
 complete -c h2_bench -n '__fish_seen_subcommand_from check' -l quiet -d 'Writes nothing to standard error where something is refused'

@@ -174,8 +174,12 @@ bless_rule = record (new_rule (codes "bless")) { long = Some (codes "bless"); ac
 abbrev pub in_place_rule : Rule
 in_place_rule = record (new_rule (codes "in-place")) { long = Some (codes "in-place"); action = Some SetTrue }
 
+-- the file that takes the results as JUnit XML, one text
+abbrev pub junit_rule : Rule
+junit_rule = record (new_rule (codes "junit")) { long = Some (codes "junit"); action = Some Set }
+
 abbrev pub check_app : App
-check_app = with_rule (with_rule (with_rule (with_rule (with_rule (with_limits (new_app (codes "check"))) book_rule) bless_rule) in_place_rule) quiet_rule) files_rule
+check_app = with_rule (with_rule (with_rule (with_rule (with_rule (with_rule (with_limits (new_app (codes "check"))) book_rule) bless_rule) in_place_rule) junit_rule) quiet_rule) files_rule
 
 abbrev pub top_app : App
 top_app = record (new_app (codes "h2_bench")) { top = record (new_app (codes "h2_bench")).top { subcommand_required = true } }
@@ -228,7 +232,7 @@ pub data Asked : Type 0 where
   debug : (config : Config) → (book : BookAsked) → Asked
   serve : (config : Config) → (port : ℕ) → (count : ℕ) → (watched : ReportAsked) → (book : BookAsked) → Asked
   explain : (config : Config) → (view : FormAsked) → (file : Text) → (book : BookAsked) → Asked
-  check : (config : Config) → (book : BookAsked) → (bless : Bool) → (in_place : Bool) → (files : List Text) → Asked
+  check : (config : Config) → (book : BookAsked) → (bless : Bool) → (in_place : Bool) → (junit : Text) → (files : List Text) → Asked
 
 -- the number that a text spells in decimal digits, if it is below 2 ^ 32
 abbrev pub number_of : Text → Option ℕ
@@ -334,7 +338,7 @@ asked_by name rows =
     else if bytes_eq name (codes "debug") then Some (debug (config_at rows) (book_at rows))
     else (if bytes_eq name (codes "serve") then Some (serve (config_at rows) (number_at (codes "PORT") 0 rows) (number_at (codes "COUNT") 0 rows) (report_at rows) (book_at rows))
     else (if bytes_eq name (codes "explain") then Some (explain (config_at rows) (form_at rows) (file_among (texts_at (codes "ANSWER") rows)) (explain_book_at rows))
-    else (if bytes_eq name (codes "check") then Some (check (config_at rows) (file_book_at rows) (is_set (codes "bless") rows) (is_set (codes "in-place") rows) (texts_at (codes "FILE") rows)) else None)))
+    else (if bytes_eq name (codes "check") then Some (check (config_at rows) (file_book_at rows) (is_set (codes "bless") rows) (is_set (codes "in-place") rows) (text_at (codes "junit") rows) (texts_at (codes "FILE") rows)) else None)))
 
 -- ---- what words say of devices
 

@@ -123,6 +123,8 @@ pub struct Check<'a> {
     pub bless: bool,
     /// Whether they are written into their files.
     pub in_place: bool,
+    /// The path of the file that takes the results as JUnit XML; empty where none does.
+    pub junit: &'a str,
     /// The paths of the files that have the cases.
     pub files: Vec<&'a str>,
 }
@@ -411,6 +413,7 @@ fn check_from<'a>(alloc: Global, matches: &ArgMatches<'a>) -> Result<Check<'a>, 
         },
         bless: is_set(matches, "bless"),
         in_place: is_set(matches, "in-place"),
+        junit: text_at(matches, "junit"),
         files,
     })
 }

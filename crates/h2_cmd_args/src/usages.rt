@@ -198,6 +198,12 @@ const IN_PLACE: Word = Word {
     help: "With --bless: into the files, instead of to standard output",
 };
 
+const JUNIT: Word = Word {
+    name: "junit",
+    kind: Kind::Text,
+    help: "Writes the results as JUnit XML into this file too",
+};
+
 const ANSWERS: Word = Word {
     name: "ANSWER",
     kind: Kind::Texts,
@@ -285,7 +291,7 @@ static USAGES: [Usage; 8] = [
         name: "check",
         about: "Plays the cases of files, and says of each whether what it expects holds",
         words: &[
-            STREAMS, CREDIT, TABLE, WINDOW, FRAME, BOOK, BLESS, IN_PLACE, QUIET, FILES,
+            STREAMS, CREDIT, TABLE, WINDOW, FRAME, BOOK, BLESS, IN_PLACE, JUNIT, QUIET, FILES,
         ],
     },
 ];

@@ -5,3 +5,4 @@ pub mod Gains
 pub mod Going
 pub mod Items
 pub mod TextLaws
+pub mod XmlGains

@@ -4,6 +4,7 @@ pub mod Commands
 pub mod Frames
 pub mod ItemTexts
 pub mod ItemsTaken
+pub mod JUnit
 pub mod Texts
 pub mod Tap
 pub mod Walks

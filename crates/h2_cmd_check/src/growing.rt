@@ -80,7 +80,7 @@ impl Growing {
     }
 
     /// Puts the two hex digits of an octet last.
-    fn digits(&mut self, octet: u8)
+    pub(crate) fn digits(&mut self, octet: u8)
         ensures { Gains (encode_lower (octet ∷ [])) self.old self.new }
     {
         let mut digits = [0; 2];

@@ -7,6 +7,7 @@ mod bless;
 mod command;
 mod fault;
 mod growing;
+mod junit;
 mod pattern;
 mod run;
 mod tap;
@@ -16,5 +17,6 @@ mod walk;
 
 pub use bless::{add_lines, bless_case};
 pub use fault::CaseFault;
+pub use junit::{Suite, junit_text, tap_text};
 pub use tap::{Title, plan_line, verdict_text};
 pub use verdict::{CaseVerdict, Wrong, check_case};

@@ -72,7 +72,7 @@ blessed-cut true s d d' names is = is
 abbrev pub GoesOn : CaseSetup → Directory → List (List ℕ) → Directory → List (List ℕ) → Type 0
 GoesOn s d names d' rest = (cut : Bool) (e : Directory) → BlessesFiles cut s d' rest e → BlessesFiles cut s d names e
 
-file-split : (names : List (Bor (List ℕ))) (i : ℕ) (x : Bor (List ℕ)) → i < length names
+pub file-split : (names : List (Bor (List ℕ))) (i : ℕ) (x : Bor (List ℕ)) → i < length names
     → map (λ m. m.now) (drop i names) ≡ (get_or names i x).now ∷ map (λ m. m.now) (drop (i + 1) names)
 file-split names i x h = rw (add-one, drop-cons names i x) refl
 

@@ -5,3 +5,4 @@ mod InMemory
 mod Parsed
 mod Served
 mod Shown
+mod Suites

@@ -1,5 +1,5 @@
 -- The cases of a file written anew, and what `check --bless` leaves in files and in the output.
-use Rattle.std.specs.Prelude.{◌≡◌, ◌⊎◌, ◌++◌, ℕ, ◌-◌, Bool, true, false, ◌&&◌, List, [], ◌∷◌, flat_map, length, take, Option, Some, None, Ok}
+use Rattle.std.specs.Prelude.{◌≡◌, ◌⊎◌, ◌++◌, ℕ, ◌-◌, Bool, true, false, not, List, [], ◌∷◌, flat_map, length, take, Option, Some, None, Ok}
 use Rattle.std.specs.Io.KnownBytes.{Appends}
 use Rattle.h2_spec.specs.Requests.Answer.{Entry}
 use Rattle.h2_spec.specs.Texts.Script.{lines_of}
@@ -10,6 +10,7 @@ use Rattle.h2_cmd_book_file.specs.Files.{Replaces}
 use Rattle.h2_cmd_cases.specs.CaseWords.{have_words}
 use Rattle.h2_cmd_cases.specs.Files.{cases_in, preamble_length}
 use Rattle.h2_cmd_check.specs.Blessed.{blessed, kept_line}
+use Rattle.h2_cmd_check.specs.Frames.{is_none}
 use Rattle.h2_cmd_args.specs.Grammar.{Asked, BookAsked, batch, check, debug, explain, serve}
 use Rattle.h2_cmd_batch.specs.Books.{book_said}
 use Rattle.h2_cmd_batch.specs.declared.case_setup.CaseSetup.{CaseSetup}
@@ -91,11 +92,16 @@ EndsBless files config book in_place names files' before after status =
     ((files' ≡ files) × (status ≡ 0 → ⊥))
     ⊎ ((entries : List Entry) × (book_said files book ≡ Ok entries) × Blesses (record { config = config; book = entries }) files in_place names files' before after status)
 
--- whether words ask for files to be written: cases anew and in place
+-- whether `check` writes files: cases anew and in place, or without `--bless` the results to a file
+abbrev pub writes_for : (bless in_place : Bool) → (junit : List ℕ) → Bool
+writes_for true in_place junit = in_place
+writes_for false in_place junit = not (is_none junit)
+
+-- whether words ask for files to be written
 abbrev pub writes_files : Option Asked → Bool
 writes_files None = false
 writes_files (Some (batch b)) = false
 writes_files (Some (debug config book)) = false
 writes_files (Some (serve config port count watched book)) = false
 writes_files (Some (explain config view file book)) = false
-writes_files (Some (check config book bless in_place names)) = bless && in_place
+writes_files (Some (check config book bless in_place junit names)) = writes_for bless in_place junit

@@ -1,5 +1,6 @@
 pub mod Blessing
 pub mod CheckProgram
 pub mod ExplainProgram
+pub mod JUnitProgram
 pub mod Memory
 pub mod ProgramEnd

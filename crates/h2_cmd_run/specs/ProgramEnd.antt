@@ -116,7 +116,7 @@ is_serve (Some (batch b)) = false
 is_serve (Some (debug config book)) = false
 is_serve (Some (serve config port count watched book)) = true
 is_serve (Some (explain config view file book)) = false
-is_serve (Some (check config book bless in_place names)) = false
+is_serve (Some (check config book bless in_place junit names)) = false
 
 -- whether anything is read for words
 abbrev pub is_reader : Option Asked → Bool
@@ -125,7 +125,7 @@ is_reader (Some (batch b)) = true
 is_reader (Some (debug config book)) = true
 is_reader (Some (serve config port count watched book)) = false
 is_reader (Some (explain config view file book)) = true
-is_reader (Some (check config book bless in_place names)) = false
+is_reader (Some (check config book bless in_place junit names)) = false
 
 abbrev pub asks_why : Option Asked → Bool
 asks_why None = false
@@ -133,4 +133,4 @@ asks_why (Some (batch b)) = asks_why_batch b
 asks_why (Some (debug config book)) = book.why
 asks_why (Some (serve config port count watched book)) = book.why
 asks_why (Some (explain config view file book)) = book.why
-asks_why (Some (check config book bless in_place names)) = book.why
+asks_why (Some (check config book bless in_place junit names)) = book.why

@@ -1,7 +1,7 @@
 //! The program `check`: the cases of files, each on a connection of its own, and the verdicts on them. Definitions:
 //! `specs/CheckProgram.antt`, over `specs/Files.antt` of h2_cmd_cases and `specs/Cases.antt` of h2_cmd_check.
 
-ghost use Rattle.std.specs.Prelude.{◌≡◌, ◌==◌, ◌&&◌, ◌≤◌, ◌<◌, ◌++◌, ℕ, List, [], ◌∷◌, Some, None, false, true, drop, length, map, take, IfErr, is_err};
+ghost use Rattle.std.specs.Prelude.{◌≡◌, ◌==◌, ◌≤◌, ◌<◌, ◌++◌, ℕ, List, [], ◌∷◌, Some, None, false, true, drop, length, map, take, IfErr, is_err};
 ghost use Rattle.std.specs.Io.KnownBytes.{Appends};
 ghost use Rattle.std.specs.Option.{option_map};
 ghost use Rattle.std.specs.Str.{is_utf8};
@@ -10,7 +10,9 @@ ghost use Rattle.h2_cmd_check.specs.Cases.{Fails};
 ghost use Rattle.h2_cmd_cases.specs.Files.{cases_in, title_in};
 ghost use Rattle.h2_cmd_check.specs.Walks.{outcome_by};
 ghost use Rattle.h2_cmd_args.specs.Plans.{book_asked};
-ghost use Rattle.h2_cmd_run.specs.Blessing.{EndsBless};
+ghost use Rattle.h2_cmd_run.specs.Blessing.{EndsBless, writes_for};
+ghost use Rattle.h2_cmd_run.specs.JUnitProgram.{ChangesAlone, EndsJUnit};
+ghost use Rattle.h2_cmd_check.specs.Frames.{is_none};
 ghost use Rattle.h2_cmd_run.specs.CheckProgram.{ChecksFiles, EndsCheck, IsChecked, PlansCases, Reports, ReportsOne, all_subjects, cases_if, checked_after, common_of, first_tally, is_failure, not_checked, plan_line, subject, subjects_of, tallied, version_line};
 ghost use Rattle.h2_cmd_batch.specs.CommandEnd.{Prints, PrintsSome};
 ghost use Rattle.h2_cmd_batch.specs.Each.{not_written};
@@ -20,6 +22,7 @@ ghost use Rattle.h2_cmd_batch.specs.declared.case_setup.CaseSetup.{CaseSetup};
 
 use crate::bless::print_blessed;
 use crate::judge::{failed_at, judge};
+use crate::junit::check_junit;
 use h2_cmd_args::command::Check;
 use h2_cmd_batch::{BenchFault, Case, Common, PrintFault, book_for_words, print_fault};
 use h2_cmd_book_file::{Files, FilesFault};
@@ -41,7 +44,7 @@ pub struct CaseTally {
 
 impl CaseTally {
     /// No verdict yet.
-    fn new() -> CaseTally
+    pub(crate) fn new() -> CaseTally
         ensures { result ≡ first_tally }
     {
         CaseTally {
@@ -65,7 +68,7 @@ where
 }
 
 /// Writes octets, or says that they were not written.
-fn write<O: Output>(output: &mut O, octets: &[u8]) -> Result<(), PrintFault>
+pub(crate) fn write<O: Output>(output: &mut O, octets: &[u8]) -> Result<(), PrintFault>
     requires writer { O.has_failed output.old ≡ false }
     ensures octets { O.has_failed output.new ≡ false → Appends (O.written output.old) (O.written output.new) octets.now }
     ensures flag { O.has_failed output.new ≡ is_err result }
@@ -269,7 +272,7 @@ fn check_text<F: Files, O: Output>(
 }
 
 /// Writes the results of the cases of a file.
-fn check_file<F: Files, O: Output>(
+pub(crate) fn check_file<F: Files, O: Output>(
     alloc: Global,
     common: Common<'_>,
     files: &mut F,
@@ -377,7 +380,7 @@ fn check_files<F: Files, O: Output>(
 
 /// Writes what remains to say of cases: the line of a fault that ended them. Gives the status: 0 where no case failed,
 /// 1 where one did, and after a fault, 3 where the output failed.
-fn print_checked<O: Output>(output: &mut O, ended: Result<bool, PrintFault>) -> u8
+pub(crate) fn print_checked<O: Output>(output: &mut O, ended: Result<bool, PrintFault>) -> u8
     requires { O.has_failed output.old ≡ not_checked ended }
     ensures printed { O.has_failed output.new ≡ false → (held text : List ℕ) → O.written output.old ≡ Some (held ++ text)
         → Prints (checked_after text ended) held (O.written output.new) result }
@@ -415,6 +418,13 @@ fn check_book<F: Files, O: Output>(
     print_checked(output, ended)
 }
 
+/// Whether words name no file by a path.
+fn is_no_file(path: &str) -> bool
+    ensures { result ≡ is_none path.now }
+{
+    path.as_bytes().is_empty()
+}
+
 /// Makes the book of cases that have no words of their own, and checks the cases of the files, or writes them anew.
 pub fn check_plan<F: Files, O: Output, E: Output>(
     alloc: Global,
@@ -424,14 +434,19 @@ pub fn check_plan<F: Files, O: Output, E: Output>(
     errors: &mut E,
 ) -> u8
     requires writer { O.has_failed output.old ≡ false }
-    ensures printed { plan.now.bless ≡ false → F.is_printed files.old ≡ true → O.has_failed output.new ≡ false
+    ensures printed { plan.now.bless ≡ false → plan.now.junit.now ≡ [] → F.is_printed files.old ≡ true → O.has_failed output.new ≡ false
         → EndsCheck (F.file files.old) plan.now.config (book_asked plan.now.book) (map (λ n. n.now) plan.now.files.items)
         (O.written output.old) (O.written output.new) result }
+    ensures junit { plan.now.bless ≡ false → is_none plan.now.junit.now ≡ false
+        → F.is_printed files.old ≡ true → O.has_failed output.new ≡ false
+        → EndsJUnit (F.file files.old) plan.now.config (book_asked plan.now.book) (map (λ n. n.now) plan.now.files.items) plan.now.junit.now
+        (F.file files.new) (O.written output.old) (O.written output.new) result }
+    ensures alone { plan.now.bless ≡ false → F.is_printed files.old ≡ true → ChangesAlone plan.now.junit.now (F.file files.old) (F.file files.new) }
     ensures flag { O.has_failed output.new ≡ (result == 3) }
     ensures name { O.name output.new ≡ O.name output.old }
     ensures quiet { plan.now.book.why ≡ false → errors.new ≡ errors.old }
     ensures errors { E.name errors.new ≡ E.name errors.old }
-    ensures same_files { plan.now.bless && plan.now.in_place ≡ false → F.file files.new ≡ F.file files.old }
+    ensures same_files { writes_for plan.now.bless plan.now.in_place plan.now.junit.now ≡ false → F.file files.new ≡ F.file files.old }
     ensures blesses { plan.now.bless ≡ true → F.is_printed files.old ≡ true → EndsBless (F.file files.old) plan.now.config (book_asked plan.now.book)
         plan.now.in_place (map (λ n. n.now) plan.now.files.items) (F.file files.new) (O.written output.old) (O.written output.new) result }
 {
@@ -440,7 +455,10 @@ pub fn check_plan<F: Files, O: Output, E: Output>(
             if plan.bless {
                 return print_blessed(alloc, plan, &book, files, output, errors);
             }
-            check_book(alloc, plan, &book, files, output)
+            if is_no_file(plan.junit) {
+                return check_book(alloc, plan, &book, files, output);
+            }
+            check_junit(alloc, plan, &book, files, output, errors)
         }
         Err(fault) => print_fault(output, fault),
     }

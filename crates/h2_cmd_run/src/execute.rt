@@ -1,14 +1,16 @@
 //! What the words ask for, from an input to its output and the exit status. Definitions: `specs/ProgramEnd.antt`, over
 //! `specs/ExplainProgram.antt`, `specs/CheckProgram.antt` and those of h2_cmd_batch.
 
-ghost use Rattle.std.specs.Prelude.{◌≡◌, ◌==◌, ◌⊎◌, ℕ, Bool, List, Some, None, true, false, IfErr};
+ghost use Rattle.std.specs.Prelude.{◌≡◌, ◌==◌, ◌⊎◌, ℕ, Bool, List, [], Some, None, true, false, IfErr};
 ghost use Rattle.h2_spec.specs.declared.connection.Config.{Config};
 ghost use Rattle.h2_cmd_args.specs.Grammar.{BatchAsked, BookAsked, FormAsked, asked_of, batch, check, debug, explain};
 ghost use Rattle.h2_cmd_args.specs.Plans.{asked_in, book_asked};
+ghost use Rattle.h2_cmd_check.specs.Frames.{is_none};
 ghost use Rattle.h2_cmd_run.specs.Blessing.{EndsBless, writes_files};
 ghost use Rattle.h2_cmd_run.specs.CheckProgram.{EndsCheck};
 ghost use Rattle.h2_cmd_batch.specs.CommandEnd.{EndsBatch, KnowsFile, PrintsSome, file_of, no_files};
 ghost use Rattle.h2_cmd_run.specs.ExplainProgram.{EndsExplain, form_of};
+ghost use Rattle.h2_cmd_run.specs.JUnitProgram.{ChangesAlone, EndsJUnit};
 ghost use Rattle.h2_cmd_run.specs.ProgramEnd.{EndsServe, EndsSession, EndsSomehow, PrintsRefusal, asks_why, is_reader, is_serve, printed_for};
 
 use crate::check::check_plan;
@@ -83,9 +85,16 @@ pub fn carry_out<F: Files, I: Input, O: Output, E: Output>(
         → EndsExplain (form_of view) (F.file files.old) config file book (I.remaining input.old) (I.has_failed input.new)
         (O.written output.old) (O.written output.new) result }
     ensures checks { (config : Config) → (book : BookAsked) → (in_place : Bool) → (names : List (List ℕ))
-        → asked_in asked.now ≡ Some (check config book false in_place names)
+        → asked_in asked.now ≡ Some (check config book false in_place [] names)
         → F.is_printed files.old ≡ true → O.has_failed output.new ≡ false
         → EndsCheck (F.file files.old) config book names (O.written output.old) (O.written output.new) result }
+    ensures junit { (config : Config) → (book : BookAsked) → (in_place : Bool) → (junit : List ℕ) → (names : List (List ℕ))
+        → asked_in asked.now ≡ Some (check config book false in_place junit names) → is_none junit ≡ false
+        → F.is_printed files.old ≡ true → O.has_failed output.new ≡ false
+        → EndsJUnit (F.file files.old) config book names junit (F.file files.new) (O.written output.old) (O.written output.new) result }
+    ensures alone { (config : Config) → (book : BookAsked) → (in_place : Bool) → (junit : List ℕ) → (names : List (List ℕ))
+        → asked_in asked.now ≡ Some (check config book false in_place junit names)
+        → F.is_printed files.old ≡ true → ChangesAlone junit (F.file files.old) (F.file files.new) }
     ensures serves { is_serve (asked_in asked.now) ≡ true → (result ≡ 2) × (O.written output.new ≡ O.written output.old) }
     ensures refused { IfErr asked.now (λ refusal. O.has_failed output.new ≡ false
         → PrintsSome (λ t. t ≡ printed_for refusal) (O.written output.old) (O.written output.new) result) }
@@ -97,8 +106,8 @@ pub fn carry_out<F: Files, I: Input, O: Output, E: Output>(
     ensures quiet { asks_why (asked_in asked.now) ≡ false → errors.new ≡ errors.old }
     ensures errors { E.name errors.new ≡ E.name errors.old }
     ensures same_files { writes_files (asked_in asked.now) ≡ false → F.file files.new ≡ F.file files.old }
-    ensures blesses { (config : Config) → (book : BookAsked) → (in_place : Bool) → (names : List (List ℕ))
-        → asked_in asked.now ≡ Some (check config book true in_place names) → F.is_printed files.old ≡ true
+    ensures blesses { (config : Config) → (book : BookAsked) → (in_place : Bool) → (junit : List ℕ) → (names : List (List ℕ))
+        → asked_in asked.now ≡ Some (check config book true in_place junit names) → F.is_printed files.old ≡ true
         → EndsBless (F.file files.old) config book in_place names (F.file files.new) (O.written output.old) (O.written output.new) result }
 {
     match asked {
@@ -138,7 +147,7 @@ pub fn run_on<F: Files, I: Input, O: Output, E: Output>(
         → EndsExplain (form_of view) (F.file files.old) config file book (I.remaining input.old) (I.has_failed input.new)
         (O.written output.old) (O.written output.new) result }
     ensures checks { (config : Config) → (book : BookAsked) → (in_place : Bool) → (names : List (List ℕ))
-        → asked_of words.now ≡ Some (check config book false in_place names)
+        → asked_of words.now ≡ Some (check config book false in_place [] names)
         → F.is_printed files.old ≡ true → O.has_failed output.new ≡ false
         → EndsCheck (F.file files.old) config book names (O.written output.old) (O.written output.new) result }
     ensures serves { is_serve (asked_of words.now) ≡ true → O.has_failed output.new ≡ false
@@ -171,7 +180,7 @@ pub fn run<R: Read, W: Write>(alloc: Global, words: &Words, input: &mut R, outpu
         → asked_of words.now ≡ Some (explain config view file book) → (result ≡ 3)
         ⊎ ((failed : Bool) × EndsExplain (form_of view) no_files config file book (R.remaining input.old) failed (W.contents output.old) (W.contents output.new) result) }
     ensures checks { (config : Config) → (book : BookAsked) → (in_place : Bool) → (names : List (List ℕ))
-        → asked_of words.now ≡ Some (check config book false in_place names) → (result ≡ 3)
+        → asked_of words.now ≡ Some (check config book false in_place [] names) → (result ≡ 3)
         ⊎ EndsCheck no_files config book names (W.contents output.old) (W.contents output.new) result }
     ensures serves { is_serve (asked_of words.now) ≡ true → (result ≡ 3)
         ⊎ EndsServe (W.contents output.old) (W.contents output.new) result }

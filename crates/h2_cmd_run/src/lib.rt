@@ -7,6 +7,7 @@ mod check;
 mod execute;
 mod explain;
 mod judge;
+mod junit;
 mod memory;
 mod print;
 mod server;

@@ -54,7 +54,7 @@ pub fn run_in_memory(
         → asked_of words.now ≡ Some (explain config view file book)
         → IfOk result (λ ran. IsExplained (form_of view) (file_in files.now) config file book (Some input.now) false (printed_in ran)) }
     ensures checks { (config : Config) → (book : BookAsked) → (in_place : Bool) → (names : List (List ℕ))
-        → asked_of words.now ≡ Some (check config book false in_place names)
+        → asked_of words.now ≡ Some (check config book false in_place [] names)
         → IfOk result (λ ran. IsCheck (file_in files.now) config book names (printed_in ran)) }
     ensures serves { is_serve (asked_of words.now) ≡ true
         → IfOk result (λ ran. (printed_in ran ≡ unserved) ⊎ (printed_in ran ≡ failed NoMemory)) }

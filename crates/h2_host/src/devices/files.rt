@@ -5,6 +5,7 @@ ghost use Rattle.std.specs.Prelude.{◌≤◌, IfOk, None, false, vec_len};
 use crate::WaitingInput;
 use h2_cmd_book_file::{Files, FilesFault, StdFiles, read_whole};
 use std::alloc::Global;
+use std::fs::{Files as _, OpenOptions};
 use std::io::ErrorKind;
 
 /// The path of standard input.
@@ -14,6 +15,27 @@ pub const STANDARD_INPUT: &str = "-";
 pub fn failure_of(rt: &HostRuntime, path: &str) -> Option<ErrorKind> {
     let files = NamedFiles { rt };
     files.failure(path)
+}
+
+/// Makes an empty file where there is none.
+fn make_file(rt: &HostRuntime, path: &str) -> Result<(), FilesFault> {
+    let mut how = OpenOptions::new();
+    how.write(true).create_new(true);
+    match how.open(rt, path) {
+        Ok(_) => Ok(()),
+        Err(_) => Err(FilesFault::Failed),
+    }
+}
+
+/// Writes octets to a new file; where that fails, there is none.
+fn write_new(rt: &HostRuntime, alloc: Global, path: &str, octets: &[u8]) -> Result<(), FilesFault> {
+    make_file(rt, path)?;
+    let mut files = StdFiles { runtime: rt };
+    let written = files.replace(alloc, path, octets);
+    if written.is_err() {
+        let _ = rt.remove_file(path);
+    }
+    written
 }
 
 /// The files that words name.
@@ -36,13 +58,19 @@ impl Files for NamedFiles<'_> {
         files.read(alloc, path, most)
     }
 
-    /// Standard input is not written.
+    /// Standard input is not written, nor what is no plain file. Where there is no file, a new one is made.
     fn replace(&mut self, alloc: Global, path: &str, octets: &[u8]) -> Result<(), FilesFault> {
         if path == STANDARD_INPUT {
             return Err(FilesFault::Failed);
         }
-        let mut files = StdFiles { runtime: self.rt };
-        files.replace(alloc, path, octets)
+        match self.rt.metadata(path) {
+            Ok(about) if about.is_file() => {
+                let mut files = StdFiles { runtime: self.rt };
+                files.replace(alloc, path, octets)
+            }
+            Ok(_) => Err(FilesFault::Failed),
+            Err(_) => write_new(self.rt, alloc, path, octets),
+        }
     }
 
     fn failure(&self, path: &str) -> Option<ErrorKind> {

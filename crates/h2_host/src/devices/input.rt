@@ -70,6 +70,12 @@ fn refusal_of_check(check: &Check<'_>) -> Option<&'static str> {
             "error: --bless writes one file to standard output; --in-place writes each where it is\n",
         );
     }
+    if check.junit != "" && check.bless {
+        return Some("error: --bless has no results for --junit\n");
+    }
+    if check.junit != "" && check.files.iter().any(|file| *file == check.junit) {
+        return Some("error: --junit FILE would replace a file of cases\n");
+    }
     None
 }
 
