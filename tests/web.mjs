@@ -216,7 +216,12 @@ async function inBrowser(chromium) {
     check("the fault goes when it is mended", await of("document.getElementById('fault').className") === "" && (await of("document.getElementById('hex').value")).replace(/\s/g, "") === run(["asm"], readFileSync(join(top, "examples/closed.h2"), "utf8")).text.trim());
     check("its cause is shown", (await of("document.getElementById('why').textContent")).includes("data-on-idle"));
     check("its duties are tags", (await of("[...document.querySelectorAll('#why .tag')].map(it => it.textContent).join('; ')")) === "data-on-idle; server MUST 5.1; client MUST NOT 5.1", await of("document.getElementById('why').textContent"));
-    check("it is explained", (await of("document.getElementById('words').textContent")) === run(["explain"], run(["asm"], readFileSync(join(top, "examples/closed.h2"), "utf8")).text).text, await of("document.getElementById('words').textContent"));
+    const words = () => of("document.getElementById('words').textContent"), closed = run(["asm"], readFileSync(join(top, "examples/closed.h2"), "utf8")).text;
+    check("it is explained", await words() === run(["explain", "--brief"], closed).text, await words());
+    await of("document.getElementById('all-lines').click()");
+    check("all lines of the explanation", await words() === run(["explain"], closed).text, await words());
+    await of("document.getElementById('all-lines').click()");
+    for (const it of corpus) check(`${it.name}: in brief`, await of(`(text => text.split(/^(?=[#@])/m).map(h2.briefOf).join(""))(${JSON.stringify(run(["explain", ...limitWords(it.limits), ...it.answers], hexOf(it.octets)).text)})`) === run(["explain", "--brief", ...limitWords(it.limits), ...it.answers], hexOf(it.octets)).text);
     check("the item at hand is marked in the explanation", (await of("document.querySelector('#words .now')?.textContent")).startsWith("#3 @33"));
     check("an error is shown", (await of("document.getElementById('item-tags').textContent")).includes("PROTOCOL_ERROR"));
     // A narrow window, one of middle width and a wide one, with an error at hand.

@@ -1,8 +1,9 @@
 //! Which lines of `table` are refused, and why.
 
-use crate::place::{InputSource, Quoted, are_digits};
+use crate::place::{InputSource, Quoted};
 use h2_explain_words::say::{Say, TextBuilder};
 use h2_explain_words::say_all;
+use h2_script::number_at;
 
 /// Why a line is refused.
 #[derive(Clone, Copy)]
@@ -11,20 +12,6 @@ enum Fault {
     NoCommand,
     /// 3: a maximum above the limit.
     AboveLimit,
-}
-
-/// The number that `max` is given.
-fn number_in(digits: &[u8]) -> Option<u32> {
-    if digits.is_empty() || digits.len() > 10 || !are_digits(digits) {
-        return None;
-    }
-    let mut number = 0u64;
-    for digit in digits {
-        number = number
-            .saturating_mul(10)
-            .saturating_add(u64::from(digit.saturating_sub(b'0')));
-    }
-    u32::try_from(number).ok()
 }
 
 /// Why a line is refused by a table of this limit.
@@ -39,7 +26,7 @@ fn fault_of(line: &[u8], limit: u32) -> Option<Fault> {
     let Some(digits) = line.strip_prefix(b"max ".as_slice()) else {
         return Some(Fault::NoCommand);
     };
-    match number_in(digits) {
+    match number_at(u32::MAX, digits) {
         Some(number) if number > limit => Some(Fault::AboveLimit),
         Some(_) => None,
         None => Some(Fault::NoCommand),

@@ -1,5 +1,5 @@
 -- Taking the first item of octets in hand.
-use Rattle.std.proofs.Common.{◌≡◌, ◌∙◌, ◌<◌, ◌^◌, ℕ, Bool, true, false, List, [], Some, None, Option, Result, Ok, Err, IfOk, OnOk, refl, sym, ap, subst, true≢false}
+use Rattle.std.proofs.Common.{◌≡◌, ◌∙◌, ◌<◌, ◌^◌, ℕ, Bool, true, false, List, Some, None, Option, Result, Ok, Err, IfOk, OnOk, refl, sym, ap, subst, true≢false}
 use Rattle.h2_frame.specs.Items.{item_in}
 use Rattle.h2_spec.specs.declared.connection.Phase.{Phase}
 use Rattle.h2_spec.specs.declared.connection.Phase.TheVariants as phase

@@ -1,6 +1,6 @@
 -- Which special case an error or an ignored frame is, and what is printed of its rule: the row of the special case, or
 -- that of the cause or the reason (h2_spec's CauseWords, IgnoredWords and SpecialCases).
-use Rattle.std.specs.Prelude.{ℕ, Bool, true, false, ◌%◌, ◌==◌, if◌then◌else◌, List, Option, Some, None}
+use Rattle.std.specs.Prelude.{Bool, true, false, ◌%◌, ◌==◌, if◌then◌else◌, Option, Some, None}
 use Rattle.h2_spec.specs.declared.causes.Cause.{Cause}
 use Rattle.h2_spec.specs.declared.causes.Cause.TheVariants.{BlockInterrupted, DataOnIdle, RstStreamOnIdle, WindowUpdateOnIdle, StreamWindowOverflow, TooManyStreams, BadName, LackingPseudoField, BadContentLength, TrailersBadName}
 use Rattle.h2_spec.specs.declared.frames.FrameType.{FrameType}

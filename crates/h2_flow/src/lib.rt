@@ -1,7 +1,6 @@
 //! Flow control for users of the library: the peer's settings, windows, credit, the server's own settings in force, and
 //! what they refuse (RFC 9113, 5.2, 6.5.2 and 6.9).
-//! For users of the library; the program does not call `take` and `add` of `Window` and `owe` of `Credit`: its rules use
-//! `is_below` and `minus`, `overflows` and `plus`, which return the new value.
+//! For users of the library; the program does not call `take` of `Window`: its rules ask `is_below` first.
 //! The types are declared in `h2_spec` (flow, errors), since definitions use the same ones; here they have the names
 //! that a program imports.
 //! Definitions: `h2_spec/specs/Settings.antt`, `h2_spec/specs/Window.antt`, `h2_spec/specs/Causes/Errors.antt`.

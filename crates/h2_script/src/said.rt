@@ -82,10 +82,8 @@ fn number_of(octets: &[u8]) -> u64
     requires { 4 ≤ length octets.now }
     ensures { result ≡ four_octets octets.now 0 }
 {
-    u64::from(octets[0]) * 16_777_216
-        + u64::from(octets[1]) * 65_536
-        + u64::from(octets[2]) * 256
-        + u64::from(octets[3])
+    let number = u32::from_be_bytes([octets[0], octets[1], octets[2], octets[3]]);
+    u64::from(number)
 }
 
 /// Appends settings, six octets each, with commas between.
@@ -105,20 +103,17 @@ fn push_settings<A: Allocator>(payload: &[u8], out: &mut String<A>) -> Result<()
 }
 
 /// The setting at the front of octets (RFC 9113, 6.5.1).
-fn pair_of(octets: &[u8]) -> (u64, u64)
+fn pair_of(octets: &[u8]) -> (u16, u32)
     requires { 6 ≤ length octets.now }
     ensures { result ≡ (two_octets octets.now 0, four_octets octets.now 2) }
 {
-    let id = u64::from(octets[0]) * 256 + u64::from(octets[1]);
-    let value = u64::from(octets[2]) * 16_777_216
-        + u64::from(octets[3]) * 65_536
-        + u64::from(octets[4]) * 256
-        + u64::from(octets[5]);
+    let id = u16::from_be_bytes([octets[0], octets[1]]);
+    let value = u32::from_be_bytes([octets[2], octets[3], octets[4], octets[5]]);
     (id, value)
 }
 
 /// Appends a setting: its identifier, an equals sign, its value.
-fn push_setting<A: Allocator>(setting: (u64, u64), out: &mut String<A>) -> Result<(), AllocError>
+fn push_setting<A: Allocator>(setting: (u16, u32), out: &mut String<A>) -> Result<(), AllocError>
     ensures { OnOk result (string_bytes out.new ≡ string_bytes out.old ++ setting_text setting) }
 {
     write!(out, "{}={}", setting.0, setting.1)

@@ -1,10 +1,10 @@
 //! The words of a script as text: octets in hex, numbers, strings, types, streams. The definitions are in `h2_spec`,
 //! specs/Texts/Written.antt, as `.._text`.
 
-ghost use Rattle.std.specs.Prelude.{◌≡◌, ◌++◌, ◌∷◌, ◌<◌, [], OnOk, flat_map, slice_index};
+ghost use Rattle.std.specs.Prelude.{◌≡◌, ◌++◌, ◌∷◌, ◌<◌, [], OnOk, flat_map};
 ghost use Rattle.std.specs.Fmt.{decimal};
 ghost use Rattle.std.specs.String.{string_bytes};
-ghost use Rattle.hex.specs.Hex.{encode_lower, lower_digits};
+ghost use Rattle.hex.specs.Hex.{encode_lower};
 ghost use Rattle.h2_spec.specs.Texts.Script.{quote_of};
 ghost use Rattle.h2_spec.specs.Texts.Written.{character_text, stream_text, type_text};
 
@@ -25,25 +25,16 @@ pub(crate) fn push_octets<A: Allocator + Copy>(
     out.push_str(digits.as_str())
 }
 
-/// A hex digit.
-fn digit(value: u8) -> char
-    requires { value < 16 }
-    ensures digit { result ≡ slice_index lower_digits value }
-    ensures ascii { result < 128 }
-{
-    if value < 10 {
-        char::from(b'0' + value)
-    } else {
-        char::from(b'a' + (value - 10))
-    }
-}
-
 /// Appends an octet in hex.
 pub(crate) fn push_octet<A: Allocator>(octet: u8, out: &mut String<A>) -> Result<(), AllocError>
     ensures { OnOk result (string_bytes out.new ≡ string_bytes out.old ++ encode_lower (octet ∷ [])) }
 {
-    out.push(digit(octet / 16))?;
-    out.push(digit(octet % 16))?;
+    let mut digits = [0; 2];
+    let Ok(()) = hex::encode_to_slice([octet], &mut digits) else {
+        unreachable!();
+    };
+    out.push(char::from(digits[0]))?;
+    out.push(char::from(digits[1]))?;
     Ok(())
 }
 

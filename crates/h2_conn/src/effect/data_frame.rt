@@ -1,7 +1,7 @@
 //! DATA on a connection (RFC 9113, 6.1): what a frame of it brings, and what its stream and the counts become. Definition:
 //! `data_at` of h2_spec's `specs/Effect.antt`.
 
-ghost use Rattle.std.specs.Prelude.{◌≡◌, ◌<◌, ◌^◌, false, length, true, Ok};
+ghost use Rattle.std.specs.Prelude.{◌≡◌, ◌<◌, ◌^◌, length, Ok};
 ghost use Rattle.h2_frame.specs.Parts.{data_seen};
 ghost use Rattle.h2_spec.specs.Effect as rule;
 ghost use Rattle.h2_spec.specs.Frames.FrameType.{END_STREAM, has};
@@ -56,8 +56,8 @@ impl<'b, A: Allocator + Copy> State<'b, A> {
         self.book.answer(stream.pick).body.len() as u64
     }
 
-    /// DATA. That which ends the peer's side has a function of its own, so that neither sets up locals for the other.
-    #[inline(always)]
+    /// DATA. What is frequent has its own rules, which test nothing again.
+    #[inline(never)]
     pub fn on_data<O: Outgoing<'b, A>>(
         &mut self,
         id: u32,
@@ -67,55 +67,18 @@ impl<'b, A: Allocator + Copy> State<'b, A> {
         requires stopped { IsStopped self.old.block }
         ensures { Settles self.old (O.octets out.old) (makes self.old (rule.data_at self.old id incoming)) result self.new (O.octets out.new) }
     {
+        self.look_up(id);
+        let stream = self.stream_at(id);
+        if !only_takes(&self.core, incoming, &stream) {
+            return self.on_other_data(id, incoming, out);
+        }
         if incoming.ends {
-            self.on_last_data(id, incoming, out)
-        } else {
-            self.on_more_data(id, incoming, out)
-        }
-    }
-
-    /// DATA after which more may come on its stream.
-    #[inline(never)]
-    fn on_more_data<O: Outgoing<'b, A>>(
-        &mut self,
-        id: u32,
-        incoming: ReceivedData,
-        out: &mut O,
-    ) -> Result<Verdict, AllocError>
-        requires stopped { IsStopped self.old.block }
-        requires stays { incoming.ends ≡ false }
-        ensures { Settles self.old (O.octets out.old) (makes self.old (rule.data_at self.old id incoming)) result self.new (O.octets out.new) }
-    {
-        self.look_up(id);
-        let stream = self.stream_at(id);
-        if only_takes(&self.core, incoming, &stream) {
-            let reaction = take(self.config, self.core(), incoming, stream);
-            self.conclude_in_place(reaction, out)
-        } else {
-            self.on_other_data(id, incoming, out)
-        }
-    }
-
-    /// DATA that ends the peer's side of its stream.
-    #[inline(never)]
-    fn on_last_data<O: Outgoing<'b, A>>(
-        &mut self,
-        id: u32,
-        incoming: ReceivedData,
-        out: &mut O,
-    ) -> Result<Verdict, AllocError>
-        requires stopped { IsStopped self.old.block }
-        requires ends { incoming.ends ≡ true }
-        ensures { Settles self.old (O.octets out.old) (makes self.old (rule.data_at self.old id incoming)) result self.new (O.octets out.new) }
-    {
-        self.look_up(id);
-        let stream = self.stream_at(id);
-        if only_takes(&self.core, incoming, &stream) {
             let body = self.body_length(&stream);
             let reaction = take_last(self.config, self.core(), body, incoming, stream);
             self.conclude_in_place(reaction, out)
         } else {
-            self.on_other_data(id, incoming, out)
+            let reaction = take(self.config, self.core(), incoming, stream);
+            self.conclude_in_place(reaction, out)
         }
     }
 

@@ -5,6 +5,7 @@
 ghost use Rattle.std.specs.Prelude.{◌≡◌};
 
 use h2_explain_words::spelled::SpelledField;
+use h2_hpack_validity::octets::number_of;
 use h2_spec::causes::Cause;
 use std::alloc::{AllocError, Allocator};
 
@@ -264,17 +265,6 @@ pub fn is_length_long<A: Allocator>(fields: &[SpelledField<A>]) -> bool {
     matches!(lengths_of(fields), Lengths::Long)
 }
 
-/// The value of a number of at most 18 digits.
-fn number_in(value: &[u8]) -> u64 {
-    let mut number = 0u64;
-    for octet in value {
-        number = number
-            .saturating_mul(10)
-            .saturating_add(u64::from(octet.saturating_sub(b'0')));
-    }
-    number
-}
-
 /// Whether two content-lengths are different numbers, of at most 18 digits each.
 pub fn do_lengths_differ<A: Allocator>(fields: &[SpelledField<A>]) -> bool {
     match lengths_of(fields) {
@@ -288,11 +278,11 @@ fn has_other_length<A: Allocator>(fields: &[SpelledField<A>]) -> bool {
     let mut first = None;
     for field in fields {
         if is_wrong(FieldFault::Length, field) {
-            let number = number_in(field.value.as_slice());
-            match first {
-                Some(other) if other != number => return true,
-                _ => first = Some(number),
+            let number = number_of(field.value.as_slice());
+            if first.is_some() && first != number {
+                return true;
             }
+            first = number;
         }
     }
     false
@@ -322,7 +312,7 @@ pub fn other_length<'s, A: Allocator>(
 ) -> Option<&'s SpelledField<A>> {
     for field in fields {
         if is_wrong(FieldFault::Length, field)
-            && number_in(field.value.as_slice()) != number_in(value)
+            && number_of(field.value.as_slice()) != number_of(value)
         {
             return Some(field);
         }
@@ -360,7 +350,7 @@ fn is_bad_length<A: Allocator>(fields: &[SpelledField<A>]) -> bool {
 /// Whether a block declares content other than none (RFC 9113, 8.1.1).
 fn declares_content<A: Allocator>(fields: &[SpelledField<A>]) -> bool {
     match first_with(FieldFault::Length, fields) {
-        Some(field) => !is_bad_length(fields) && number_in(field.value.as_slice()) > 0,
+        Some(field) => !is_bad_length(fields) && number_of(field.value.as_slice()) != Some(0),
         None => false,
     }
 }

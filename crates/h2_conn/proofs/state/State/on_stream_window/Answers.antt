@@ -1,4 +1,4 @@
-use Rattle.std.proofs.Common.{◌≡◌, ◌∙◌, refl, subst, sym}
+use Rattle.std.proofs.Common.{◌∙◌, refl, subst, sym}
 use Rattle.h2_spec.specs.Change.{frames_of, with_outcome}
 use Rattle.h2_spec.specs.Effect.{on_window}
 use Rattle.h2_spec.specs.State.{State}

@@ -1,5 +1,4 @@
 use Rattle.std.proofs.Common.{◌≡◌, ◌∙◌, ℕ, ℤ, ap, arith, sym, subst, true}
-use Rattle.h2_spec.specs.declared.streams.Numbers.{Numbers}
 use Rattle.h2_spec.specs.declared.streams.Stream.{Stream}
 use Rattle.h2_spec.specs.Change.{with_send}
 use Rattle.h2_spec.specs.Stream.{Records, is_live, put, stream_at, with_numbers}
