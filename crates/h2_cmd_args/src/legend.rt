@@ -32,4 +32,4 @@ fault N         on standard output, for programs: what was refused (docs/FORMATS
 
 Status: 0 done, 1 a fault or a case that failed, 2 the words were refused or ask for help, 3 the output
 could not be written, 4 explain: a connection error; with --strict 5 a broken rule, 6 above a limit,
-7 the octets end within a frame";
+7 the octets end within a frame, or while an answer waits";

@@ -93,7 +93,7 @@ static MAGIC: [&[u8; 4]; 5] = [
 ];
 
 /// Whether octets begin as a capture does.
-fn is_capture(octets: &[u8]) -> bool {
+pub fn is_capture(octets: &[u8]) -> bool {
     MAGIC
         .iter()
         .any(|magic| octets.starts_with(magic.as_slice()))
@@ -249,10 +249,10 @@ fn begins_at_zero(text: &[u8]) -> bool {
 }
 
 // Octets may look like offsets in hex, so such a dump is read as hex all the same, with a warning.
-/// Whether each line of a text begins with its offset, which grows by 16, in hex or in octal digits. A line of a dump
+/// Whether each line of a text begins with its offset, which grows by 16, in hex, octal or decimal digits. A line of a dump
 /// has 16 octets; the last line may be a bare offset.
 pub fn has_offsets(text: &[u8]) -> bool {
-    begins_at_zero(text) && (grows(text, 16) || grows(text, 8))
+    begins_at_zero(text) && (grows(text, 16) || grows(text, 8) || grows(text, 10))
 }
 
 /// Whether each line of a text begins with its offset in this base, which grows by 16.

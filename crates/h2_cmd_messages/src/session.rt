@@ -38,7 +38,7 @@ pub fn say_session_fault(line: Option<usize>, number: &[u8], out: &mut TextBuild
     match line {
         Some(line) => say_all!(out; InputSource::Input, ", line ", line, ": ", reason, ".\n"),
         None if number == b"27".as_slice() => {
-            say_all!(out; "debug: ", reason, ", break error, breaks, table, explain, list, help, quit.\n");
+            say_all!(out; "debug: ", reason, ", next, break error, breaks, table, explain, list, help, quit, exit.\n");
         }
         None => say_all!(out; "debug: ", reason, ".\n"),
     }

@@ -10,7 +10,7 @@ use crate::{
 };
 use h2_cmd_args::command::{Batch, Check, Devices, Plan, Refusal};
 use h2_cmd_book_file::{Files, FilesFault, StdFiles};
-use h2_cmd_messages::InputSource;
+use h2_cmd_messages::{InputSource, is_capture};
 use h2_io::MAX_INPUT;
 use std::alloc::AllocError;
 use std::io::{ErrorKind, Stderr, Stdin, Stdout};
@@ -211,12 +211,15 @@ pub fn read_file(rt: &HostRuntime, path: &str, most: usize) -> Result<Vec<u8>, E
     }
 }
 
-/// The text of a file: as it is, or the hex of its octets.
+/// The text of a file: as it is, or the hex of its octets. A capture stays as it is, and so is refused as no hex.
 fn text_of(rt: &HostRuntime, path: &str, is_raw: bool) -> Result<Vec<u8>, ErrorKind> {
     if !is_raw {
         return read_file(rt, path, MAX_INPUT);
     }
     let octets = read_file(rt, path, MAX_INPUT / 2)?;
+    if is_capture(octets.as_slice()) {
+        return Ok(octets);
+    }
     match hex_of(rt.alloc(), octets.as_slice()) {
         Ok(text) => Ok(text),
         Err(_) => Err(ErrorKind::OutOfMemory),
