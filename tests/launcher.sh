@@ -137,8 +137,11 @@ in_shell() {
     runs "$name: other sources proved here, nothing released" 0 "proved play" "$changed" as kit "$@" ./h2_bench play
     fresh
     edit
-    runs "$name: no sha256sum" 0 "released play" "" as bare "$@" ./h2_bench play
-    runs "$name: no commands" 0 "released play" "" as none "$@" ./h2_bench play
+    # The shell of busybox may have these commands in itself.
+    if ! as none "$@" -c 'command -v sha256sum' >"$work/out"; then
+        runs "$name: no sha256sum" 0 "released play" "" as bare "$@" ./h2_bench play
+        runs "$name: no commands" 0 "released play" "" as none "$@" ./h2_bench play
+    fi
     runs "$name: --prove without Python" 2 "" "--prove needs Python 3 and the Rattle kit" as plain "$@" ./h2_bench --prove
     runs "$name: --unproved without Python" 2 "" "--unproved needs Python 3 and the Rattle kit" as plain "$@" ./h2_bench --unproved play
     without_writing "$name" "$@"
@@ -218,6 +221,7 @@ installed() {
     runs "install.sh" 0 "installed in $work/prefix; the command is $work/prefix/bin/h2_bench" "" as plain sh tools/install.sh "$work/prefix"
     ln -s "$work/prefix/bin/h2_bench" "$work/link"
     runs "the installed launcher by a link" 0 "released play" "" as plain sh "$work/link" play
+    runs "the installed launcher: --which" 0 "$work/prefix/bin/../libexec/h2_bench/h2_bench" "" as plain sh "$work/prefix/bin/h2_bench" --which
     for file in man/man1/h2_bench.1 bash-completion/completions/h2_bench zsh/site-functions/_h2_bench fish/vendor_completions.d/h2_bench.fish \
         doc/h2_bench/{h2_bench.html,{TABLE,RULES,EXPLAIN,FORMATS,CASES,BOOKS,CLIENT-CI,CAPTURE}.md}; do
         test -s "$work/prefix/share/$file"

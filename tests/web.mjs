@@ -31,6 +31,9 @@ const engine = engineOf(await WebAssembly.compile(gunzipSync(Buffer.from(page.ma
 const config = (more = {}) => ({ streams: 100, credit: 32768, table: 4096, window: 65535, frame: 16384, ...more });
 const limitWords = it => Object.entries(it).flatMap(([name, value]) => [`--${name}`, String(value)]);
 const hexOf = octets => Buffer.from(octets).toString("hex");
+// A dump of octets: offsets of so many digits; where they are given, the text between these two.
+const rowsOf = (octets, digits, before, behind) => Array.from({ length: Math.ceil(octets.length / 16) }, (_, n) => [16 * n, octets.subarray(16 * n, 16 * n + 16)])
+  .map(([at, row]) => `${at.toString(16).padStart(digits, "0")}  ${hexOf(row).match(/../g).join(" ")}${behind === undefined ? "" : before + Array.from(row, it => it < 32 || it > 126 ? "." : String.fromCharCode(it)).join("") + behind}\n`).join("");
 const latin = result => Buffer.from(result.octets).toString("latin1");
 const ALL = 2n ** 63n;
 
@@ -222,6 +225,26 @@ async function inBrowser(chromium) {
       check(`${width} pixels suffice`, await of("document.documentElement.scrollWidth") <= width, await of("document.documentElement.scrollWidth"));
     }
     check("a wide window has the result beside the input", await of("document.getElementById('hex').getBoundingClientRect().right < document.getElementById('lanes').getBoundingClientRect().left"));
+    await tell("Emulation.setDeviceMetricsOverride", { width: 1300, height: 1500, deviceScaleFactor: 1, mobile: false });
+    // Dumps, captures, and a fault in a narrow window.
+    const typeHex = async text => { await of(`(it => { it.value = ${JSON.stringify(text)}; it.dispatchEvent(new Event("input")); })(document.getElementById("hex"))`); await wait(300); };
+    const fault = () => of("document.getElementById('fault').className === 'on' ? document.getElementById('fault').textContent : ''");
+    const dumps = [[4, ""], [8, ""], [4, "   ", ""], [8, "  |", "|"]].map(([digits, before, behind]) => rowsOf(get.octets, digits, before, behind));
+    for (const [n, text] of dumps.entries()) {
+      await typeHex(text);
+      check(`dump ${n} is read without its offsets`, await fault() === "" && await of("Array.from(h2.run.octets).join()") === Array.from(get.octets).join() && (await of("document.getElementById('hex-note').textContent")).includes("of a dump"), text);
+    }
+    await typeHex("0000000 5250 2049 202a 5448 5054 322f 302e 0a0d\n0000010 0a0d 4d53 0a0d 0a0d\n0000018\n");
+    check("a dump of words is refused", (await fault()).includes("take xxd -p"), await fault());
+    for (const [text, advice] of [["0x50, 0x52", "all but the digits"], ["\n====\nFollow: tcp,raw\n", "without a tab"]]) {
+      await typeHex(text);
+      check(`${JSON.stringify(text)} is refused with advice`, (await fault()).includes(advice), await fault());
+    }
+    await of(`(() => { h2.typed.source = "file"; h2.typed.file = h2.readHex("d4c3b2a1020004000000000000000000").octets; h2.play(); })()`);
+    check("a capture is refused with advice", (await fault()).includes("tshark"), await fault());
+    await tell("Emulation.setDeviceMetricsOverride", { width: 360, height: 900, deviceScaleFactor: 1, mobile: true });
+    await visit(`${url}#${new URLSearchParams([["script", `PREFACE\nFOO ${"x".repeat(300)}\n`]])}`);
+    check("360 pixels suffice for a fault", await of("document.documentElement.scrollWidth") <= 360 && (await fault()).includes("line 2"), await of("document.documentElement.scrollWidth"));
     await tell("Emulation.setDeviceMetricsOverride", { width: 1300, height: 1500, deviceScaleFactor: 1, mobile: false });
     // A special case of a rule has its own duties.
     await visit(`${url}#${new URLSearchParams([["script", "PREFACE\nSETTINGS 00 0 -\nHEADERS 04 1 hi2,i6,i4\nHEADERS 04 3 hi2,i6,i4\n"], ["streams", "1"]])}`);

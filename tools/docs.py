@@ -11,7 +11,7 @@ What is checked:
     its special cases, and **own** is there where the RFC demands nothing;
   - each file, link (with its heading), crate, path, function and type that README.md, CONTRIBUTING.md, CHANGELOG.md or docs/*.md names is there, and is in the file that is
     named with it: `feed` (feeding.rt), `feed` (h2_conn, feeding.rt);
-  - each crate that a comment of a source names is there.
+  - each crate and file that a comment of a source names is there.
 
 CRATE, NAME, TOPIC and FILE are any name in a path: `tests/runs/TOPIC.run`.
 """
@@ -359,6 +359,30 @@ def crates_in_comments(crates):
                 yield f"{path}:{number}", word, word in crates
 
 
+def comments(path):
+    """The comments of a source: (the line that one begins on, its words). Lines of comments without another line between them are one."""
+    begun, words = 0, []
+    for number, line in enumerate([*read(path).split("\n"), ""], 1):
+        comment = re.match(r"\s*(?://[/!]?|--)(.*)", line)
+        if comment:
+            begun = begun if words else number
+            words.append(comment[1])
+        elif words:
+            yield begun, " ".join(words)
+            words = []
+
+
+def files_in_comments(known):
+    """The files that comments of sources name: (place, the name, whether it is there): in the crate itself, in one that the comment names, or in h2_spec."""
+    sources = {path for paths in known.values() for path in paths if re.search(r"^crates/.*\.(?:rt|antt)$", path)}
+    for path in sorted(sources):
+        for number, text in comments(path):
+            crates = {path.split("/")[1], "h2_spec", *CRATE.findall(text)}
+            for word in re.findall(r"(?<![\w.])[\w/]+\.(?:rt|antt)\b", text):
+                there = [it for it in known.get(os.path.basename(word), []) if f"/{it}".endswith(f"/{word}")]
+                yield f"{path}:{number}", word, any(it.split("/")[1] in crates for it in there)
+
+
 def check(made, wrong, known):
     """Shows what is wrong, and counts."""
     crates = set(re.findall(r"^(\w+)[^:\n]*:", read("crates.txt"), re.M))
@@ -375,6 +399,10 @@ def check(made, wrong, known):
         passed += 1
         if not there:
             wrong.append(f"{place}: there is no crate {word}")
+    for place, word, there in files_in_comments(known):
+        passed += 1
+        if not there:
+            wrong.append(f"{place}: {word} is not there")
     for line in wrong:
         print(line)
     print(f"{max(passed - len(wrong), 0)} passed, {len(wrong)} failed")

@@ -3,8 +3,8 @@
 #
 #   tools/edits.sh [CRATE..]     these crates; with none named, each crate that edits/ has
 #
-# The edits are put into a copy of the crates in a temporary folder, and `rt must-fail CRATE` is called there. It begins with what checks on this machine have kept of
-# the same sources; what is not kept it proves first, which can take as long as a first proof. The copy is removed at the end, also after an interrupt.
+# The edits are put into a copy of the crates in a temporary folder, with the libraries that checks have built, and `rt must-fail CRATE` is called there. It builds the
+# libraries that a crate lacks or whose sources have changed, which can take as long as a first proof, and then proves the crate once. The copy is removed at the end, also after an interrupt.
 #
 # For each crate a line says how many edits were refused, not refused and bad (an edit that can't be applied or read, or was not tried); each that is not refused is
 # shown. The last line is `N passed, M failed`, and the status is 1 where an edit is not refused.
@@ -49,6 +49,11 @@ for folder in "$top"/crates/*; do
             *) cp -r "$part" "$copy/crates/${folder##*/}" ;;
         esac
     done
+    # What is built anew there is not written into the files that are shared.
+    if [ -d "$folder/out/rlib" ]; then
+        mkdir "$copy/crates/${folder##*/}/out"
+        cp -rl "$folder/out/rlib" "$copy/crates/${folder##*/}/out" 2>/dev/null || cp -r "$folder/out/rlib" "$copy/crates/${folder##*/}/out"
+    fi
 done
 for crate in "$@"; do
     cp -r "$top/edits/$crate" "$copy/crates/$crate/must-fail"

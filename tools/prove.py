@@ -1,8 +1,9 @@
 #!/usr/bin/env python3
 """Proves and builds the program, or the page.
 
-    prove.py [--anew]               the program: ./h2_bench --prove
-    prove.py --page OUT [--anew]    the page: tools/web.sh
+    prove.py [--anew]                         the program: ./h2_bench --prove
+    prove.py --page OUT [--anew]              the page: tools/web.sh
+    prove.py --program --page OUT [--anew]    both, over one proof: tools/release.sh
 
 The crates that it is made of are copied to a temporary folder, without their must-fail edits, and `rt ci` proves them there: as many side by side as there are
 processors and as memory carries. Where the kit keeps what it has proved, a later call and the gate prove only what has changed since; --anew takes nothing of that.
@@ -125,35 +126,39 @@ def build_page(room, crates, out):
     subprocess.run([sys.executable, "-B", f"{TOP}/tools/page.py", module, out], check=True)
 
 
-def make(page, anew):
-    """Proves and builds the program, or the page where its path is given."""
-    crates = program.needed(program.lines_of(), PAGE)[:-1] if page else program.needed(program.lines_of())
+def make(has_program, page, anew):
+    """Proves and builds the program, and the page where its path is given."""
+    lines = program.lines_of()
+    crates = list(dict.fromkeys([*(program.needed(lines, PAGE)[:-1] if page else []), *(program.needed(lines) if has_program else [])]))
     with tempfile.TemporaryDirectory(prefix="h2_bench-prove-") as room:
         begun = time.time()
         copy_to(f"{room}/below", crates)
         if page:
             copy_crate(PAGE, f"{room}/{PAGE}")
-        say(f"proving the {len(crates)} crates that the {'page' if page else 'program'} is made of: half an hour on four processors, an hour on two, where none is proved yet")
+        say(f"proving {len(crates)} crates: half an hour on four processors, an hour on two, where none is proved yet")
         prove(f"{room}/below", crates, anew)
-        if page:
-            build_page(room, crates, page)
-        else:
+        if has_program:
             install(f"{room}/below", begun)
+        if page:
+            build_page(room, program.needed(lines, PAGE)[:-1], page)
 
 
 def main(words):
     for number in (signal.SIGTERM, signal.SIGHUP, signal.SIGINT):
         signal.signal(number, lambda number, _: sys.exit(128 + number))
-    page = os.path.abspath(words.pop(1)) if words[:1] == ["--page"] and len(words) > 1 else None
-    if [word for word in words if word not in ("--anew", "--page")] or words[:1] == ["--page"] and not page:
+    has_program, page = words[:1] == ["--program"] or words[:1] != ["--page"], None
+    words = words[words[:1] == ["--program"] :]
+    if words[:1] == ["--page"] and len(words) > 1:
+        page, words = os.path.abspath(words[1]), words[2:]
+    if [word for word in words if word != "--anew"]:
         sys.exit("h2_bench: --prove takes no other word than --anew")
     program.kit()
     whole = Progress(None)
     try:
-        make(page, "--anew" in words)
+        make(has_program, page, "--anew" in words)
     except Failed as failed:
         print(failed, end="", file=sys.stderr)
-        sys.exit(f"h2_bench: the {'page' if page else 'program'} is not proved, after {whole.clock()}")
+        sys.exit(f"h2_bench: not proved, after {whole.clock()}")
     say(f"proved and built in {whole.clock()}")
 
 

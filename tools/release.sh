@@ -130,8 +130,15 @@ sources_of() {
 
 # Makes the four files of a release in a folder.
 make() {
-    local size
-    if [ -n "$anew" ] || ! python3 -B tools/program.py is-proved; then ./h2_bench --prove $anew; fi
+    local size page=$page
+    if [ -n "$anew" ] || ! python3 -B tools/program.py is-proved; then
+        if [ -n "$page" ]; then
+            ./h2_bench --prove $anew
+        else
+            page=$1/page
+            python3 -B tools/prove.py --program --page "$page" $anew
+        fi
+    fi
     # As the compiler made it: the symbols are 71 KB of 1.85 MB, and strip of one machine may write other octets than that of the next.
     install -m 755 crates/h2_program/out/h2_program "$1/h2_bench"
     if [ -z "$page" ]; then

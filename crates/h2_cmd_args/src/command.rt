@@ -422,6 +422,7 @@ fn is(name: &str, command: &str) -> bool
     name == command
 }
 
+/// What a command of this name is to do, by the words that clap found; `None` where there is no such command.
 fn plan_from<'a>(
     alloc: Global,
     name: &str,

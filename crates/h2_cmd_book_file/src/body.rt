@@ -177,6 +177,7 @@ fn fill_pair(pair: &[Value]) -> Option<Contents<'_>>
     }
 }
 
+/// The contents that `body-fill` gives: a count that is not negative, and a text that is not empty.
 fn repeat_said(count: Option<i64>, text: Option<&str>) -> Option<Contents<'_>>
     ensures said { option_and_then spec.contents_seen result ≡ spec.repeat_said count (option_copied text.entry) }
     ensures whole { IfSome result (λ c. IsTrue (is_some (spec.contents_seen c))) }
@@ -294,6 +295,7 @@ fn fill(alloc: Global, count: usize, text: &[u8]) -> Result<Octets<Global>, Book
     }
 }
 
+/// That many octets of a text, which is repeated.
 fn repeat(alloc: Global, count: usize, text: &[u8]) -> Result<Vec<u8>, AllocError>
     requires { 0 < length text.now }
     ensures { IfOk result (λ octets. octets.items ≡ spec.filled count text.now) }

@@ -87,6 +87,7 @@ pub(crate) fn header_in(pair: &Value) -> Option<(&str, &str)>
     }
 }
 
+/// The name and the value of a header, where it has exactly two values and both are texts.
 fn header_pair(pair: &[Value]) -> Option<(&str, &str)>
     ensures { option_map (λ p. field p.0.now p.1.now) result ≡ spec.header_pair (items_view pair.now) }
 {
@@ -97,6 +98,7 @@ fn header_pair(pair: &[Value]) -> Option<(&str, &str)>
     }
 }
 
+/// Two texts, where both are there.
 fn both<'v>(name: Option<&'v str>, value: Option<&'v str>) -> Option<(&'v str, &'v str)>
     ensures { option_map (λ p. field p.0.now p.1.now) result
         ≡ spec.field_with (option_copied name.entry) (option_copied value.entry) }

@@ -145,6 +145,7 @@ impl Say for QuotedKey<'_> {
     }
 }
 
+/// Says where a fault is: the file, and the line and the answer where these are known.
 fn say_place(place: Where<'_>, line: usize, out: &mut TextBuilder) {
     say_all!(out; Cut(place.path.as_bytes()));
     if line > 0 {
@@ -189,6 +190,7 @@ fn has_long_number(line: &str) -> bool {
     }
 }
 
+/// Whether octets are a number of too many digits, with nothing else that a number can't have.
 fn is_long_number(octets: &[u8]) -> bool {
     let mut digits = 0usize;
     for octet in octets {
@@ -214,6 +216,7 @@ fn bad_header(place: Where<'_>) -> Option<(&str, &'static str)> {
     }
 }
 
+/// The first header that is refused, by its name, and why.
 fn first_bad(headers: &[Value]) -> Option<(&str, &'static str)> {
     for pair in headers {
         if let Some((name, value)) = header_in(pair)
@@ -225,6 +228,7 @@ fn first_bad(headers: &[Value]) -> Option<(&str, &'static str)> {
     None
 }
 
+/// Says why an entry is refused.
 fn say_entry(place: Where<'_>, fault: EntryFault, out: &mut TextBuilder) {
     match fault {
         EntryFault::BadStatus =>
@@ -247,6 +251,7 @@ fn say_entry(place: Where<'_>, fault: EntryFault, out: &mut TextBuilder) {
     }
 }
 
+/// Says why a book is refused.
 fn say_cause(place: Where<'_>, cause: &BookRefusal, out: &mut TextBuilder) {
     match cause {
         BookRefusal::NoMemory => "out of memory".say(out),

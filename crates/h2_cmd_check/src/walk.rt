@@ -379,7 +379,7 @@ impl<'t, 'b> Walk<'t, 'b> {
         }
     }
 
-    /// The octets that were sent, of which lines speak.
+    /// The octets that were sent so far; with a debugger, for the item of its position. Lines `;<` say what is in them.
     pub(crate) fn sent(&self) -> &[u8]
         ensures octets { result.now ≡ sent_here self.now }
         ensures few { length (sent_here self.now) < 2 ^ 64 }
@@ -387,7 +387,7 @@ impl<'t, 'b> Walk<'t, 'b> {
         self.sight().sent
     }
 
-    /// Those of them that no line has spoken about.
+    /// Those octets that no line `;<` has named yet.
     pub(crate) fn unspoken(&self) -> &[u8]
         ensures octets { result.now ≡ left_by self.now }
         ensures few { length (sent_here self.now) < 2 ^ 64 }

@@ -18,10 +18,12 @@ fn part_of(word: &str, number: usize) -> &str {
     }
 }
 
+/// Whether a part has three digits.
 fn is_status(part: &str) -> bool {
     part.len() == 3 && are_digits(part.as_bytes())
 }
 
+/// Whether a part is pairs of hex digits.
 fn is_hex(part: &str) -> bool {
     part.len() % 2 == 0 && are_hex_digits(part.as_bytes())
 }
@@ -68,6 +70,7 @@ pub fn say_no_answer(place: usize, word: &str, out: &mut TextBuilder) {
     }
 }
 
+/// Says that a word has no `|`, and so is no answer.
 fn say_no_bar(place: usize, word: &str, out: &mut TextBuilder) {
     if word == "-" {
         say_all!(out; AnswerPlace(place), ": `-` is no answer; standard input is read without it, or by --in -.\n");
@@ -76,6 +79,7 @@ fn say_no_bar(place: usize, word: &str, out: &mut TextBuilder) {
     say_all!(out; AnswerPlace(place), ": ", Quoted(word.as_bytes()), " has no |, and an answer is METHOD|PATH|STATUS|BODYHEX; there is no file of that name, which would be the input in front of the answers.\n");
 }
 
+/// Says that the fourth part is no hex, and what it is as octets.
 fn say_no_body(place: usize, body: &str, out: &mut TextBuilder) {
     let octets = body.as_bytes();
     say_all!(out; AnswerPlace(place), ", part 4, BODYHEX: ", Quoted(octets), " is not pairs of hex digits; as octets it is ", Hex(first_of(octets, SHOWN)));
@@ -131,6 +135,7 @@ fn bad_field(word: &str) -> Option<BadField<'_>> {
     None
 }
 
+/// Says which field of a word is refused, and why.
 fn say_field(word: &str, out: &mut TextBuilder) {
     match bad_field(word) {
         Some(field) => say_all!(

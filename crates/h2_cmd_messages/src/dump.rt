@@ -117,6 +117,7 @@ static LOGGED: [&str; 8] = [
     "[INFO]",
 ];
 
+/// Whether a line begins as one of a client's log.
 fn is_log(line: &[u8]) -> bool {
     LOGGED
         .iter()
@@ -195,6 +196,7 @@ fn is_script(text: &[u8]) -> bool {
     false
 }
 
+/// Whether a line of a script can begin with this word.
 fn is_script_word(word: &[u8]) -> bool {
     word == b"PREFACE".as_slice() || word == b"RAW".as_slice() || type_number(word).is_some()
 }
@@ -204,6 +206,7 @@ fn first_word(line: &[u8]) -> &[u8] {
     up_to(up_to(line, b' '), b'\r')
 }
 
+/// What precedes the first line feed.
 fn first_line(text: &[u8]) -> &[u8] {
     up_to(text, b'\n')
 }

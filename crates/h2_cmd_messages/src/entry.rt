@@ -58,6 +58,7 @@ fn has_upper_case(name: &[u8]) -> bool {
     name.iter().any(|octet| octet.is_ascii_uppercase())
 }
 
+/// Whether a name has an octet that no field name may have (RFC 9113, 8.2.1).
 fn has_bad_octet(name: &[u8]) -> bool {
     name.iter()
         .any(|octet| *octet <= 32 || *octet >= 127 || *octet == b':')
@@ -77,6 +78,7 @@ fn is_blank(octet: Option<u8>) -> bool {
     octet == Some(b' ') || octet == Some(b'\t')
 }
 
+/// Why a value is refused, as what follows the name of the field.
 fn value_reason(value: &[u8]) -> Option<&'static str> {
     if value
         .iter()

@@ -82,6 +82,7 @@ pub fn say_no_hex(source: InputSource<'_>, text: &[u8], out: &mut TextBuilder) {
     }
 }
 
+/// Says which octet of a text is no hex digit, and what to do.
 fn say_bad_digit(source: InputSource<'_>, text: &[u8], at: usize, out: &mut TextBuilder) {
     let octet = Octet(text.get(at).copied().unwrap_or(0));
     let advice = advice(look_of(text, at));
@@ -97,6 +98,7 @@ fn odd_advice(text: &[u8]) -> &'static str {
     }
 }
 
+/// Says that there is an odd number of digits, and what to do.
 fn say_odd(source: InputSource<'_>, text: &[u8], out: &mut TextBuilder) {
     let digits = digit_count(text);
     let last = text

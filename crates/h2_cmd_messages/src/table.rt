@@ -46,6 +46,7 @@ fn fault_of(line: &[u8], limit: u32) -> Option<Fault> {
     }
 }
 
+/// Says why a line of `table` is refused.
 fn say_line(
     source: InputSource<'_>,
     number: usize,

@@ -5,6 +5,7 @@ use h2_explain_words::say::{Say, TextBuilder};
 use h2_explain_words::say_all;
 use std::io::ErrorKind;
 
+/// Why an output or a file could not be written, in words.
 fn reason(kind: ErrorKind) -> &'static str {
     match kind {
         ErrorKind::BrokenPipe => "its reader has left",

@@ -1,5 +1,5 @@
 -- A piece of octets: what is held, what it lacks, and what comes after the item that it becomes.
-use Rattle.std.proofs.Common.{◌≡◌, ◌∙◌, ℕ, suc, ◌+◌, ◌-◌, ◌<◌, ◌≤◌, Bool, true, false, List, [], ◌∷◌, ◌++◌, None, length, take, drop, refl, sym, ap, subst, arith, length-take, append_assoc, true≢false}
+use Rattle.std.proofs.Common.{◌≡◌, ◌∙◌, ℕ, suc, ◌+◌, ◌-◌, ◌<◌, ◌≤◌, Bool, true, false, List, [], ◌∷◌, ◌++◌, Option, None, Some, Result, Ok, Err, IfOk, OnErr, length, take, drop, refl, sym, ap, subst, arith, length-take, append_assoc, true≢false}
 use Rattle.std.proofs.Math.Seq.{drop-append-add, take-add}
 use Rattle.std.proofs.lemmas.List.{append-nil, take-append-drop}
 use Rattle.h2_spec.specs.declared.connection.Phase.{Phase}
@@ -12,15 +12,17 @@ use Rattle.h2_spec.specs.Trace.{Event, Run, event_on, left_by, next_event, next_
 use Rattle.h2_frame.specs.Items.{found, item_in, missing, missing_in, with_more}
 use Rattle.h2_frame.specs.Rest.{Rest}
 use Rattle.h2_frame.proofs.MissingLaws.{missing-some}
-use Rattle.h2_conn.specs.Connection.{Connection, Fits, IsAtRest, awaits_preface, connection, going, halted, is_ended}
-use Rattle.h2_conn.specs.First.{TakesFirst}
+use Rattle.h2_conn.specs.Connection.{Connection, Fits, IsAtRest, IsReady, awaits_preface, connection, going, halted, is_ended}
+use Rattle.h2_conn.specs.First.{TakesFirst, TakesIfAny}
+use Rattle.h2_conn.specs.Reports.{used_by}
+use Rattle.h2_conn.specs.declared.report.TakenItem.{TakenItem}
 use Rattle.h2_conn.specs.declared.feed.one.One as code
 use Rattle.h2_conn.specs.Runs.{Feeds, FeedsAs, FeedsOne, Halts, Takes, TakesOne, Waits, fed}
 use Rattle.h2_spec.proofs.ParseLaws.{Uses}
 use Rattle.h2_spec.proofs.TraceLaws.{event-uses}
-use Rattle.h2_conn.proofs.Items.{comes-past, found-is, none-after, not-got}
+use Rattle.h2_conn.proofs.Items.{comes-past, fits-ended, found-is, none-after, not-got}
 use Rattle.h2_conn.proofs.Plays.{empty-stop, left-none}
-use Rattle.h2_conn.proofs.Runs.{left-going, sent-cons, sent-none, stop-none, trace-stop, whole-one}
+use Rattle.h2_conn.proofs.Runs.{left-going, left-same, sent-cons, sent-none, stop-none, trace-stop, whole-one}
 use Rattle.h2_conn.proofs.Shortest.{octet-rest, octets-taken, used-more}
 
 -- ---- the splitter and the phase
@@ -100,25 +102,52 @@ comes-goes s t b e used h = at (is_ended s.core.phase) refl
     at false g = g
     at true g = absurd (stop-one (sym (none-after s b g) ∙ h))
 
--- no octets are held where none wait and the connection goes on
-none-held : (s t : State) (octets : List ℕ) → is_ended s.core.phase ≡ false → connection false s octets ≡ going t [] → octets ≡ []
-none-held s t octets goes h = sym (left-going s.core.phase octets goes) ∙ ap (λ (c : Connection). c.rest) h
+-- ---- a connection that holds no octets
 
-pub ready-held : (failed : Bool) (s t u : State) (octets b out out' : List ℕ) (used : ℕ) → connection failed s octets ≡ going u [] → TakesFirst s b out t out' used → octets ≡ []
-ready-held false s t u octets b out out' used h x = none-held s u octets (comes-goes s t b x.event used x.comes) h
-ready-held true s t u octets b out out' used h x = absurd (true≢false (ap (λ (c : Connection). c.failed) h))
+-- after the end nothing is taken
+ended-same : (o : Option TakenItem) (s t : State) (b out out' : List ℕ) → TakesIfAny s b out t out' (used_by o) → is_ended s.core.phase ≡ true → t ≡ s
+ended-same None s t b out out' x over = x.same
+ended-same (Some taken) s t b out out' x over = absurd (true≢false (sym over ∙ comes-goes s t b x.event taken.used x.comes))
 
--- after an item that was taken in hand a splitter rests that holds nothing
-pub rests-past : (failed : Bool) (s t u : State) (r : Rest) (b out out' : List ℕ) (used : ℕ) → IsAtRest failed s r → connection failed s r.octets ≡ going u [] → TakesFirst s b out t out' used
-    → IsAtRest failed t (record r { expects_preface = false })
-rests-past false s t u r b out out' used h e x = (
-  fits-past s t r b out out' used h.0 (comes-goes s t b x.event used x.comes) x,
-  octet-rest t r.octets (ready-held false s t u r.octets b out out' used e x),
-)
-rests-past true s t u r b out out' used h e x = tt
+pub ended-stays : {E : Type 0} (r : Result (Option TakenItem) E) (s t : State) (b out out' : List ℕ) → IfOk r (λ taken. TakesIfAny s b out t out' (used_by taken)) → OnErr r ((t ≡ s) × (out' ≡ out))
+    → is_ended s.core.phase ≡ true → t ≡ s
+ended-stays (Ok taken) s t b out out' x err over = ended-same taken s t b out out' x over
+ended-stays (Err e) s t b out out' x err over = err.0
 
-pub ready-past : (failed : Bool) (t : State) (octets : List ℕ) → failed ≡ false → octets ≡ [] → connection failed t octets ≡ going (connection failed t octets).state []
-ready-past failed t octets f e = rw (f, e) (ap (going t) (left-none t.core.phase))
+-- a splitter that holds nothing still does, and awaits the preface where the phase does
+pub still-ready : (s t : State) (r : Rest) → IsReady s r → (is_ended s.core.phase ≡ true → t ≡ s) → IsReady t (record r { expects_preface = awaits_preface t.core.phase })
+still-ready s t r h stays = at (is_ended s.core.phase) refl
+  where
+    at : (ended : Bool) → is_ended s.core.phase ≡ ended → IsReady t (record r { expects_preface = awaits_preface t.core.phase })
+    at true e =
+        let over : is_ended t.core.phase ≡ true = ap (λ (u : State). is_ended u.core.phase) (stays e) ∙ e in (
+          (fits-ended t.core.phase (record r { expects_preface = awaits_preface t.core.phase }) over, stop-none t r.octets (none-after t r.octets over)),
+          left-same t.core.phase r.octets [] over ∙ left-none t.core.phase,
+        )
+    at false e =
+        let none : r.octets ≡ [] = sym (left-going s.core.phase r.octets e) ∙ h.1 in (
+          (fits-awaited t.core.phase r (is_over-none s.core.phase r h.0.0 e), octet-rest t r.octets none),
+          ap (left_by t.core.phase) none ∙ left-none t.core.phase,
+        )
+
+-- what is inside such a connection
+pub ready-inside : (failed : Bool) (s : State) (r : Rest) (d : Connection) → IsAtRest failed s r → connection failed s r.octets ≡ d → d ≡ going d.state [] → IsReady s r
+ready-inside false s r d rests is ready = (rests, ap (λ (c : Connection). c.rest) (is ∙ ready))
+ready-inside true s r d rests is ready = absurd (true≢false (ap (λ (c : Connection). c.failed) (is ∙ ready)))
+
+-- what is true of the states inside is true of those that are shown
+pub shown-as : (failed : Bool) (s t : State) (octets octets' : List ℕ) (d : Connection) (P : State → State → Type 0) → connection failed s octets ≡ d → d ≡ going d.state [] → P s t → P d.state (connection failed t octets').state
+shown-as false s t octets octets' d P is ready x = subst (λ (c : Connection). P c.state t) is x
+shown-as true s t octets octets' d P is ready x = absurd (true≢false (ap (λ (c : Connection). c.failed) (is ∙ ready)))
+
+pub ready-shown : (failed : Bool) (s t : State) (octets octets' : List ℕ) (d : Connection) → connection failed s octets ≡ d → d ≡ going d.state [] → left_by t.core.phase octets' ≡ []
+    → connection failed t octets' ≡ going (connection failed t octets').state []
+ready-shown false s t octets octets' d is ready none = ap (going t) none
+ready-shown true s t octets octets' d is ready none = absurd (true≢false (ap (λ (c : Connection). c.failed) (is ∙ ready)))
+
+pub rests-as : (failed : Bool) (s : State) (r : Rest) → IsAtRest false s r → IsAtRest failed s r
+rests-as false s r h = h
+rests-as true s r h = tt
 
 -- ---- octets that are offered to what is held
 

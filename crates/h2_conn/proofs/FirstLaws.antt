@@ -8,12 +8,11 @@ use Rattle.h2_spec.specs.Frames.Parse.{Stop, One}
 use Rattle.h2_spec.specs.State.{State}
 use Rattle.h2_spec.specs.Trace.{Event, event_on, next_event, next_item, step}
 use Rattle.h2_spec.specs.Trace as trace
-use Rattle.h2_conn.specs.Connection.{Connection, awaits_preface, connection, going, is_ended}
+use Rattle.h2_conn.specs.Connection.{awaits_preface, is_ended}
 use Rattle.h2_conn.specs.Does.{Does, IsShort}
 use Rattle.h2_conn.specs.First.{TakesFirst, TakesIfAny}
 use Rattle.h2_conn.specs.Reports.{used_by}
 use Rattle.h2_conn.specs.declared.report.TakenItem.{TakenItem}
-use Rattle.std.specs.Option.{is_some}
 use Rattle.h2_conn.proofs.Items.{item-short}
 use Rattle.h2_conn.specs.Follows.{Follows}
 use Rattle.h2_conn.proofs.FollowsLaws.{IsOrdered, follows-refl, step-follows}
@@ -46,15 +45,6 @@ first-taken s t b out out' x used goes h d =
 pub first-none : (s : State) (b : List ℕ) → is_ended s.core.phase ≡ false → NoItem ≡ next (awaits_preface s.core.phase) s.core.own.frame b → next_event s b ≡ Stop
 first-none s b goes h = event-is s b goes ∙ ap (event_on s) (sym h)
 
-pub taken-some : (o : Option TakenItem) (s t : State) (b out out' : List ℕ) → is_some o ≡ true → TakesIfAny s b out t out' (used_by o) → (used : ℕ) × TakesFirst s b out t out' used
-taken-some None s t b out out' some x = absurd (true≢false (sym some))
-taken-some (Some taken) s t b out out' some x = (taken.used, x)
-
--- where none is taken the state stays as it was
-pub taken-none : (o : Option TakenItem) (s t : State) (b out out' : List ℕ) → is_some o ≡ false → TakesIfAny s b out t out' (used_by o) → t ≡ s
-taken-none None s t b out out' none x = x.same
-taken-none (Some taken) s t b out out' none x = absurd (true≢false none)
-
 event-follows : (s t : State) (n : Next) (e : Event) (used : ℕ) → IsOrdered s → event_on s n ≡ One e t used → Follows s t
 event-follows s t NoItem e used o h = cc
 event-follows s t (Got x u) e used o h = let same : (step s x).state ≡ t = cc in subst (λ (v : State). Follows s v) same (step-follows s x o)
@@ -86,9 +76,3 @@ over-is (phase.Ended code) limit b h = refl
 pub item-over : (s : State) (b : List ℕ) → is_ended s.core.phase ≡ true → next_item s b ≡ NoItem
 unfolding next_item
 item-over s b h = over-is s.core.phase s.core.own.frame b h
-
--- ---- a connection that holds no octets
-
-pub not-failed : (failed : Bool) (s t : State) (octets : List ℕ) → connection failed s octets ≡ going t [] → failed ≡ false
-not-failed false s t octets h = refl
-not-failed true s t octets h = ap (λ (c : Connection). c.failed) h

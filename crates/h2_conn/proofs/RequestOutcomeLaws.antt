@@ -1,19 +1,11 @@
 -- What decides about the stream that a request opens.
-use Rattle.std.proofs.Common.{◌≡◌, ℕ, Bool, true, false, cond, Option, Some, nat_le, nat_lt, refl, sym, ap, ◌∙◌}
-use Rattle.std.proofs.lemmas.Bool.{not-true}
+use Rattle.std.proofs.Common.{◌≡◌, ℕ, Bool, true, false, Option, Some, nat_lt, refl, sym, ap, ◌∙◌}
 use Rattle.h2_spec.specs.declared.causes.Cause.{Cause}
-use Rattle.h2_spec.specs.declared.causes.Cause.TheVariants.{ListTooLarge, TooManyStreams}
 use Rattle.h2_spec.specs.declared.connection.Config.{Config}
 use Rattle.h2_spec.specs.declared.connection.ConnectionState.{ConnectionState}
 use Rattle.h2_spec.specs.declared.reactions.BlockSummary.{BlockSummary}
-use Rattle.h2_spec.specs.declared.reactions.StreamOutcome.{StreamOutcome}
 use Rattle.h2_spec.specs.declared.streams.Stream.{Stream}
-use Rattle.h2_spec.specs.Causes.Cause.{first_of}
-use Rattle.h2_spec.specs.Change.{stream_error, unless_broken}
-use Rattle.h2_spec.specs.Requests.Headers.{max_list, missing, request_outcome, trailers_outcome}
-use Rattle.h2_spec.proofs.Computed.{and-left, and-right}
-use Rattle.h2_conn_rules.specs.Plain.{is_well_formed, opened}
-use Rattle.h2_conn_rules.proofs.SoundLaws.{no-cause}
+use Rattle.h2_spec.specs.Requests.Headers.{max_list, request_outcome, trailers_outcome}
 
 -- of malformed fields only the size of their list is looked at, and nothing of the answer
 pub malformed-turn : (config : Config) (live body body' : ℕ) (early early' : Bool) (core : ConnectionState) (id : ℕ) (ends : Bool) (f f' : BlockSummary) (cause : Cause) → f.size ≡ f'.size → f.malformed ≡ Some cause → f'.malformed ≡ Some cause →
@@ -36,14 +28,3 @@ trailers-turn size bad bad' body ends st same = by_size (nat_lt max_list size) r
     by_size : (large : Bool) → nat_lt max_list size ≡ large → trailers_outcome size bad body ends st ≡ trailers_outcome size bad' body ends st
     by_size true e = rw e refl
     by_size false e = ap (λ b. trailers_outcome size b body ends st) (same e)
-
--- a well-formed request, where another stream may be live, follows the rule of requests
-pub opens-rule : (config : Config) (live body : ℕ) (early : Bool) (core : ConnectionState) (id : ℕ) (ends : Bool) (f : BlockSummary) → nat_le config.streams live ≡ false → is_well_formed ends f ≡ true →
-    request_outcome config live body early core id ends f ≡ opened body early core id ends f
-unfolding request_outcome
-opens-rule config live body early core id ends f room h =
-    let turn : Option Cause → StreamOutcome = λ o. unless_broken o id (opened body early core id ends f) in
-    let broken = first_of f.malformed (missing ends f.declared) in
-    ap (λ (t : Bool). cond t (stream_error id TooManyStreams) (cond (nat_lt max_list f.size) (stream_error id ListTooLarge) (turn broken))) room
-    ∙ ap (λ (t : Bool). cond t (stream_error id ListTooLarge) (turn broken)) (not-true _ (and-left _ _ h))
-    ∙ ap turn (no-cause broken (and-right _ _ h))

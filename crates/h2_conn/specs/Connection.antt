@@ -50,3 +50,7 @@ Fits r (Ended code) = Unit {0}
 abbrev pub IsAtRest : Bool → State → Rest → Type 0
 IsAtRest false s r = Fits r s.core.phase × (next_item s r.octets ≡ NoItem)
 IsAtRest true s r = Unit {0}
+
+-- all items were taken, and no octets wait
+abbrev pub IsReady : State → Rest → Type 0
+IsReady s r = IsAtRest false s r × (left_by s.core.phase r.octets ≡ [])

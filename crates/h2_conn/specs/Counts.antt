@@ -7,7 +7,13 @@ use Rattle.h2_spec.specs.declared.reactions.Reaction.TheVariants.{ConnectionErro
 -- counts with the last stream and the windows of other ones, what is owed there, and whether a table size update is
 -- pending there
 abbrev pub with_counts : ConnectionState → ConnectionState → ConnectionState
-with_counts core after = record core { last = after.last; recv = after.recv; owed = after.owed; send = after.send; peer = record core.peer { size_update_pending = after.peer.size_update_pending } }
+with_counts core after = record core {
+  last = after.last;
+  recv = after.recv;
+  owed = after.owed;
+  send = after.send;
+  peer = record core.peer { size_update_pending = after.peer.size_update_pending };
+}
 
 -- where a reaction goes on, it changes no others of the counts
 abbrev pub IsCounted : ConnectionState → Reaction → Type 0

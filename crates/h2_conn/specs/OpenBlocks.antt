@@ -1,18 +1,9 @@
 -- Field blocks, at their end and before it.
-use Rattle.std.specs.Prelude.{length, ◌==◌, Bool, false, not, ◌&&◌, nat_le, if◌then◌else◌, List, Option, Some, None}
+use Rattle.std.specs.Prelude.{length, ◌==◌, Bool, if◌then◌else◌, Option, Some, None}
 use Rattle.h2_spec.specs.declared.causes.Cause.{Cause}
 use Rattle.h2_spec.specs.declared.connection.BlockView.{BlockView}
-use Rattle.h2_spec.specs.declared.connection.Config.{Config}
-use Rattle.h2_spec.specs.declared.connection.Purpose.{Purpose}
-use Rattle.h2_spec.specs.declared.connection.Purpose.TheVariants.{Request, Trailers, Closed, TableOnly}
-use Rattle.h2_spec.specs.declared.streams.Stream.{Stream}
-use Rattle.h2_spec.specs.Requests.Answer.{Entry}
-use Rattle.h2_spec.specs.Hpack.Field.{Field}
-use Rattle.h2_spec.specs.Requests.Headers.{request_summary}
 use Rattle.h2_spec.specs.State.{Decoding, OpenBlock}
-use Rattle.h2_spec.specs.Stream.{live_count}
 use Rattle.h2_conn_rules.specs.Block.{refused_end}
-use Rattle.h2_conn_rules.specs.Plain.{is_well_formed}
 
 -- why a block can't end here, if it can't (RFC 9113, 4.3)
 abbrev pub bad_end : Decoding → Option Cause
@@ -31,10 +22,3 @@ decoding_if goes_on d = if goes_on then Some d else None
 abbrev pub decoding_in : BlockView → Option Decoding → Option (BlockView × Decoding)
 decoding_in shown None = None
 decoding_in shown (Some d) = Some (shown, d)
-
--- whether a block, at its end, is a well-formed request, and another stream may be live
-abbrev pub is_opening : List Entry → Config → List Stream → Bool → List Field → Purpose → Bool
-is_opening book config streams ends fields Request = not (nat_le config.streams (live_count streams)) && is_well_formed ends (request_summary book fields)
-is_opening book config streams ends fields Trailers = false
-is_opening book config streams ends fields Closed = false
-is_opening book config streams ends fields TableOnly = false

@@ -41,7 +41,15 @@ impl<'b, A: Allocator> Model for Checkpoint<'b, A> {
 
     ghost Value = { CheckpointView };
 
-    ghost view = { λ m. record { book = m.book.now; config = m.config; core = m.core; block = m.block; table = m.table.table; count = m.count; changing = m.changing } };
+    ghost view = { λ m. record {
+      book = m.book.now;
+      config = m.config;
+      core = m.core;
+      block = m.block;
+      table = m.table.table;
+      count = m.count;
+      changing = m.changing;
+    } };
 
     ghost invariant = { λ m. (m.table.limit ≡ m.core.own.table) × AreInRange (configured m.config) };
 }
@@ -71,15 +79,6 @@ fn reset_by<A: Allocator>(block: &Option<OpenBlock<A>>) -> Option<u32>
     match block.purpose() {
         Some(Purpose::Closed) => Some(block.stream()),
         Some(Purpose::Request | Purpose::Trailers | Purpose::TableOnly) | None => None,
-    }
-}
-
-impl<'b, A: Allocator> State<'b, A> {
-    /// What is true of the state of every connection.
-    pub(crate) fn consistent(&self)
-        ensures { IsConsistent self.now }
-    {
-        let _rising = self.streams.last();
     }
 }
 

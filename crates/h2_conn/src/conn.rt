@@ -228,11 +228,13 @@ impl<'b, A: Allocator + Copy> Conn<'b, A> {
         ensures follows { OnOk result (Follows self.old.state self.new.state) }
         ensures unchanged { OnErr result ((self.new ≡ self.old) × (O.octets out.new ≡ O.octets out.old)) }
     {
-        let taken = report_first_in_order(&mut self.state, &mut self.scratch, octets, out)?;
-        if taken.is_some() {
-            self.splitter.expect_preface(false);
-        }
-        Ok(taken)
+        report_first_in_order(
+            &mut self.splitter,
+            &mut self.state,
+            &mut self.scratch,
+            octets,
+            out,
+        )
     }
 
     /// As `take_and_report`, with memory of the caller: the fields that the item shows of its block are then what `fields`
@@ -256,11 +258,7 @@ impl<'b, A: Allocator + Copy> Conn<'b, A> {
         ensures follows { OnOk result (Follows self.old.state self.new.state) }
         ensures unchanged { OnErr result ((self.new ≡ self.old) × (O.octets out.new ≡ O.octets out.old)) }
     {
-        let taken = report_first_in_order(&mut self.state, memory, octets, out)?;
-        if taken.is_some() {
-            self.splitter.expect_preface(false);
-        }
-        Ok(taken)
+        report_first_in_order(&mut self.splitter, &mut self.state, memory, octets, out)
     }
 
     /// The fields that the item shows of its block which was taken last, with this memory; what no item shows means

@@ -5,6 +5,7 @@
 ghost use Rattle.std.specs.Prelude.{◌≡◌, IfOk, OnErr, OnOk};
 ghost use Rattle.h2_frame.specs.Items.{item_of};
 ghost use Rattle.h2_spec.specs.Trace.{next_item};
+ghost use Rattle.h2_conn.specs.Connection.{IsReady};
 ghost use Rattle.h2_conn.specs.First.{TakesIfAny};
 ghost use Rattle.h2_conn.specs.Follows.{Follows};
 ghost use Rattle.h2_conn.specs.Reports.{item_head, reported, used_by};
@@ -14,7 +15,7 @@ use crate::conn::is_ended;
 use crate::feed::first::awaits_preface;
 use crate::field_block::scratch::Scratch;
 use crate::state::State;
-use h2_frame::{Item, Outgoing, first_item};
+use h2_frame::{Item, Outgoing, Splitter, first_item};
 use h2_spec::causes::Cause;
 use h2_spec::frames::ItemHead;
 use h2_spec::ignored::Ignored;
@@ -78,19 +79,26 @@ fn report_first<'b, A: Allocator + Copy, O: Outgoing<'b, A>>(
     }
 }
 
-/// As `report_first`, and proves that records of streams only move forward (`Follows`), which checkpoints need.
+/// As `report_first`, where the splitter holds nothing, which awaits the preface only as the connection does. It proves that
+/// records of streams only move forward (`Follows`), which checkpoints need.
 pub(crate) fn report_first_in_order<'b, A: Allocator + Copy, O: Outgoing<'b, A>>(
+    splitter: &mut Splitter<A>,
     state: &mut State<'b, A>,
     scratch: &mut Scratch<A>,
     octets: &[u8],
     out: &mut O,
 ) -> Result<Option<TakenItem>, AllocError>
+    requires { IsReady state.old splitter.old }
     ensures ok { IfOk result (λ taken. TakesIfAny state.old octets.now (O.octets out.old) state.new (O.octets out.new) (used_by taken)) }
     ensures report { IfOk result (λ taken. taken ≡ reported state.old (next_item state.old octets.now)) }
     ensures follows { OnOk result (Follows state.old state.new) }
     ensures fields { OnOk result (Shows (next_fields state.old (next_item state.old octets.now)) (fields_at_hand state.new.block scratch.new.decoding.fields)) }
     ensures err { OnErr result ((state.new ≡ state.old) × (O.octets out.new ≡ O.octets out.old)) }
+    ensures kept { splitter.new.octets ≡ splitter.old.octets }
+    ensures ready { IsReady state.new splitter.new }
 {
-    let _rising = state.streams.last();
-    report_first(state, scratch, octets, out)
+    state.consistent();
+    let taken = report_first(state, scratch, octets, out);
+    splitter.expect_preface(awaits_preface(state.phase()));
+    taken
 }

@@ -2,6 +2,7 @@
 //! `specs/State.antt`.
 
 ghost use Rattle.std.specs.Prelude.{◌≡◌, IfOk};
+ghost use Rattle.h2_conn.specs.Checkpoint.{IsConsistent};
 ghost use Rattle.h2_conn.specs.Records.{records};
 ghost use Rattle.h2_conn_rules.specs.Sound.{AreInRange, HasBody, IsSoundState, IsSoundStream, in_force};
 ghost use Rattle.h2_spec.specs.State.{configured, opening, opening_core};
@@ -44,7 +45,8 @@ impl<'b, A: Allocator> Model for State<'b, A> {
 
     ghost view = { λ s. record { book = s.book.now; config = s.config; core = s.core; block = s.block; table = s.table.table; streams = s.streams.streams } };
 
-    ghost invariant = { λ s. IsSoundState s.book.now s.core s.streams × (s.table.limit ≡ s.core.own.table) × IsOpenFor s.streams s.block × AreInRange (configured s.config) };
+    ghost invariant = { λ s. IsSoundState s.book.now s.core s.streams × (s.table.limit ≡ s.core.own.table)
+        × IsOpenFor s.streams s.block × AreInRange (configured s.config) };
 }
 
 /// By hand, as that of `Conn`.
@@ -144,5 +146,14 @@ impl<'b, A: Allocator + Copy> State<'b, A> {
         ensures waits { HasBody self.now.book result }
     {
         self.streams.stream_at(id)
+    }
+}
+
+impl<'b, A: Allocator> State<'b, A> {
+    /// For the prover alone, as each `let _` of these crates: what is true of the state of every connection.
+    pub fn consistent(&self)
+        ensures { IsConsistent self.now }
+    {
+        let _rising = self.streams.last();
     }
 }

@@ -1,3 +1,4 @@
+mod CreditLaws
 mod PlainLaws
 mod SettingsLaws
 pub mod SoundLaws

@@ -13,7 +13,7 @@ use crate::change::{ignoring, only_counts, outcome_without_frame, stream_error, 
 use crate::ends::{length_broken, peer_ended};
 use h2_spec::causes::Cause;
 use h2_spec::connection::{Config, ConnectionState};
-use h2_spec::flow::{Credit, Window};
+use h2_spec::flow::Window;
 use h2_spec::ignored::Ignored;
 use h2_spec::reactions::{
     Change, ConnectionFrame, Reaction, ReceivedData, StreamFrame, StreamOutcome,
@@ -29,19 +29,18 @@ fn counted(threshold: u32, core: ConnectionState, count: u32) -> Change
     ensures calm { IsCalm core result }
 {
     let recv = core.recv.minus(count);
-    let owed = core.owed.plus(count);
-    if threshold <= owed.owed() {
-        let returned = only_counts(ConnectionState {
-            recv: recv.plus(owed.owed()),
-            owed: Credit::none(),
-            ..core
-        });
-        return Change {
-            connection_frame: ConnectionFrame::Credit(owed.owed()),
-            ..returned
-        };
+    let mut owed = core.owed;
+    match owed.owe(count, threshold) {
+        None => only_counts(ConnectionState { recv, owed, ..core }),
+        Some(credit) => Change {
+            connection_frame: ConnectionFrame::Credit(credit),
+            ..only_counts(ConnectionState {
+                recv: recv.plus(credit),
+                owed,
+                ..core
+            })
+        },
     }
-    only_counts(ConnectionState { recv, owed, ..core })
 }
 
 /// What is owed on the stream is given back once it reaches the threshold.
@@ -55,19 +54,22 @@ fn returned(threshold: u32, stream: Stream) -> StreamOutcome
     ensures recorded { is_recorded stream.kind ≡ true → is_recorded result.stream.kind ≡ true }
 {
     let numbers = stream.numbers;
-    let owed = numbers.owed.owed();
-    if threshold <= owed {
-        let numbers = Numbers {
-            recv: numbers.recv.plus(owed),
-            owed: Credit::none(),
-            ..numbers
-        };
-        return StreamOutcome {
-            frame: StreamFrame::StreamCredit(stream.id, owed),
-            ..outcome_without_frame(Stream { numbers, ..stream })
-        };
+    let mut owed = numbers.owed;
+    match owed.owe(0, threshold) {
+        None => outcome_without_frame(stream),
+        Some(credit) => {
+            let recv = numbers.recv.plus(credit);
+            let numbers = Numbers {
+                recv,
+                owed,
+                ..numbers
+            };
+            StreamOutcome {
+                frame: StreamFrame::StreamCredit(stream.id, credit),
+                ..outcome_without_frame(Stream { numbers, ..stream })
+            }
+        }
     }
-    outcome_without_frame(stream)
 }
 
 /// The content that a stream has received with more of it: as far as 64 bits go, which is far above what can be declared.

@@ -140,9 +140,9 @@ pub fn connection_window(core: ConnectionState, increment: u32) -> Reaction
     if increment == 0 {
         return Reaction::ConnectionError(Cause::ConnectionIncrementZero);
     }
-    if core.send.overflows(increment) {
+    let mut send = core.send;
+    if send.add(increment).is_err() {
         return Reaction::ConnectionError(Cause::ConnectionWindowOverflow);
     }
-    let send = core.send.plus(increment);
     Reaction::Continues(only_counts(ConnectionState { send, ..core }))
 }

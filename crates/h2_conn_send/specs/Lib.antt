@@ -1,4 +1,5 @@
 pub mod Above
+pub mod Moves
 pub mod Prepared
 pub mod Sending
 pub mod Short

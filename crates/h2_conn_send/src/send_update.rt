@@ -5,7 +5,7 @@ ghost use Rattle.std.specs.Prelude.{◌≡◌, ◌<◌, ◌≤◌, ◌^◌, OnEr
 ghost use Rattle.std.specs.List.{AllByRecursion};
 ghost use Rattle.h2_spec.specs.Change as changes;
 ghost use Rattle.h2_spec.specs.Stream.{put, with_record};
-ghost use Rattle.h2_spec.specs.declared.reactions.RecordUpdate.TheVariants as update;
+ghost use Rattle.h2_conn_send.specs.Moves.{move_of};
 ghost use Rattle.h2_conn_send.specs.Sending.{CanApply, CanSend, CanUndo, NoneSends, Sends};
 ghost use Rattle.h2_conn_rules.specs.Sound.{HasBody, updated_records};
 ghost use Rattle.h2_streams.specs.Put.{CanPut};
@@ -39,10 +39,12 @@ pub fn update_and_send<'b, A: Allocator + Copy, O: Outgoing<'b, A>>(
         RecordUpdate::Unchanged => send_ready(book, streams, size, window, out),
         RecordUpdate::Put(stream) => put_and_send(book, streams, stream, size, window, out),
         RecordUpdate::Shift(from, to) => {
-            shift_and_send(book, streams, (from, to), size, window, out)
+            let windows = Windows::Send;
+            move_and_send(book, streams, windows, (from, to), size, window, out)
         }
         RecordUpdate::Receive(from, to) => {
-            receive_and_send(book, streams, (from, to), size, window, out)
+            let windows = Windows::Receive;
+            move_and_send(book, streams, windows, (from, to), size, window, out)
         }
     }
 }
@@ -124,12 +126,20 @@ fn put_among<'b, A: Allocator + Copy, O: Outgoing<'b, A>>(
     Ok(count)
 }
 
-/// The send windows move, as the initial one goes from one value to another, and the pending output is then sent; where
-/// memory is refused they move back (RFC 9113, 6.9.2).
+/// Which windows of the streams move.
+#[derive(Clone, Copy)]
+enum Windows {
+    Send,
+    Receive,
+}
+
+/// These windows move, as the initial one goes from one value to another, and the pending output is then sent; where
+/// memory is refused they move back (RFC 9113, 6.5.3 and 6.9.2).
 #[inline(never)]
-fn shift_and_send<'b, A: Allocator, O: Outgoing<'b, A>>(
+fn move_and_send<'b, A: Allocator, O: Outgoing<'b, A>>(
     book: &'b Book<A>,
     streams: &mut Streams<A>,
+    windows: Windows,
     initial: (u32, u32),
     size: usize,
     window: u64,
@@ -137,67 +147,32 @@ fn shift_and_send<'b, A: Allocator, O: Outgoing<'b, A>>(
 ) -> Result<u64, AllocError>
     requires size { (0 < size) × (size < 2 ^ 24) }
     requires few { window ≤ 2147483647 }
-    requires made { CanApply streams.old (update.Shift initial.0 initial.1) }
-    requires undone { CanUndo streams.old (update.Shift initial.0 initial.1) }
-    requires bodies { AllByRecursion (HasBody book.now) (changes.shifted (changes.moved_by initial.0 initial.1) streams.old.streams) }
-    ensures sends { Sends book.now size window (updated_records (update.Shift initial.0 initial.1) streams.old)
+    requires made { CanApply streams.old (move_of windows initial.0 initial.1) }
+    requires undone { CanUndo streams.old (move_of windows initial.0 initial.1) }
+    requires bodies { AllByRecursion (HasBody book.now) (changes.updated_streams (move_of windows initial.0 initial.1) streams.old.streams) }
+    ensures sends { Sends book.now size window (updated_records (move_of windows initial.0 initial.1) streams.old)
         (O.octets out.old) result streams.new (O.octets out.new) }
     ensures err { OnErr result (streams.new ≡ streams.old) }
 {
     let (from, to) = initial;
-    shift(streams, from, to);
+    move_windows(streams, windows, from, to);
     match send_ready(book, streams, size, window, out) {
         Ok(count) => Ok(count),
         Err(error) => {
-            shift(streams, to, from);
+            move_windows(streams, windows, to, from);
             Err(error)
         }
     }
 }
 
-/// The receive windows move, as the server's initial one goes from one value to another, and the pending output is then
-/// sent; where memory is refused they move back (RFC 9113, 6.5.3 and 6.9.2).
-#[inline(never)]
-fn receive_and_send<'b, A: Allocator, O: Outgoing<'b, A>>(
-    book: &'b Book<A>,
-    streams: &mut Streams<A>,
-    initial: (u32, u32),
-    size: usize,
-    window: u64,
-    out: &mut O,
-) -> Result<u64, AllocError>
-    requires size { (0 < size) × (size < 2 ^ 24) }
-    requires few { window ≤ 2147483647 }
-    requires made { CanApply streams.old (update.Receive initial.0 initial.1) }
-    requires undone { CanUndo streams.old (update.Receive initial.0 initial.1) }
-    requires bodies { AllByRecursion (HasBody book.now) (changes.received (changes.moved_by initial.0 initial.1) streams.old.streams) }
-    ensures sends { Sends book.now size window (updated_records (update.Receive initial.0 initial.1) streams.old)
-        (O.octets out.old) result streams.new (O.octets out.new) }
-    ensures err { OnErr result (streams.new ≡ streams.old) }
+/// Moves these windows, as the initial one goes from one value to another (RFC 9113, 6.9.2).
+fn move_windows<A: Allocator>(streams: &mut Streams<A>, windows: Windows, from: u32, to: u32)
+    requires { CanApply streams.old (move_of windows from to) }
+    ensures { streams.new ≡ updated_records (move_of windows from to) streams.old }
 {
-    let (from, to) = initial;
-    receive(streams, from, to);
-    match send_ready(book, streams, size, window, out) {
-        Ok(count) => Ok(count),
-        Err(error) => {
-            receive(streams, to, from);
-            Err(error)
-        }
+    let difference = i64::from(to) - i64::from(from);
+    match windows {
+        Windows::Send => streams.move_send(difference),
+        Windows::Receive => streams.shift_recv(difference),
     }
-}
-
-/// Moves the receive windows, as the server's initial one goes from one value to another (RFC 9113, 6.9.2).
-fn receive<A: Allocator>(streams: &mut Streams<A>, from: u32, to: u32)
-    requires { CanApply streams.old (update.Receive from to) }
-    ensures { streams.new ≡ updated_records (update.Receive from to) streams.old }
-{
-    streams.shift_recv(i64::from(to) - i64::from(from));
-}
-
-/// Moves the send windows, as the initial one goes from one value to another (RFC 9113, 6.9.2).
-fn shift<A: Allocator>(streams: &mut Streams<A>, from: u32, to: u32)
-    requires { CanApply streams.old (update.Shift from to) }
-    ensures { streams.new ≡ updated_records (update.Shift from to) streams.old }
-{
-    streams.move_send(i64::from(to) - i64::from(from));
 }

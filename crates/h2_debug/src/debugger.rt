@@ -2,7 +2,7 @@
 //! `view`, `show`, `replayed`, and `break_at` to `break_sent`, which are for users of the library: it writes the text of
 //! `conn`. A checkpoint of the place at each multiple of 64 is kept from when it is first left, so that no move runs more
 //! than 63 items again. A place is made again from its checkpoint and the records of the farthest place that was reached.
-//! Definitions: h2_spec's `specs/Debug.antt` for positions and breakpoints, `specs/Debugging.antt` for what a debugger
+//! Definitions: h2_spec's `specs/Texts/Debug.antt` for positions and breakpoints, `specs/Debugging.antt` for what a debugger
 //! represents.
 
 ghost use Rattle.std.specs.Prelude.{◌≡◌, ◌⊎◌, ◌+◌, ◌-◌, ◌<◌, ◌≤◌, ◌==◌, [], ◌∷◌, nat_lt, ◌++◌, IfErr, IfOk, IfSome, OnErr, OnOk, length, min, slice_get, nat_le, ◌&&◌, false, true, None, Some, if◌then◌else◌};

@@ -88,6 +88,7 @@ fn words_with(
     Ok(Some(all))
 }
 
+/// A copy of words.
 fn copy_of(alloc: Global, words: &Words) -> Result<Words, AllocError> {
     let mut copy = Words::new(alloc);
     for word in words.as_slice() {

@@ -24,6 +24,7 @@ fn item_of(line: &[u8]) -> Option<usize> {
     }
 }
 
+/// Puts a line last, after `front`.
 fn put_line(front: &[u8], line: &[u8], out: &mut Vec<u8>) -> Result<(), AllocError> {
     out.extend_from_slice(front)?;
     out.extend_from_slice(line)?;

@@ -120,6 +120,7 @@ impl Outcome<'_> {
         }
     }
 
+    /// Says why a command that reads its whole input was refused.
     fn say_batch(&self, alloc: Global, batch: &Batch<'_>, out: &mut TextBuilder) {
         match batch {
             Batch::Play(play) => self.say_hex(alloc, Some(play.config), out),

@@ -15,7 +15,7 @@ use std::process::ExitCode;
 
 /// What to do about clients that open more than one connection.
 const POOLS: &str =
-    "one connection is served after another: a further one hangs until the one before has ended; --streams 1000 here, in haproxy http-reuse always, in Go StrictMaxConcurrentStreams keep a client to one.\n";
+    "one connection is served after another: a further one hangs until the one before has ended; --streams 1000 here, in haproxy http-reuse always and nbthread 1, in Go StrictMaxConcurrentStreams keep a client to one.\n";
 
 /// Serves, as the words ask for, and gives each connection to `keeper`; gives the status, and whether a sentence was
 /// written for the book.

@@ -31,6 +31,7 @@ pub fn asked<A: Allocator + Copy>(
     }
 }
 
+/// A frame type as an octet; 0 where it is above 255.
 fn octet(number: u32) -> u8 {
     u8::try_from(number).unwrap_or(0)
 }

@@ -81,6 +81,7 @@ pub fn lends(alloc: Global, call: &Call<'_>) -> Result<Reply, AllocError> {
 
 // These have no clause, so that no proof above them carries what a splitter holds.
 
+/// Whether a splitter takes these octets: it may lack memory for them.
 fn push(splitter: &mut Splitter<&LocalHeap>, octets: &[u8]) -> bool {
     splitter.push(octets).is_ok()
 }

@@ -20,6 +20,7 @@ fn file_name<'l>(call: &Call<'l>) -> Option<&'l str> {
 }
 
 // This has no clause, so that no proof above it carries what a command prints.
+/// What a command prints over these files and this input.
 fn printed_by(
     alloc: Global,
     words: &Words,
@@ -29,16 +30,19 @@ fn printed_by(
     run_in_memory(alloc, words, files, input)
 }
 
+/// A command without files; its input is the one that the line gives.
 fn without_files(alloc: Global, call: &Call<'_>, words: &Words) -> Result<Ran, AllocError> {
     let input = input_of(alloc, call)?;
     printed_by(alloc, words, &[], input.as_slice())
 }
 
+/// A command with one file, the text of the line; its input is the first piece, in hex.
 fn with_file(alloc: Global, call: &Call<'_>, words: &Words, name: &str) -> Result<Ran, AllocError> {
     let input = hex::encode(alloc, call.piece(0))?;
     printed_by(alloc, words, &[(name, call.text())], input.as_bytes())
 }
 
+/// A command with the file that its words name, if they name one.
 fn over_words(alloc: Global, call: &Call<'_>, words: &Words) -> Result<Ran, AllocError> {
     match file_name(call) {
         None => without_files(alloc, call, words),
@@ -46,6 +50,7 @@ fn over_words(alloc: Global, call: &Call<'_>, words: &Words) -> Result<Ran, Allo
     }
 }
 
+/// The status, what was printed and the reason, in a line.
 fn text_of(alloc: Global, ran: &Ran) -> Result<String, AllocError> {
     let printed = str::from_utf8(ran.output.as_slice()).unwrap_or("no text");
     let reason = str::from_utf8(ran.reason.as_slice()).unwrap_or("no text");

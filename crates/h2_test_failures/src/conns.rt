@@ -20,6 +20,7 @@ pub fn config_of(call: &Call<'_>) -> Config {
     }
 }
 
+/// Octets of these.
 fn octets_of<A: Allocator + Copy>(alloc: A, text: &[u8]) -> Result<Octets<A>, AllocError> {
     Ok(Octets::new(Vec::from_slice(alloc, text)?))
 }
@@ -43,6 +44,7 @@ fn entry_of<A: Allocator + Copy>(
     })
 }
 
+/// Adds this body as the answer to `GET` of this path.
 fn add<A: Allocator + Copy>(
     alloc: A,
     book: &mut Book<A>,

@@ -88,6 +88,7 @@ fn follow<'h>(
     session.place.push_str(shown(alloc, debugger)?.as_str())
 }
 
+/// What a debugger answers to these commands, one after another.
 fn followed<'h>(
     alloc: Global,
     heap: &'h Heap,
@@ -118,6 +119,7 @@ fn over_book<'h>(
     followed(alloc, heap, &mut debugger, asks)
 }
 
+/// A session over octets that a heap holds, which refuses the allocation of this number.
 fn held_session(
     alloc: Global,
     heap: &Heap,

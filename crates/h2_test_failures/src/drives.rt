@@ -22,6 +22,8 @@ pub enum Failing {
     Read,
 }
 
+/// Drives the connection of a line. `verb` says what fails: an allocation, a write or a read. It is that of number `turn`,
+/// from 1; at 0 none fails.
 pub fn tried(alloc: Global, verb: &str, call: &Call<'_>, turn: u64) -> Result<Reply, AllocError> {
     let failing = match verb {
         "memory" => Failing::Memory,
@@ -91,6 +93,7 @@ pub fn driven<'h>(
 }
 
 // This has no clause but what it needs, so that no proof above it carries the run.
+/// How the driving ends, in as many turns as the line says.
 fn gone<'h>(
     conn: &mut Conn<'_, &'h Heap>,
     out: &mut Vec<u8, &'h Heap>,

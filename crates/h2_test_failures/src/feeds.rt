@@ -80,6 +80,7 @@ fn feed_text<'h>(
     }
 }
 
+/// Feeds all octets at once, where the allocation of number `turn` is refused, from 1; at 0 none is.
 fn feed<'h>(
     alloc: Global,
     heap: &'h Heap,
@@ -131,6 +132,7 @@ fn add_sent<'h>(
     write!(*text, "{}", HexOrNone(out.as_slice()))
 }
 
+/// Feeds the pieces of the line, and lists what is sent for each.
 fn feed_each<'h>(
     alloc: Global,
     conn: &mut Conn<'_, &'h Heap>,
@@ -237,6 +239,7 @@ fn copy<'h>(
     end_both(alloc, conn, out, rest, &copied, before.as_str())
 }
 
+/// What a new connection does with these octets, in the way that is asked for.
 fn gone<'h>(
     alloc: Global,
     heap: &'h Heap,
@@ -254,6 +257,7 @@ fn gone<'h>(
     }
 }
 
+/// Opens a connection over this book, and does what is asked for.
 fn over_book<'h>(
     alloc: Global,
     heap: &'h Heap,
@@ -268,6 +272,7 @@ fn over_book<'h>(
     }
 }
 
+/// Makes the book of the line, over memory that is not refused yet, and goes on as `over_book`.
 fn over_octets(alloc: Global, call: &Call<'_>, way: (&[u8], Way, u64)) -> Result<Left, AllocError> {
     let heap = Refusing::new(alloc, 0);
     let book = book_of(&heap, call.number(2))?;
@@ -333,14 +338,17 @@ fn placed(alloc: Global, call: &Call<'_>, way: Way, turn: u64) -> Result<Reply, 
     })
 }
 
+/// A connection that is fed all pieces, where the allocation of number `turn` is refused, from 1; at 0 none is.
 pub fn fed(alloc: Global, call: &Call<'_>, turn: u64) -> Result<Reply, AllocError> {
     placed(alloc, call, Way::Feed, turn)
 }
 
+/// A copy of a connection, fed all pieces, where the allocation of number `turn` is refused, from 1; at 0 none is.
 pub fn copied_and_fed(alloc: Global, call: &Call<'_>, turn: u64) -> Result<Reply, AllocError> {
     placed(alloc, call, Way::Copy, turn)
 }
 
+/// What a connection sends for each piece.
 pub fn sent(alloc: Global, call: &Call<'_>) -> Result<Reply, AllocError> {
     let left = left_by(alloc, call, Way::Items, 0)?;
     Ok(Reply {

@@ -120,6 +120,7 @@ impl<'l> Call<'l> {
         Ok(call)
     }
 
+    /// Adds the words of a line.
     fn add_all(&mut self, alloc: Global, words: &'l str) -> Result<(), AllocError> {
         self.pieces.push(Vec::new(alloc))?;
         for word in words.split_ascii_whitespace() {
@@ -128,6 +129,7 @@ impl<'l> Call<'l> {
         Ok(())
     }
 
+    /// Adds a word: a number, what is asked of a debugger, a comma between pieces, or octets.
     fn add(&mut self, alloc: Global, word: &'l str) -> Result<(), AllocError> {
         if let Ok(number) = word.parse::<u64>() {
             return Ok(self.numbers.push(number)?);
@@ -141,6 +143,7 @@ impl<'l> Call<'l> {
         self.add_to_piece(alloc, word)
     }
 
+    /// Adds the octets that a word means to the last piece.
     fn add_to_piece(&mut self, alloc: Global, word: &str) -> Result<(), AllocError> {
         match self.pieces.last_mut() {
             Some(piece) => add_repeated(alloc, piece, word),
@@ -156,10 +159,12 @@ impl<'l> Call<'l> {
         }
     }
 
+    /// The number in this place as a length, or 0.
     pub fn size(&self, place: usize) -> usize {
         usize::try_from(self.number(place)).unwrap_or(0)
     }
 
+    /// The number in this place as one of 32 bits; 0 where it is larger or missing.
     pub fn short(&self, place: usize) -> u32 {
         u32::try_from(self.number(place)).unwrap_or(0)
     }
@@ -172,10 +177,12 @@ impl<'l> Call<'l> {
         }
     }
 
+    /// The pieces, which commas part.
     pub fn pieces(&self) -> &[Vec<u8>] {
         self.pieces.as_slice()
     }
 
+    /// What is asked of a debugger.
     pub fn asks(&self) -> &[&'l str] {
         self.asks.as_slice()
     }
@@ -185,6 +192,7 @@ impl<'l> Call<'l> {
         self.words
     }
 
+    /// The text after `< `.
     pub fn text(&self) -> &[u8] {
         self.text.as_slice()
     }

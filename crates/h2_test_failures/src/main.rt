@@ -30,6 +30,7 @@ fn main(rt: HostRuntime) -> io::Result<()> {
     print_all(&rt, text.as_str())
 }
 
+/// Prints each line of the input, and below it what its trial found.
 fn print_all(rt: &HostRuntime, text: &str) -> io::Result<()> {
     for line in text.lines() {
         rt.println(line)?;

@@ -41,6 +41,7 @@ fn opened_twice<'h>(
     Ok(Reply { text, failed })
 }
 
+/// Opens a connection in memory that refuses the allocation of number `turn`, from 1; at 0 it refuses none.
 pub fn opened(alloc: Global, call: &Call<'_>, turn: u64) -> Result<Reply, AllocError> {
     let heap = Refusing::new(alloc, 0);
     let book = Book::new(&heap);

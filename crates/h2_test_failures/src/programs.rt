@@ -69,6 +69,7 @@ pub fn words_of(alloc: Global, call: &Call<'_>) -> Result<Words, AllocError> {
     Ok(words)
 }
 
+/// Adds the name of the program, and the words of a text, which blanks part.
 fn add_words(words: &mut Words, text: &str) -> Result<(), AllocError> {
     words.add("h2_bench")?;
     for word in text.split_ascii_whitespace() {
@@ -87,6 +88,7 @@ pub fn input_of(alloc: Global, call: &Call<'_>) -> Result<Vec<u8>, AllocError> {
 }
 
 // This has no clause, so that no proof above it carries what a run prints.
+/// The exit status of a run over these devices.
 fn status_of(alloc: Global, words: &Words, reader: &mut Reader<'_>, writer: &mut Writer) -> u8 {
     run(alloc, words, reader, writer)
 }
@@ -109,6 +111,7 @@ struct Limits {
     written: usize,
 }
 
+/// A run over this input, with devices of these limits.
 fn over_input(alloc: Global, words: &Words, input: &[u8], limits: Limits) -> Outcome {
     let mut reader = Reader {
         octets: input,
@@ -129,6 +132,7 @@ fn over_input(alloc: Global, words: &Words, input: &[u8], limits: Limits) -> Out
     }
 }
 
+/// A run with these words over the input of the line.
 fn over_words(
     alloc: Global,
     call: &Call<'_>,
@@ -219,6 +223,7 @@ fn over_pieces(alloc: Global, call: &Call<'_>) -> Result<Reply, AllocError> {
     pieces_text(alloc, &found, &whole)
 }
 
+/// Whether a run over small reads and writes prints what one over whole ones does.
 fn pieces_text(alloc: Global, found: &Outcome, whole: &Outcome) -> Result<Reply, AllocError> {
     let is_same = found.status == whole.status
         && found.printed.as_slice() == whole.printed.as_slice();
@@ -233,6 +238,8 @@ fn pieces_text(alloc: Global, found: &Outcome, whole: &Outcome) -> Result<Reply,
     })
 }
 
+/// Runs the program of a line. `verb` says what fails: a read or a write, that of number `turn`, from 1; at 0 none does.
+/// Or it asks for small pieces, or for a run over memory.
 pub fn tried(alloc: Global, verb: &str, call: &Call<'_>, turn: u64) -> Result<Reply, AllocError> {
     match verb {
         "read" => over_reads(alloc, call, turn),

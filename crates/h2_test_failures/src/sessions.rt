@@ -13,6 +13,8 @@ use std::alloc::{AllocError, Global};
 use std::cell::Cell;
 use std::str;
 
+/// Runs the session of a line. `verb` says what fails: a read, or a call of the output. It is that of number `turn`, from
+/// 1; at 0 none fails.
 pub fn tried(alloc: Global, verb: &str, call: &Call<'_>, turn: u64) -> Result<Reply, AllocError> {
     match verb {
         "read" => over(alloc, call, turn, 0),
@@ -22,6 +24,7 @@ pub fn tried(alloc: Global, verb: &str, call: &Call<'_>, turn: u64) -> Result<Re
 }
 
 // This has no clause but what it needs, so that no proof above it carries the session.
+/// The exit status of a session over these devices.
 fn status_of(alloc: Global, input: &mut Pieces<'_>, output: &mut Limited<'_>) -> u8
     requires input { input.old.failed ≡ false }
     requires output { output.old.failed ≡ false }

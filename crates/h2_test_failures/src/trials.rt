@@ -39,6 +39,7 @@ fn once(alloc: Global, line: &str) -> Result<String, AllocError> {
     first_turn(alloc, verb, &call)
 }
 
+/// The reply of a trial in which nothing fails, as a line.
 fn first_turn(alloc: Global, verb: &str, call: &Call<'_>) -> Result<String, AllocError> {
     let answer = tried(alloc, verb, call, 0)?;
     format!(in alloc; "  {}\n", answer.text)
@@ -55,6 +56,7 @@ fn in_turn(alloc: Global, line: &str) -> Result<String, AllocError> {
     all_turns(alloc, verb, &call)
 }
 
+/// The replies of a trial with each failure in turn, a line each.
 fn all_turns(alloc: Global, verb: &str, call: &Call<'_>) -> Result<String, AllocError> {
     let mut lines = Lines::new(alloc);
     for turn in 1..MOST {

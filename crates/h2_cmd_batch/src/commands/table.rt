@@ -105,6 +105,7 @@ impl Text for TableReplyText<'_> {
     }
 }
 
+/// Enters a copy of this field.
 fn add<A: Allocator + Copy>(
     table: &mut DynTable<A>,
     name: &[u8],

@@ -1,7 +1,7 @@
 //! What a field block results in at its end (RFC 9113, 4.3, 5.1 and 8.1). Definition: `block_ends` of h2_spec's
 //! `specs/Requests/Headers.antt`.
 
-ghost use Rattle.std.specs.Prelude.{◌≡◌, true, false, length, nat_lt, Option, None, Some, IfSome, is_some};
+ghost use Rattle.std.specs.Prelude.{◌≡◌, true, false, length, nat_lt, Option, None, Some};
 ghost use Rattle.h2_spec.specs.declared.connection.Config.{Config};
 ghost use Rattle.h2_spec.specs.declared.connection.Purpose.TheVariants.{Closed, Request, Trailers};
 ghost use Rattle.h2_spec.specs.declared.causes.Cause.{Cause};
@@ -14,18 +14,13 @@ ghost use Rattle.h2_spec.specs.Hpack.DynamicTable.{Table};
 ghost use Rattle.h2_spec.specs.Requests.Headers as rule;
 ghost use Rattle.h2_spec.specs.Requests.Request.{malformed, request_fault, trailers_fault};
 ghost use Rattle.h2_spec.specs.State.{OpenBlock};
-ghost use Rattle.h2_spec.specs.Stream.{Records};
-ghost use Rattle.h2_conn.specs.OpenBlocks.{is_opening};
 ghost use Rattle.h2_request_book.specs.Lent.{IsPickOf};
 ghost use Rattle.h2_conn_rules.specs.Open.{IsOpenAt, state_of};
-ghost use Rattle.h2_conn_rules.specs.Plain.{opened};
 ghost use Rattle.h2_conn_rules.specs.Sound.{HasBody, IsSoundChange, IsSoundConnectionState, IsSoundState, IsSoundStream, in_force, is_recorded};
 
 use h2_conn_rules::block::goes_on;
 use h2_conn_rules::change::{only_counts, stream_error, with_outcome};
-use h2_conn_rules::headers::{
-    is_full, is_too_large, is_well_formed, opened, request_outcome, trailers_outcome,
-};
+use h2_conn_rules::headers::{is_too_large, request_outcome, trailers_outcome};
 use h2_fields::collected::Collected;
 use h2_request_book::book::Book;
 use h2_request_well_formed::causes::{request_cause, trailers_cause};
@@ -128,63 +123,6 @@ fn request_ends<A: Allocator + Copy>(
     let opened = only_counts(ConnectionState { last: id, ..core });
     let outcome = opening_outcome(book, config, live, core, id, shown.ends, summary);
     with_outcome(opened, outcome)
-}
-
-/// What changes as a well-formed request opens its stream.
-#[inline(always)]
-fn request_opens<A: Allocator>(
-    book: &Book<A>,
-    core: ConnectionState,
-    id: u32,
-    ends: bool,
-    summary: BlockSummary,
-) -> Change
-    requires core { IsSoundConnectionState core }
-    requires pick { IsPickOf book.now summary.pick }
-    ensures rule { let a = picked book.now summary.pick in
-        result ≡ changes.with_outcome (changes.only_counts (record core { last = id })) (opened (length a.body) a.early core id ends summary) }
-    ensures sound { (r : Records) → IsOpenAt r id Request → IsSoundChange book.now r (in_force core) result }
-{
-    let change = only_counts(ConnectionState { last: id, ..core });
-    let body = body_length(book, summary.pick);
-    let is_early = book.answer(summary.pick).early;
-    let outcome = opened(body, is_early, core, id, ends, summary);
-    with_outcome(change, outcome)
-}
-
-/// What a block results in at its end, as `block_ends`, where it is a well-formed request and another stream may be
-/// live; none otherwise. It is most frequent, and all that it changes stays in registers where nothing else may come of
-/// it.
-#[inline(always)]
-pub fn opening<A: Allocator + Copy>(
-    book: &Book<A>,
-    config: Config,
-    core: ConnectionState,
-    streams: &Streams<A>,
-    shown: &BlockView,
-    purpose: Purpose,
-    fields: &Collected<A>,
-) -> Option<Change>
-    requires sound { IsSoundState book.now core streams.now }
-    requires open { IsOpenAt streams.now shown.now.stream purpose }
-    ensures opens { is_some result ≡ is_opening book.now config streams.now.streams shown.now.ends fields.now.fields purpose }
-    ensures rule { (b : Option OpenBlock) (table : Table) → IfSome result (λ change.
-        change ≡ rule.block_ends (state_of book.now config core b table streams.now.streams) shown.now.stream shown.now.ends fields.now.fields purpose) }
-    ensures sound { IfSome result (λ change. IsSoundChange book.now streams.now (in_force core) change) }
-{
-    match purpose {
-        Purpose::Request => {}
-        Purpose::Trailers | Purpose::Closed | Purpose::TableOnly => return None,
-    }
-    if is_full(config, streams.live_count()) {
-        return None;
-    }
-    let summary = request_summary(book, fields);
-    if !is_well_formed(shown.ends, &summary) {
-        return None;
-    }
-    let change = request_opens(book, core, shown.stream, shown.ends, summary);
-    Some(change)
 }
 
 /// The end of a block of trailers, on a stream that the peer may still send on: it ends the peer's side, or is a

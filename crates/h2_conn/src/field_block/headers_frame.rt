@@ -9,7 +9,7 @@ ghost use Rattle.h2_spec.specs.Requests.Headers.{Breaks};
 ghost use Rattle.h2_spec.specs.State.{is_due};
 ghost use Rattle.h2_spec.specs.Stream.{stream_at};
 ghost use Rattle.h2_spec.specs.ReactionTable.{headers_cell};
-ghost use Rattle.h2_conn.specs.OpenBlocks.{bad_end, block_after};
+ghost use Rattle.h2_conn.specs.OpenBlocks.{block_after};
 ghost use Rattle.h2_conn.specs.Blocks.{IsOpenAt, IsOpenFor, IsStopped, at_end, decoding_of, going_on, limited, makes_open};
 ghost use Rattle.h2_conn.specs.Counts.{with_counts};
 ghost use Rattle.h2_conn.specs.Does.{Settles, stopped};
@@ -21,7 +21,7 @@ ghost use Rattle.h2_conn_rules.specs.Block.{cell_of};
 ghost use Rattle.h2_conn_rules.specs.Sound.{IsSoundChange, in_force, updated_records};
 ghost use Rattle.h2_table.specs.Edits.{IsEdit};
 
-use crate::field_block::block_end::{block_ends, opening};
+use crate::field_block::block_end::block_ends;
 use crate::field_block::decoding::Decoding;
 use crate::field_block::open_block::{fresh_block, leave_open};
 use crate::field_block::scratch::Scratch;
@@ -145,7 +145,7 @@ impl<'b, A: Allocator + Copy> State<'b, A> {
         match decoding.bad_end(&tentative) {
             Some(cause) => self.refuse(cause, decoding, tentative, out),
             None => {
-                let opening = opening(
+                let change = block_ends(
                     self.book,
                     self.config,
                     self.core(),
@@ -154,44 +154,9 @@ impl<'b, A: Allocator + Copy> State<'b, A> {
                     decoding.purpose,
                     &decoding.collected,
                 );
-                match opening {
-                    Some(change) => self.finish(None, &change, decoding, tentative, edit, out),
-                    None => self.ends_otherwise(shown, decoding, tentative, edit, out),
-                }
+                self.finish(None, &change, decoding, tentative, edit, out)
             }
         }
-    }
-
-    /// A fragment was decoded that ends its block, where that is no request that opens its stream; or nothing is done, as
-    /// `finish` says.
-    #[inline(never)]
-    fn ends_otherwise<O: Outgoing<'b, A>>(
-        &mut self,
-        shown: BlockView,
-        decoding: &mut Decoding<A>,
-        tentative: Tentative<A>,
-        edit: &mut Edit<A>,
-        out: &mut O,
-    ) -> Result<Verdict, AllocError>
-        requires stopped { IsStopped self.old.block }
-        requires sized { IsSized decoding.old tentative }
-        requires belongs { IsEdit (limited self.old.core.own.table self.old.table) edit.old }
-        requires open { IsOpenAt (records self.old) shown.stream decoding.old.purpose }
-        requires whole { bad_end (after_of decoding.old tentative) ≡ None }
-        ensures settles { Settles self.old (O.octets out.old) (at_end self.old edit.old shown decoding.old tentative) result self.new (O.octets out.new) }
-        ensures fields { OnOk result (fields_at_hand self.new.block decoding.new.fields ≡ decoding.old.fields) }
-        ensures decoding { OnErr result (decoding.new ≡ before_of decoding.old tentative) }
-    {
-        let change = block_ends(
-            self.book,
-            self.config,
-            self.core(),
-            &self.streams,
-            &shown,
-            decoding.purpose,
-            &decoding.collected,
-        );
-        self.finish(None, &change, decoding, tentative, edit, out)
     }
 
     /// The open block as it is shown, and its decoding, taken out of the state into `decoding`: it is only shown until the
@@ -299,7 +264,7 @@ impl<'b, A: Allocator + Copy> State<'b, A> {
         ensures rule { cell_of result ≡ headers_cell id (stream_at self.now.core.last self.now.streams id).kind }
         ensures known { IfOk result (λ purpose. IsOpenAt (records self.now) id purpose) }
     {
-        let _core = self.core();
+        self.consistent();
         headers_purpose(id, self.stream_at(id).kind)
     }
 

@@ -29,7 +29,11 @@ impl<A: Allocator> Model for KeptBlock<A> {
 
     ghost Value = { state.OpenBlock };
 
-    ghost view = { λ b. record { shown = b.shown; decoding = decoding_if b.goes_on (record { purpose = b.purpose; fields = b.collected.fields; due = b.collected.due; rest = b.rest }) } };
+    ghost view = { λ b. record {
+      shown = b.shown;
+      decoding = decoding_if b.goes_on
+          (record { purpose = b.purpose; fields = b.collected.fields; due = b.collected.due; rest = b.rest });
+    } };
 }
 
 /// By hand, as that of `Decoding`.

@@ -140,6 +140,7 @@ impl<R: Read> TakenInput<R> {
         }
     }
 
+    /// Keeps octets that were read, where that is asked for, as far as there is memory.
     fn keep(&mut self, octets: &[u8]) {
         self.count = self.count.saturating_add(octets.len());
         if self.keeps && !self.is_cut {

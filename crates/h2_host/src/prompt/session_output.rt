@@ -168,6 +168,7 @@ impl<'w, O: Output, E: Write> SessionOutput<'w, O, E> {
         }
     }
 
+    /// Writes what follows a reply: the header table, the line with a dot. Then flushes.
     fn write_on(&mut self) -> Result<(), DeviceFault> {
         if self.state.has_table.get() && !self.front.is_empty() {
             self.write_table()?;

@@ -7,4 +7,4 @@ use Rattle.h2_conn.proofs.state.State.purpose_at.Goals as goal
 pub returns-clause-known : goal.returns-clause-known
 returns-clause-known g c =
     let s = c.args.self.now in
-    c.headers_purpose.ensures.known s.book (in_force c.core-core.result) (records s) c.core-core.ensures.sound.records (ap (λ (st : Stream). st.kind) c.stream_at.ensures.value)
+    c.headers_purpose.ensures.known s.book (in_force s.core) (records s) c.consistent.ensures.sound.records (ap (λ (st : Stream). st.kind) c.stream_at.ensures.value)

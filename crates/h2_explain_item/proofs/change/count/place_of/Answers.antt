@@ -1,7 +1,7 @@
 use denote.Enum.Declared.{tag_of}
 use Rattle.std.proofs.Common.{◌≡◌, refl, Some}
 use Rattle.std.specs.Prelude.{slice_get}
-use Rattle.h2_explain_item.specs.contracts.count.Count.{the_type}
+use Rattle.h2_explain_item.specs.contracts.change.count.Count.{the_type}
 use Rattle.h2_explain_item.specs.declared.change.count.Count.TheVariants.{ReceiveWindow, UnreturnedOctets, SendWindow, LastStream, GoawayLastStream, GoawayCode, ClientHeaderTableSize, ClientEnablePush, ClientMaxConcurrentStreams, ClientInitialWindowSize, ClientMaxFrameSize, ClientMaxHeaderListSize, SizeUpdatePending, OwnHeaderTableSize, OwnInitialWindowSize, OwnMaxFrameSize, TableEntries, TableOctets, TableMaximum, ContentReceived}
 use Rattle.h2_explain_item.specs.Counts.{all_counts}
 use Rattle.h2_explain_item.proofs.change.count.place_of.Goals as goal
