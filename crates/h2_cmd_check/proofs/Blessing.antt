@@ -1,37 +1,39 @@
 -- A walk that writes a case anew, in the words of the definitions.
-use Rattle.std.proofs.Common.{◌≡◌, ◌∙◌, ◌++◌, ◌==◌, ℕ, nat_lt, Bool, true, false, cond, List, [], ◌∷◌, Option, Some, None, length, length-drop, refl, sym, ap, ap₂, subst, append_assoc, arith}
+use Rattle.std.proofs.Common.{◌≡◌, ◌∙◌, ◌++◌, ◌==◌, ℕ, nat_lt, Bool, true, false, cond, List, [], ◌∷◌, Option, Some, length, length-drop, refl, sym, ap, ap₂, subst, append_assoc, arith}
 use Rattle.std.proofs.lemmas.List.{append-nil}
 use Rattle.h2_conn.specs.Connection.{Connection}
 use Rattle.h2_spec.specs.declared.causes.Cause.{Cause}
-use Rattle.h2_debug.specs.Debugging.{Debugging}
 use Rattle.h2_cmd_check.specs.Blessed.{blessed_at, error_text, filled, filled_line, filled_place, filled_place_script, filled_script, held_place, held_text, kept_line, left_place, left_text, more_say, outcome_text, renewed, renewed_cause, renewed_sent, renewed_sent_place, sent_lines, stays_after, taken_at, told_place, written_line, written_place}
 use Rattle.h2_cmd_check.specs.Cases.{Place, Start, first_place, played, sight_above, sight_at, unspoken}
+use Rattle.h2_cmd_check.specs.Commands.{left_with}
 use Rattle.h2_cmd_check.specs.Frames.{sends, spoken_by}
 use Rattle.h2_cmd_cases.specs.Lines.{line_said}
 use Rattle.h2_cmd_check.specs.ItemsTaken.{Sight, seen_by}
 use Rattle.h2_cmd_check.specs.Tap.{Gains}
 use Rattle.h2_cmd_check.specs.Walks.{Keeps, Leaves, Lets, Tells, Walks, Writes, left_by, place_of, sight_here}
+use Rattle.h2_cmd_check.specs.declared.case_debugger.CaseDebugger.{CaseDebugger}
+use Rattle.h2_cmd_check.specs.declared.case_debugger.CaseDebugger.TheVariants.{Absent}
 use Rattle.h2_cmd_check.specs.declared.growing.Growing.{Growing}
 use Rattle.h2_cmd_check.specs.declared.walk.Walk.{Walk}
 use Rattle.h2_cmd_check.proofs.Gains.{gains_both}
 use Rattle.h2_cmd_check.proofs.Going.{here_is, left_is, left_spoken, sent_is}
 
-abbrev place : List ℕ → ℕ → Bool → Option Debugging → Place
+abbrev place : List ℕ → ℕ → Bool → CaseDebugger → Place
 place above spoken speaks debugging = record { above = above; spoken = spoken; speaks = speaks; debugging = debugging }
 
 -- ---- octets that come
 
-pub let_played : (start : Start) (w one two three : Walk) (more : List ℕ) → (length more == 0) ≡ false → seen_by w.seen ≡ sight_above start (place_of w) → Lets w one → Leaves one two
+pub let_played : (start : Start) (w one two three : Walk) (more : List ℕ) → (length more == 0) ≡ false → seen_by w.seen ≡ sight_above start (place_of w) → Lets w one → Leaves more one two
     → three.octets.items ≡ two.octets.items ++ more → three.spoken ≡ two.spoken → three.speaks ≡ two.speaks → three.debugger ≡ two.debugger → place_of three ≡ played start (place_of w) (Some more)
 let_played start w one two three [] some seen f l octets spoken speaks debugger = cc
 let_played start w one two three (o ∷ os) some seen f l octets spoken speaks debugger =
     let above = octets ∙ ap (λ v. v.items ++ o ∷ os) (l.octets ∙ f.octets) in
-    let so = spoken ∙ left_spoken start w one two seen f.seen f.debugger f.spoken l in
-    rw (above, so, speaks ∙ l.speaks ∙ f.speaks, debugger ∙ l.debugger) refl
+    let so = spoken ∙ left_spoken start w one two (o ∷ os) seen f.seen f.debugger f.spoken l in
+    rw (above, so, speaks ∙ l.speaks ∙ f.speaks, debugger ∙ l.debugger ∙ ap (left_with (o ∷ os)) f.debugger) refl
 
 -- ---- a line that says what is sent
 
-joined : (b : Bool) (a : List ℕ) (s p : ℕ) (q : Bool) (d : Option Debugging) → place a (cond b s p) (cond b true q) d ≡ cond b (place a s true d) (place a p q d)
+joined : (b : Bool) (a : List ℕ) (s p : ℕ) (q : Bool) (d : CaseDebugger) → place a (cond b s p) (cond b true q) d ≡ cond b (place a s true d) (place a p q d)
 joined true a s p q d = refl
 joined false a s p q d = refl
 
@@ -152,6 +154,6 @@ filled_on start w w' g g' g'' h l ls text line x so_far = λ well.
 
 -- ---- a case
 
-pub whole : (start : Start) (w : Walk) (lines : List (List ℕ)) (g g' : Growing) (text : List ℕ) → w.octets.items ≡ [] → w.spoken ≡ 0 → w.speaks ≡ false → w.debugger ≡ None → g.octets.items ≡ []
+pub whole : (start : Start) (w : Walk) (lines : List (List ℕ)) (g g' : Growing) (text : List ℕ) → w.octets.items ≡ [] → w.spoken ≡ 0 → w.speaks ≡ false → w.debugger ≡ Absent → g.octets.items ≡ []
     → Gains (blessed_at start (place_of w) lines) g g' → (g'.refused ≡ false) × (text ≡ g'.octets.items) → text ≡ blessed_at start first_place lines
 whole start w lines g g' text octets spoken speaks debugger empty x is = is.1 ∙ (x is.0).1 ∙ rw (empty, octets, spoken, speaks, debugger) refl

@@ -14,10 +14,11 @@ use Rattle.h2_spec.specs.declared.causes.Cause.{Cause}
 use Rattle.h2_spec.specs.declared.ignored.Ignored.{Ignored}
 use Rattle.h2_explain_words.specs.Why.{error_lines, ignored_lines, why_lines}
 use Rattle.h2_cmd_check.specs.Cases.{Start, closes, debugger_at, sight_above}
-use Rattle.h2_cmd_check.specs.Commands.{answered, debugger_or, fault_in, is_memory_fault, is_refusal}
+use Rattle.h2_cmd_check.specs.Commands.{answered, fault_in, is_memory_fault, is_refusal}
 use Rattle.h2_cmd_cases.specs.Lines as line
 use Rattle.h2_cmd_check.specs.ItemsTaken.{seen_by}
 use Rattle.h2_cmd_check.specs.Walks.{Begins, Closes, Commands, Finds, Loads, Passes, debugger_for, place_of}
+use Rattle.h2_cmd_check.specs.declared.case_debugger.CaseDebugger.TheVariants.{Present}
 use Rattle.h2_cmd_check.specs.declared.command.Given.{Given}
 use Rattle.h2_cmd_check.specs.declared.walk.Walk.{Walk}
 use Rattle.h2_cmd_check.proofs.Going.{closes_is}
@@ -67,11 +68,6 @@ line_given d after text command reply fault is (inr x) said few well =
 
 -- ---- the debugger of a walk
 
--- it is there
-pub there : (d : Option Debugging) (new : Debugging) → is_some d ≡ true → d ≡ Some (debugger_or d new)
-there (Some d) new is = refl
-there None new is = cc
-
 -- it is that of the place
 debugger_is : (start : Start) (given : Given) (w one : Walk) → Begins start given → one.debugger ≡ w.debugger → one.octets ≡ w.octets → debugger_for given one ≡ debugger_at start (place_of w)
 debugger_is start given w one b debugger octets = rw (debugger, octets, b.book_is, b.config_is) refl
@@ -85,8 +81,8 @@ grouped true b c = refl
 grouped false b c = refl
 
 -- a line was given to it
-pub command_given : (given : Given) (w one : Walk) (text : List ℕ) (d after : Debugging) (fault : Option ℕ) → Loads given w one → one.debugger ≡ Some d
-    → (is_some fault ≡ is_refusal (answered d text).text) × (after ≡ (answered d text).after) → Commands given text fault w (record one { spoken = 0; debugger = Some after })
+pub command_given : (given : Given) (w one : Walk) (text : List ℕ) (d after : Debugging) (fault : Option ℕ) → Loads given w one → one.debugger ≡ Present d
+    → (is_some fault ≡ is_refusal (answered d text).text) × (after ≡ (answered d text).after) → Commands given text fault w (record one { spoken = 0; debugger = Present after })
 command_given given w one text d after fault l is x =
     let same : d ≡ debugger_for given w = cc (is, l.debugger) in record {
       found = l.found;
@@ -95,7 +91,7 @@ command_given given w one text d after fault l is x =
       seen = l.seen;
       speaks = l.speaks;
       spoken = refl;
-      debugger = ap (λ (e : Debugging). Some e) x.1 ∙ ap (λ (e : Debugging). Some (answered e text).after) same;
+      debugger = ap (λ (e : Debugging). Present e) x.1 ∙ ap (λ (e : Debugging). Present (answered e text).after) same;
       refused = x.0 ∙ ap (λ (e : Debugging). is_refusal (answered e text).text) same;
     }
 
@@ -109,6 +105,6 @@ goes_commanded start given w one two three text fault b seen k c f =
           ∙ grouped w.holds (closes start (place_of w)) (not (is_refusal (answered (debugger_at start (place_of w)) text).text));
       place = λ e.
           let obeyed : not (is_some fault) ≡ true = ap not refused ∙ (both (closes start (place_of w)) (not (is_refusal (answered (debugger_at start (place_of w)) text).text)) e).1 in
-          let debugger = f.debugger ∙ c.debugger ∙ ap (λ (d : Debugging). Some (answered d text).after) same in
+          let debugger = f.debugger ∙ c.debugger ∙ ap (λ (d : Debugging). Present (answered d text).after) same in
           rw (f.octets ∙ c.octets ∙ k.octets, f.spoken obeyed ∙ c.spoken, f.speaks ∙ c.speaks ∙ k.speaks, debugger) refl;
     }

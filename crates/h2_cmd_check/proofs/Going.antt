@@ -1,20 +1,21 @@
 -- What a walk has found over a line, in the words of the definitions.
-use Rattle.std.proofs.Common.{◌≡◌, ◌∙◌, ◌++◌, ◌&&◌, ◌||◌, ◌==◌, ℕ, Bool, true, false, not, cond, List, [], ◌∷◌, Option, Some, None, is_some, length, drop, map, refl, sym, ap, ap₂, subst, arith, Bor}
+use Rattle.std.proofs.Common.{◌≡◌, ◌∙◌, ◌++◌, ◌&&◌, ◌||◌, ◌==◌, ℕ, Bool, true, false, not, cond, List, [], ◌∷◌, Some, length, drop, map, refl, sym, ap, ap₂, subst, arith, Bor}
 use Rattle.h2_conn.specs.Connection.{Connection, going}
 use Rattle.h2_spec.specs.Frames.Parse.{parse_all}
 use Rattle.h2_spec.specs.State.{State}
 use Rattle.h2_spec.specs.Texts.Show.{show}
 use Rattle.h2_spec.specs.Trace.{trace}
 use Rattle.h2_spec.specs.Texts.View.{view}
-use Rattle.h2_debug.specs.Debugging.{Debugging}
 use Rattle.h2_cmd_check.specs.Cases.{Start, all_hold, closes, errs, first_place, ignores, passed, played, plays, sight_above, sight_at, unspoken}
-use Rattle.h2_cmd_check.specs.Commands.{text_by}
+use Rattle.h2_cmd_check.specs.Commands.{is_present, left_with, text_by}
 use Rattle.h2_cmd_check.specs.Frames.{is_none, sends, spoken_by}
 use Rattle.h2_cmd_check.specs.ItemTexts.{text_before}
 use Rattle.h2_cmd_cases.specs.Lines as line
 use Rattle.h2_cmd_check.specs.ItemsTaken.{Sight, no_item, seen_by, sight, sight_by}
 use Rattle.h2_cmd_check.specs.Texts.{explains, shows}
 use Rattle.h2_cmd_check.specs.Walks.{Closes, Finds, Goes, Leaves, Passes, Speaks, Walks, left_by, place_of, sent_here, sight_here}
+use Rattle.h2_cmd_check.specs.declared.case_debugger.CaseDebugger.{CaseDebugger}
+use Rattle.h2_cmd_check.specs.declared.case_debugger.CaseDebugger.TheVariants.{Absent, Present, Left}
 use Rattle.h2_cmd_check.specs.declared.walk.Walk.{Walk}
 
 -- what is seen at a place is what a value has
@@ -66,21 +67,22 @@ goes_sent start w w' text seen f = record {
 pub closes_is : (start : Start) (w : Walk) → seen_by w.seen ≡ sight_above start (place_of w) → (not w.speaks || is_none (left_by w)) ≡ closes start (place_of w)
 closes_is start w e = ap (λ (t : List ℕ). not w.speaks || is_none t) (left_is start w e)
 
--- what has been spoken about once a debugger, if there is one, has ended
-pub passed_is : (d : Option Debugging) (speaks : Bool) (above : List ℕ) (seen : Sight) (spoken : ℕ)
-    → cond (is_some d) (length seen.sent) (cond (not speaks && is_none above) (length (sight_by d seen).sent) spoken) ≡ cond (is_some d || (not speaks && is_none above)) (length seen.sent) spoken
-passed_is None speaks above seen spoken = refl
-passed_is (Some d) speaks above seen spoken = refl
+-- what has been spoken about once octets come, after commands or not
+pub passed_is : (d : CaseDebugger) (speaks : Bool) (above : List ℕ) (seen : Sight) (spoken : ℕ)
+    → cond (is_present d) (length seen.sent) (cond (not speaks && is_none above) (length (sight_by d seen).sent) spoken) ≡ cond (is_present d || (not speaks && is_none above)) (length seen.sent) spoken
+passed_is Absent speaks above seen spoken = refl
+passed_is (Present d) speaks above seen spoken = refl
+passed_is (Left d) speaks above seen spoken = refl
 
-pub left_spoken : (start : Start) (w one two : Walk) → seen_by w.seen ≡ sight_above start (place_of w) → one.seen ≡ w.seen → one.debugger ≡ w.debugger
-    → one.spoken ≡ cond (not w.speaks && is_none w.octets.items) (length (sent_here w)) w.spoken → Leaves one two → two.spoken ≡ passed start (place_of w)
-left_spoken start w one two seen same debugger spoken l =
-    let some : is_some one.debugger ≡ is_some w.debugger = ap (λ (d : Option Debugging). is_some d) debugger in
+pub left_spoken : (start : Start) (w one two : Walk) (more : List ℕ) → seen_by w.seen ≡ sight_above start (place_of w) → one.seen ≡ w.seen → one.debugger ≡ w.debugger
+    → one.spoken ≡ cond (not w.speaks && is_none w.octets.items) (length (sent_here w)) w.spoken → Leaves more one two → two.spoken ≡ passed start (place_of w)
+left_spoken start w one two more seen same debugger spoken l =
+    let some : is_present one.debugger ≡ is_present w.debugger = ap (λ (d : CaseDebugger). is_present d) debugger in
     let sent : length one.seen.sent.items ≡ length w.seen.sent.items = ap (λ s. length s.sent.items) same in
     l.spoken ∙ rw (some, sent, spoken) (passed_is w.debugger w.speaks w.octets.items (seen_by w.seen) w.spoken)
-    ∙ ap (λ (x : Sight). cond (is_some w.debugger || (not w.speaks && is_none w.octets.items)) (length x.sent) w.spoken) seen
+    ∙ ap (λ (x : Sight). cond (is_present w.debugger || (not w.speaks && is_none w.octets.items)) (length x.sent) w.spoken) seen
 
-pub goes_played : (start : Start) (w one two three : Walk) (more : List ℕ) → (length more == 0) ≡ false → seen_by w.seen ≡ sight_above start (place_of w) → Closes w one → Leaves one two
+pub goes_played : (start : Start) (w one two three : Walk) (more : List ℕ) → (length more == 0) ≡ false → seen_by w.seen ≡ sight_above start (place_of w) → Closes w one → Leaves more one two
     → three.octets.items ≡ two.octets.items ++ more → three.spoken ≡ two.spoken → three.speaks ≡ two.speaks → three.debugger ≡ two.debugger → three.holds ≡ two.holds
     → Goes (plays start (place_of w) (Some more)) (played start (place_of w) (Some more)) w three
 goes_played start w one two three [] some seen f l octets spoken speaks debugger found = cc
@@ -88,8 +90,8 @@ goes_played start w one two three (o ∷ os) some seen f l octets spoken speaks 
   found = found ∙ l.found ∙ f.found ∙ ap (λ (b : Bool). w.holds && b) (closes_is start w seen);
   place = λ e.
       let above = octets ∙ ap (λ v. v.items ++ o ∷ os) (l.octets ∙ f.octets) in
-      let so = spoken ∙ left_spoken start w one two seen f.seen f.debugger (f.spoken (closes_is start w seen ∙ e)) l in
-      rw (above, so, speaks ∙ l.speaks ∙ f.speaks, debugger ∙ l.debugger) refl;
+      let so = spoken ∙ left_spoken start w one two (o ∷ os) seen f.seen f.debugger (f.spoken (closes_is start w seen ∙ e)) l in
+      rw (above, so, speaks ∙ l.speaks ∙ f.speaks, debugger ∙ l.debugger ∙ ap (left_with (o ∷ os)) f.debugger) refl;
 }
 
 -- the case ends
@@ -136,7 +138,7 @@ said_lent [] = refl
 said_lent (x ∷ xs) = ap (λ (ls : List line.CaseLine). line.line_said x.now ∷ ls) (said_lent xs)
 
 -- after the last line
-pub all_held : (start : Start) (w w' : Walk) (lines : List (Bor (List ℕ))) → w.holds ≡ true → w.octets.items ≡ [] → w.spoken ≡ 0 → w.speaks ≡ false → w.debugger ≡ None
+pub all_held : (start : Start) (w w' : Walk) (lines : List (Bor (List ℕ))) → w.holds ≡ true → w.octets.items ≡ [] → w.spoken ≡ 0 → w.speaks ≡ false → w.debugger ≡ Absent
     → w'.holds ≡ (w.holds && all_hold start (place_of w) (map (λ l. line.line_said l.now) lines))
     → w'.holds ≡ all_hold start first_place (map line.line_said (map (λ l. l.now) lines))
 all_held start w w' lines held octets spoken speaks debugger is =

@@ -1,7 +1,7 @@
 -- A case: a connection of its own, and lines. The octets of the lines of the script are played on it. Each other line
 -- says something of the run of the octets above it, or is a command to a debugger of that run, of whose position the lines
 -- after it speak, up to the next octets; the case holds where all of them do.
-use Rattle.std.specs.Prelude.{◌≡◌, ℕ, Bool, true, false, ◌&&◌, ◌||◌, not, List, [], ◌∷◌, ◌++◌, length, drop, map, codes, if◌then◌else◌, Option, Some, None, is_some}
+use Rattle.std.specs.Prelude.{◌≡◌, ℕ, Bool, true, false, ◌&&◌, ◌||◌, not, List, [], ◌∷◌, ◌++◌, length, drop, map, codes, if◌then◌else◌, Option, Some, None}
 use Rattle.std.specs.Str.{bytes_eq}
 use Rattle.h2_spec.specs.Requests.Answer.{Entry}
 use Rattle.h2_spec.specs.Causes.CauseWords.{cause_name}
@@ -17,7 +17,7 @@ use Rattle.h2_spec.specs.declared.ignored.Ignored.{Ignored}
 use Rattle.h2_debug.specs.Debugging.{Debugging}
 use Rattle.h2_debug.specs.Replies.{Answer}
 use Rattle.h2_debug.specs.Loaded.{loaded}
-use Rattle.h2_cmd_check.specs.Commands.{answered, debugger_or, is_refusal, text_by}
+use Rattle.h2_cmd_check.specs.Commands.{answered, debugger_or, is_present, is_refusal, left_with, text_by}
 use Rattle.h2_cmd_check.specs.Frames.{is_none, sends, spoken_by}
 use Rattle.h2_cmd_check.specs.ItemTexts.{AreTextsOf, octets_at, text_before}
 use Rattle.h2_cmd_cases.specs.Lines as line
@@ -25,6 +25,8 @@ use Rattle.h2_cmd_cases.specs.Files.{expect_something}
 use Rattle.h2_cmd_cases.specs.Lines.{CaseLine, line_said}
 use Rattle.h2_cmd_check.specs.ItemsTaken.{Sight, sight, sight_by}
 use Rattle.h2_cmd_check.specs.Texts.{explains, shows}
+use Rattle.h2_cmd_check.specs.declared.case_debugger.CaseDebugger.{CaseDebugger}
+use Rattle.h2_cmd_check.specs.declared.case_debugger.CaseDebugger.TheVariants.{Absent, Present}
 
 -- the state that a case begins in, the octets that were sent before anything came, the texts of its items, and the book,
 -- the limits and the settings of its connection, which those of a debugger are too
@@ -36,12 +38,12 @@ pub record Start : Type 0 where
   pub config : Config
 
 -- a place between two lines: the octets of the lines above, how many of the octets sent lines have spoken about, whether a
--- line has since the last octets or the last command, and the debugger where a command came after the octets
+-- line has since the last octets or the last command, and the debugger
 pub record Place : Type 0 where
   pub above : List ℕ
   pub spoken : ℕ
   pub speaks : Bool
-  pub debugging : Option Debugging
+  pub debugging : CaseDebugger
 
 -- what is seen of all items of the octets above a place
 abbrev pub sight_above : Start → Place → Sight
@@ -69,10 +71,10 @@ unspoken start here = drop here.spoken (sight_at start here).sent
 abbrev pub closes : Start → Place → Bool
 closes start here = not here.speaks || is_none (unspoken start here)
 
--- what was sent before the first octets counts only where a line has spoken about it, and what was sent before a debugger
--- does not count after it
+-- what was sent before the first octets counts only where a line has spoken about it, and what was sent before commands
+-- does not count after them
 abbrev pub passed : Start → Place → ℕ
-passed start here = if is_some here.debugging || (not here.speaks && is_none here.above) then length (sight_above start here).sent else here.spoken
+passed start here = if is_present here.debugging || (not here.speaks && is_none here.above) then length (sight_above start here).sent else here.spoken
 
 -- a line of the script has to be one
 abbrev pub plays : Start → Place → Option (List ℕ) → Bool
@@ -83,11 +85,11 @@ plays start here (Some (octet ∷ octets)) = closes start here
 abbrev pub played : Start → Place → Option (List ℕ) → Place
 played start here None = here
 played start here (Some []) = here
-played start here (Some (octet ∷ octets)) = record { above = here.above ++ octet ∷ octets; spoken = passed start here; speaks = false; debugging = None }
+played start here (Some (octet ∷ octets)) = record { above = here.above ++ octet ∷ octets; spoken = passed start here; speaks = false; debugging = left_with (octet ∷ octets) here.debugging }
 
 -- ---- a command
 
--- the debugger of a place: a new one, over the octets above, where none is there
+-- the debugger of a place: a new one, over the octets above, where no command came yet
 abbrev pub debugger_at : Start → Place → Debugging
 debugger_at start here = debugger_or here.debugging (loaded start.book start.config here.above)
 
@@ -101,7 +103,7 @@ commands start here text = closes start here && not (is_refusal (answer_at start
 
 -- then nothing is spoken about at the new position
 abbrev pub commanded : Start → Place → List ℕ → Place
-commanded start here text = record { above = here.above; spoken = 0; speaks = false; debugging = Some (answer_at start here text).after }
+commanded start here text = record { above = here.above; spoken = 0; speaks = false; debugging = Present (answer_at start here text).after }
 
 -- ---- what is said about the items
 
@@ -160,7 +162,7 @@ all_hold start here (said ∷ more) = holds start here said && all_hold start (b
 
 -- before the first line
 abbrev pub first_place : Place
-first_place = record { above = []; spoken = 0; speaks = false; debugging = None }
+first_place = record { above = []; spoken = 0; speaks = false; debugging = Absent }
 
 -- the start of a case with this book, these limits and these settings, and of whose items these are the texts
 abbrev pub start_of : List Entry → Config → List (List ℕ) → Start

@@ -10,6 +10,8 @@ use Rattle.h2_spec.specs.declared.causes.Cause.{Cause}
 use Rattle.h2_spec.specs.declared.ignored.Ignored.{Ignored}
 use Rattle.h2_debug.specs.Debugging.{Debugging}
 use Rattle.h2_debug.specs.Places.{cause_at, ignored_at, sent_octets_at}
+use Rattle.h2_cmd_check.specs.declared.case_debugger.CaseDebugger.{CaseDebugger}
+use Rattle.h2_cmd_check.specs.declared.case_debugger.CaseDebugger.TheVariants.{Absent, Present, Left}
 use Rattle.h2_cmd_check.specs.declared.run.ItemsTaken.{ItemsTaken}
 
 -- how many items there were, the octets that were sent, why the first error was one, and why the last item is an error or
@@ -61,10 +63,11 @@ sight_in d = record {
   ignored = ignored_at d.run d.position;
 }
 
--- where there is a debugger, what is seen at its position
-abbrev pub sight_by : Option Debugging → Sight → Sight
-sight_by None seen = seen
-sight_by (Some d) seen = sight_in d
+-- where here is the position of the debugger, what is seen there
+abbrev pub sight_by : CaseDebugger → Sight → Sight
+sight_by Absent seen = seen
+sight_by (Present d) seen = sight_in d
+sight_by (Left d) seen = seen
 
 -- the sight that a value has
 abbrev pub seen_by : ItemsTaken → Sight

@@ -7,10 +7,11 @@ use Rattle.h2_debug.specs.Debugging.{Debugging}
 use Rattle.h2_debug.specs.Loaded.{loaded}
 use Rattle.h2_cmd_check.specs.Blessed.{held_line, held_text, kept_line}
 use Rattle.h2_cmd_check.specs.Cases.{Outcome, Place, Start, Skipped, Holds, Fails, behind, holds, sight_above}
-use Rattle.h2_cmd_check.specs.Commands.{answered, debugger_or, is_refusal}
+use Rattle.h2_cmd_check.specs.Commands.{answered, debugger_or, is_present, is_refusal, left_with}
 use Rattle.h2_cmd_check.specs.Frames.{frame_length, is_next, is_none, sends, spoken_by}
 use Rattle.h2_cmd_cases.specs.Lines.{CaseLine}
 use Rattle.h2_cmd_check.specs.ItemsTaken.{Sight, seen_by, sight_by}
+use Rattle.h2_cmd_check.specs.declared.case_debugger.CaseDebugger.TheVariants.{Present}
 use Rattle.h2_cmd_check.specs.declared.command.Given.{Given}
 use Rattle.h2_cmd_check.specs.declared.walk.Walk.{Walk}
 use Rattle.h2_cmd_check.specs.Tap.{Gains}
@@ -71,28 +72,28 @@ pub record Closes (w w' : Walk) : Type 0 where
   pub speaks : w'.speaks ≡ false
   pub spoken : (not w.speaks || is_none (left_by w)) ≡ true → w'.spoken ≡ (if not w.speaks && is_none w.octets.items then length (sent_here w) else w.spoken)
 
--- where there was a debugger it ends, and what was sent before is not looked at any more
-pub record Leaves (w w' : Walk) : Type 0 where
+-- its debugger is fed more octets; where here was its position, what was sent before is not looked at any more
+pub record Leaves (more : List ℕ) (w w' : Walk) : Type 0 where
   pub found : w'.holds ≡ w.holds
   pub octets : w'.octets ≡ w.octets
   pub at : w'.at ≡ w.at
   pub seen : w'.seen ≡ w.seen
   pub speaks : w'.speaks ≡ w.speaks
-  pub debugger : w'.debugger ≡ None
-  pub spoken : w'.spoken ≡ (if is_some w.debugger then length w.seen.sent.items else w.spoken)
+  pub debugger : w'.debugger ≡ left_with more w.debugger
+  pub spoken : w'.spoken ≡ (if is_present w.debugger then length w.seen.sent.items else w.spoken)
 
 -- the debugger of a walk, or a new one
 abbrev pub debugger_for : Given → Walk → Debugging
 debugger_for given w = debugger_or w.debugger (loaded given.book.now given.config w.octets.items)
 
--- a debugger is there
+-- here is the position of its debugger
 pub record Loads (given : Given) (w w' : Walk) : Type 0 where
   pub found : w'.holds ≡ w.holds
   pub octets : w'.octets ≡ w.octets
   pub at : w'.at ≡ w.at
   pub seen : w'.seen ≡ w.seen
   pub speaks : w'.speaks ≡ w.speaks
-  pub debugger : w'.debugger ≡ Some (debugger_for given w)
+  pub debugger : w'.debugger ≡ Present (debugger_for given w)
 
 -- it was given a line, which it refused with a fault or not; nothing is spoken about at its position
 pub record Commands (given : Given) (line : List ℕ) (fault : Option ℕ) (w w' : Walk) : Type 0 where
@@ -102,7 +103,7 @@ pub record Commands (given : Given) (line : List ℕ) (fault : Option ℕ) (w w'
   pub seen : w'.seen ≡ w.seen
   pub speaks : w'.speaks ≡ w.speaks
   pub spoken : w'.spoken ≡ 0
-  pub debugger : w'.debugger ≡ Some (answered (debugger_for given w) line).after
+  pub debugger : w'.debugger ≡ Present (answered (debugger_for given w) line).after
   pub refused : is_some fault ≡ is_refusal (answered (debugger_for given w) line).text
 
 -- the next frame that was sent was compared with one that is wanted

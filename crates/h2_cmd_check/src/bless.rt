@@ -223,8 +223,10 @@ impl<'t, 'b> Walk<'t, 'b> {
             return Ok(());
         }
         self.pass();
-        self.leave();
-        self.feed(conn, more)
+        match self.leave(more) {
+            Ok(()) => self.feed(conn, more),
+            Err(error) => Err(error),
+        }
     }
 
     /// A line of the script, in a case that is written anew.

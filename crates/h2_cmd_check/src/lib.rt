@@ -4,6 +4,7 @@
 #![tactic(auto)]
 
 mod bless;
+mod case_debugger;
 mod command;
 mod fault;
 mod growing;

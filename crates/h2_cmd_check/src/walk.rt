@@ -1,7 +1,7 @@
 //! The lines of a case, one after another: those of the script are played, and the others are compared with what is
 //! seen of the run so far, or of the position of a debugger. Definitions: `specs/Cases.antt`, `specs/Walks.antt`.
 
-ghost use Rattle.std.specs.Prelude.{◌≡◌, ◌≤◌, ◌<◌, ◌^◌, ◌++◌, ◌&&◌, Bool, true, false, List, [], ℕ, length, drop, map, string_bytes, if◌then◌else◌, None, OnOk, IfOk};
+ghost use Rattle.std.specs.Prelude.{◌≡◌, ◌≤◌, ◌<◌, ◌^◌, ◌++◌, ◌&&◌, Bool, true, false, List, [], ℕ, length, drop, map, string_bytes, if◌then◌else◌, OnOk, IfOk};
 ghost use Rattle.h2_conn.specs.Connection.{going};
 ghost use Rattle.h2_spec.specs.Texts.Assemble.{statement_at};
 ghost use Rattle.h2_spec.specs.Texts.Show.{show};
@@ -15,23 +15,25 @@ ghost use Rattle.h2_cmd_cases.specs.Lines as said;
 ghost use Rattle.h2_cmd_cases.specs.Lines.{line_said, said_by, CaseLine};
 ghost use Rattle.h2_cmd_check.specs.ItemsTaken.{no_item, seen_by};
 ghost use Rattle.h2_cmd_check.specs.Texts.{explains, shows};
+ghost use Rattle.h2_cmd_check.specs.declared.case_debugger.CaseDebugger.TheVariants.{Absent};
 ghost use Rattle.h2_cmd_check.specs.Walks.{Begins, Closes, Commands, Compares, Finds, Goes, IsWithin, Leaves, Loads, Passes, Speaks, Walks, left_by, outcome_by, place_of, sent_here, sight_here};
 
-use crate::command::{Given, debugger_over, fault_line, give_line, is_obeyed};
+use crate::case_debugger::CaseDebugger;
+use crate::command::{Given, fault_line, give_line, is_obeyed};
 use crate::pattern::{closest, explains, shows};
 use crate::run::{ItemsTaken, take_items};
 use crate::texts::text_before;
 use crate::verdict::{CaseVerdict, Wrong};
 use h2_cmd_cases::{Line, expect_something, line_of};
 use h2_conn::Conn;
-use h2_debug::{Debugger, Reply, ReplyText};
+use h2_debug::{Reply, ReplyText};
 use h2_explain_words::sent::next_frame;
 use h2_io::string_of;
 use h2_script::{LineFault, SyntaxKind, add_line, disassemble};
 use h2_spec::causes::Cause;
 use h2_spec::ignored::Ignored;
 use std::alloc::{AllocError, Global};
-use std::str;
+use std::{mem, str};
 
 /// How far the lines of a case have got.
 pub(crate) struct Walk<'t, 'b> {
@@ -40,8 +42,7 @@ pub(crate) struct Walk<'t, 'b> {
     /// How many of them were taken as items.
     pub at: usize,
     pub seen: ItemsTaken,
-    /// The debugger, where a command came after the octets.
-    pub debugger: Option<Debugger<'b, Global>>,
+    pub debugger: CaseDebugger<'b>,
     /// How many of the octets sent lines have spoken about; with a debugger, of those for the item of its position.
     pub spoken: usize,
     /// Whether a line has spoken about them since the last octets or the last command, and the number of that line.
@@ -183,7 +184,7 @@ impl<'t, 'b> Walk<'t, 'b> {
         ensures octets { (result.octets.items ≡ []) × (result.at ≡ 0) }
         ensures seen { seen_by result.seen ≡ no_item sent.items }
         ensures place { (result.spoken ≡ 0) × (result.speaks ≡ false) }
-        ensures debugger { result.debugger ≡ None }
+        ensures debugger { result.debugger ≡ Absent }
         ensures holds { result.holds ≡ true }
     {
         Walk {
@@ -196,7 +197,7 @@ impl<'t, 'b> Walk<'t, 'b> {
                 cause: None,
                 ignored: None,
             },
-            debugger: None,
+            debugger: CaseDebugger::Absent,
             spoken: 0,
             speaks: false,
             speaker: 0,
@@ -286,7 +287,7 @@ impl<'t, 'b> Walk<'t, 'b> {
     ) -> Result<(), AllocError>
         ensures { OnOk result (Finds false self.old self.new) }
     {
-        if self.end.is_none() || self.debugger.is_some() {
+        if self.end.is_none() || self.debugger.is_present() {
             return self.add_wrong(line, wanted, found, None);
         }
         self.after = self.after.saturating_add(1);
@@ -361,14 +362,14 @@ impl<'t, 'b> Walk<'t, 'b> {
         ensures ignored { result.ignored ≡ (sight_here self.now).ignored }
     {
         match &self.debugger {
-            Some(debugger) => Sight {
+            CaseDebugger::Present(debugger) => Sight {
                 items: debugger.pos(),
                 sent: debugger.sent(),
                 first: debugger.cause(),
                 cause: debugger.cause(),
                 ignored: debugger.ignored(),
             },
-            None => Sight {
+            CaseDebugger::Absent | CaseDebugger::Left(_) => Sight {
                 items: self.seen.items,
                 sent: self.seen.sent.as_slice(),
                 first: self.seen.first,
@@ -429,13 +430,20 @@ impl<'t, 'b> Walk<'t, 'b> {
         Ok(())
     }
 
-    /// Where there is a debugger it ends: what was sent before is not looked at any more.
-    pub(crate) fn leave(&mut self)
-        ensures { Leaves self.old self.new }
+    /// A debugger, where there is one, is fed more octets. Where here was its position, what was sent before is not looked
+    /// at any more.
+    pub(crate) fn leave(&mut self, more: &[u8]) -> Result<(), AllocError>
+        ensures { OnOk result (Leaves more.now self.old self.new) }
     {
-        if self.debugger.is_some() {
-            self.debugger = None;
+        if self.debugger.is_present() {
             self.spoken = self.seen.sent.len();
+        }
+        match mem::replace(&mut self.debugger, CaseDebugger::Absent).leave(more) {
+            Ok(debugger) => {
+                self.debugger = debugger;
+                Ok(())
+            }
+            Err(error) => Err(error),
         }
     }
 
@@ -498,8 +506,10 @@ impl<'t, 'b> Walk<'t, 'b> {
             Ok(()) => {}
             Err(error) => return Err(error),
         }
-        self.leave();
-        self.feed(conn, more)
+        match self.leave(more) {
+            Ok(()) => self.feed(conn, more),
+            Err(error) => Err(error),
+        }
     }
 
     /// A line of the script.
@@ -602,11 +612,11 @@ impl<'t, 'b> Walk<'t, 'b> {
         ensures { IfOk result (λ text. string_bytes text ≡ text_by self.now.debugger (show (view conn.now.state))) }
     {
         match &self.debugger {
-            Some(debugger) => {
+            CaseDebugger::Present(debugger) => {
                 let reply = Reply::Shown;
                 string_of(alloc, &ReplyText { reply, debugger })
             }
-            None => conn.show(alloc),
+            CaseDebugger::Absent | CaseDebugger::Left(_) => conn.show(alloc),
         }
     }
 
@@ -642,16 +652,13 @@ impl<'t, 'b> Walk<'t, 'b> {
 }
 
 impl<'t, 'b> Walk<'t, 'b> {
-    /// Loads the octets of the lines above into a debugger, where there is none.
+    /// Here is the position of the debugger. Where there is none, the octets of the lines above are loaded into one.
     fn load(&mut self, given: &Given<'_, 'b>) -> Result<(), AllocError>
         ensures { OnOk result (Loads given.now self.old self.new) }
     {
-        if self.debugger.is_some() {
-            return Ok(());
-        }
-        match debugger_over(given, &self.octets) {
+        match mem::replace(&mut self.debugger, CaseDebugger::Absent).enter(given, &self.octets) {
             Ok(debugger) => {
-                self.debugger = Some(debugger);
+                self.debugger = debugger;
                 Ok(())
             }
             Err(error) => Err(error),
@@ -668,8 +675,8 @@ impl<'t, 'b> Walk<'t, 'b> {
         }
         self.spoken = 0;
         match &mut self.debugger {
-            Some(debugger) => give_line(debugger, line),
-            None => Err(AllocError),
+            CaseDebugger::Present(debugger) => give_line(debugger, line),
+            CaseDebugger::Absent | CaseDebugger::Left(_) => Err(AllocError),
         }
     }
 

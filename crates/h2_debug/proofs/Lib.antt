@@ -1,5 +1,6 @@
 pub mod BreakLaws
 pub mod KeptLaws
+pub mod Longer
 pub mod Obeying
 pub mod PlaceLaws
 pub mod Ahead

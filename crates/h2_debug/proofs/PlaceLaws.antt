@@ -8,7 +8,7 @@ use Rattle.h2_spec.specs.Frames.Frame.{Frame, frames_octets, head_at, Next, NoIt
 use Rattle.h2_spec.specs.Opening.{opening_octets}
 use Rattle.h2_spec.specs.Frames.Parse.{Front, Stop, One, Parsed, parse_all, parse_first}
 use Rattle.h2_spec.specs.State.{State}
-use Rattle.h2_spec.specs.Trace.{Event, event_on, next_event, next_in, next_item, step, trace}
+use Rattle.h2_spec.specs.Trace.{Event, event_on, left_by, next_event, next_in, next_item, step, trace}
 use Rattle.h2_spec.proofs.ParseLaws.{Uses, parse_all-step}
 use Rattle.h2_spec.proofs.TraceLaws.{event-uses}
 use Rattle.h2_conn.specs.Connection.{Connection, awaits_preface, going}
@@ -21,7 +21,7 @@ use Rattle.h2_conn.proofs.Items.{comes-past}
 use Rattle.h2_conn.proofs.FollowsLaws.{follows-refl, follows-then}
 use Rattle.h2_debug.proofs.BreakLaws.{comes-head}
 use Rattle.h2_debug.specs.Items.{is_item}
-use Rattle.h2_debug.specs.Places.{Source, Placed, IsAt, TakesItem, HasNoItem, Advances, start, end, events, at, frames_at, reasons_at}
+use Rattle.h2_debug.specs.Places.{Source, Placed, EndAlike, IsAt, TakesItem, HasNoItem, Advances, start, end, events, at, frames_at, reasons_at}
 
 -- ---- the items of octets
 
@@ -34,6 +34,14 @@ events-one : (s t : State) (b : List ℕ) (e : Event) (used : ℕ) → next_even
 unfolding trace
 events-one s t b e used h =
     ap (λ (r : Parsed State Event). r.elements) (parse_all-step next_event event-uses s b ∙ ap (λ (x : Front State Event). parse_first s b x (λ u rest. parse_all next_event u rest)) h)
+
+ends-one : (s t : State) (b : List ℕ) (e : Event) (used : ℕ) → next_event s b ≡ One e t used → EndAlike (trace s b) (trace t (drop used b))
+unfolding trace
+ends-one s t b e used h =
+    let one = parse_all-step next_event event-uses s b ∙ ap (λ (x : Front State Event). parse_first s b x (λ u rest. parse_all next_event u rest)) h in (
+      ap (λ (r : Parsed State Event). r.state) one,
+      ap (λ (r : Parsed State Event). left_by r.state.core.phase r.rest) one,
+    )
 
 same-state : State → Front State Event → Type 0
 same-state s Stop = Unit {0}
@@ -100,6 +108,7 @@ place-start r c sent new said = record {
   used = omega arith;
   goes = new;
   later = refl;
+  ends = (refl, refl);
   begun = λ h. absurd (omega (arith, h));
   reasons = refl;
   sent = said ∙ sym (append-nil _);
@@ -136,6 +145,8 @@ place-next r p c' out taken x g y f w =
     let first : drop p.position (events r) ≡ y.event ∷ (trace t (drop (p.used + count) r.octets)).events =
     x.later ∙ events-one s t b y.event count comes ∙ ap (λ (q : List ℕ). y.event ∷ (trace t q).events) (drop-drop count p.used r.octets)
     ∙ ap (λ (n : ℕ). y.event ∷ (trace t (drop n r.octets)).events) (omega arith) in
+    let one : EndAlike (trace s b) (trace t (drop (p.used + count) r.octets)) =
+    subst (λ (q : List ℕ). EndAlike (trace s b) (trace t q)) (drop-drop count p.used r.octets) (ends-one s t b y.event count comes) in
     let next : p.position + 1 ≡ suc p.position = omega arith in
     let state' : at r (p.position + 1) ≡ t =
     ap (at r) next ∙ next-state (start r) p.position (events r) _ y.event first ∙ event-state s t b y.event count comes in (
@@ -147,6 +158,7 @@ place-next r p c' out taken x g y f w =
           used = within;
           goes = g ∙ ap (λ (u : State). going u []) (sym state');
           later = next-later p.position (events r) _ y.event first ∙ ap (λ (u : State). (trace u (drop (p.used + count) r.octets)).events) (sym state');
+          ends = subst (λ (u : State). EndAlike (trace u (drop (p.used + count) r.octets)) (trace (start r) r.octets)) (sym state') (sym one.0 ∙ x.ends.0, sym one.1 ∙ x.ends.1);
           begun = λ _. rw state' (comes-past s t b y.event count comes);
           reasons = taken-reasons p.connection.state t b [] out count taken y w ∙ ap (λ (u : State). reasons_of u y.event.item) state ∙ sym (ap (reasons_at r) next ∙ next-reasons (start r) p.position (events r) _ y.event first);
           sent = y.sent ∙ ap frames_octets (sym (ap (frames_at r) next ∙ next-sent _ p.position (events r) _ y.event first));
@@ -209,6 +221,7 @@ place-counted r p count few x = record {
   used = x.used;
   goes = x.goes;
   later = x.later;
+  ends = x.ends;
   begun = x.begun;
   reasons = x.reasons;
   sent = x.sent;

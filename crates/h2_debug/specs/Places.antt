@@ -1,5 +1,5 @@
 -- Places in the run of a new connection over octets.
-use Rattle.std.specs.Prelude.{◌≡◌, ℕ, ◌+◌, ◌*◌, ◌<◌, ◌≤◌, Bool, true, false, List, [], ◌∷◌, length, drop, Option}
+use Rattle.std.specs.Prelude.{◌≡◌, ℕ, ◌+◌, ◌++◌, ◌*◌, ◌<◌, ◌≤◌, Bool, true, false, List, [], ◌∷◌, length, drop, Option}
 use Rattle.h2_spec.specs.declared.causes.Cause.{Cause}
 use Rattle.h2_spec.specs.declared.connection.Config.{Config}
 use Rattle.h2_spec.specs.declared.ignored.Ignored.{Ignored}
@@ -8,7 +8,7 @@ use Rattle.h2_spec.specs.Texts.Debug.{state_at, sent_at}
 use Rattle.h2_spec.specs.Frames.Frame.{Frame, frames_octets}
 use Rattle.h2_spec.specs.Opening.{opening_settings}
 use Rattle.h2_spec.specs.State.{State, opening}
-use Rattle.h2_spec.specs.Trace.{Event, trace}
+use Rattle.h2_spec.specs.Trace.{Event, Run, trace}
 use Rattle.h2_conn.specs.Connection.{Connection, awaits_preface, going}
 use Rattle.h2_conn.specs.Checkpoint.{IsConsistent, CheckpointView, checkpoint_of}
 use Rattle.h2_conn.specs.Follows.{Follows}
@@ -21,6 +21,10 @@ pub record Source : Type 0 where
   pub book : List Entry
   pub config : Config
   pub octets : List ℕ
+
+-- the same with more octets after those
+abbrev pub longer : List ℕ → Source → Source
+longer more r = record r { octets = r.octets ++ more }
 
 abbrev pub start : Source → State
 start r = opening r.book r.config
@@ -63,7 +67,11 @@ pub record Placed : Type 0 where
   pub reasons : Reasons
   pub sent : List ℕ
 
--- a place of a run: all items to come are those of the run from its state over the octets after it
+-- two runs end in one state, with the same octets left
+abbrev pub EndAlike : Run → Run → Type 0
+EndAlike a b = (a.state ≡ b.state) × (a.rest ≡ b.rest)
+
+-- a place of a run: all items to come are those of the run from its state over the octets after it, which ends as that does
 pub record IsAt (r : Source) (p : Placed) : Type 0 where
   pub within : p.position ≤ end r
   pub counted : p.position ≤ p.used
@@ -71,6 +79,7 @@ pub record IsAt (r : Source) (p : Placed) : Type 0 where
   pub used : p.used ≤ length r.octets
   pub goes : p.connection ≡ going (at r p.position) []
   pub later : drop p.position (events r) ≡ (trace (at r p.position) (drop p.used r.octets)).events
+  pub ends : EndAlike (trace (at r p.position) (drop p.used r.octets)) (trace (start r) r.octets)
   pub begun : 0 < p.position → awaits_preface (at r p.position).core.phase ≡ false
   pub reasons : p.reasons ≡ reasons_at r p.position
   pub sent : p.sent ≡ sent_octets_at r p.position

@@ -13,7 +13,7 @@ ghost use Rattle.std.specs.String.{string_bytes};
 ghost use Rattle.h2_spec.specs.State.{is_allowed};
 ghost use Rattle.h2_debug.specs.Breakpoints.{break_of};
 ghost use Rattle.h2_debug.specs.Debugging as spec;
-ghost use Rattle.h2_debug.specs.Debugging.{farthest_or, moved, moved_by, moved_counting, replay_start};
+ghost use Rattle.h2_debug.specs.Debugging.{farthest_or, fed, moved, moved_by, moved_counting, replay_start};
 ghost use Rattle.h2_debug.specs.Faults.{IsRefused, end_fault, load_fault, start_fault};
 ghost use Rattle.h2_debug.specs.Places.{IsAt, at, cause_at, end, events, ignored_at, sent_octets_at};
 ghost use Rattle.h2_debug.specs.Stops.{IsStop};
@@ -167,6 +167,17 @@ impl<'b, A: Allocator + Copy> Debugger<'b, A> {
             reached: 0,
             replayed: 0,
         })
+    }
+
+    /// Feeds the run more octets, after all that it has. The position and the breakpoints stay. `NoMemory` leaves the
+    /// debugger as it was.
+    pub fn feed(&mut self, more: &[u8]) -> Result<(), DebugFault>
+        ensures ok { OnOk result (self.new ≡ fed more.now self.old) }
+        ensures fault { IfErr result (λ fault. fault ≡ NoMemory) }
+        ensures unchanged { OnErr result (self.new ≡ self.old) }
+    {
+        self.octets.extend_from_slice(more)?;
+        Ok(())
     }
 
     /// A copy of the present place; `AllocError` if it is out of memory.
