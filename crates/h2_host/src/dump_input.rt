@@ -1,6 +1,8 @@
 //! A dump with offsets as the input of `explain FILE` and `debug --in FILE`: its octets are read, without the offsets
 //! before them and the text beside them, where no others can be meant.
 
+ghost use Rattle.std.specs.Prelude.{◌≤◌};
+
 use std::alloc::{AllocError, Global};
 
 /// How many digits the octets of a line have at most.
@@ -40,7 +42,10 @@ fn add_octets(line: &str, is_marked: bool, digits: &mut Vec<u8>) -> Result<bool,
 }
 
 /// Appends the digits of a line whose offset, in this base, has to be the number of octets so far; says whether it is.
-fn add_line(line: &str, base: u32, digits: &mut Vec<u8>) -> Result<bool, AllocError> {
+fn add_line(line: &str, base: u32, digits: &mut Vec<u8>) -> Result<bool, AllocError>
+    requires lower { 2 ≤ base }
+    requires upper { base ≤ 36 }
+{
     let (word, octets) = match line.split_once(' ') {
         Some((word, octets)) => (word, octets.trim_start()),
         None => (line, ""),
@@ -58,7 +63,10 @@ fn add_line(line: &str, base: u32, digits: &mut Vec<u8>) -> Result<bool, AllocEr
 }
 
 /// The octets of a dump with offsets in this base, as hex; `None` where a text is none.
-fn dump_in(alloc: Global, text: &str, base: u32) -> Result<Option<Vec<u8>>, AllocError> {
+fn dump_in(alloc: Global, text: &str, base: u32) -> Result<Option<Vec<u8>>, AllocError>
+    requires lower { 2 ≤ base }
+    requires upper { base ≤ 36 }
+{
     let mut digits = Vec::new(alloc);
     let mut count = 0usize;
     for line in text.lines() {
