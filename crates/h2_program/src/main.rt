@@ -31,7 +31,6 @@ fn serve_kept<'t, 'c, W: Write, K: Keeper>(
     let mut errors = IntoWrite::new(&mut stderr);
     let mut noted = Noted::new(&mut errors);
     let mut looked = ServerOutput::new(rt.alloc(), output, rt.stderr(), !plan.book.why, times);
-    let mut written = IntoWrite::new(&mut looked);
     let mut port = TcpPort::new(rt);
     let status = serve(
         rt.alloc(),
@@ -39,7 +38,7 @@ fn serve_kept<'t, 'c, W: Write, K: Keeper>(
         plan,
         &mut files,
         keeper,
-        &mut written,
+        &mut looked,
         &mut noted,
     );
     (status, noted.is_written())
