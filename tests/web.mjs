@@ -165,7 +165,7 @@ async function inBrowser(chromium) {
     held = said.pop();
     for (const it of said.map(it => JSON.parse(it))) if (it.id && open.has(it.id)) { const [well, badly] = open.get(it.id); open.delete(it.id); it.error ? badly(new Error(it.error.message)) : well(it.result); }
   });
-  const limit = setTimeout(() => browser.kill(), 60_000);
+  const limit = setTimeout(() => browser.kill(), 240_000);
   const ended = new Promise((_, badly) => browser.on("exit", () => { for (const it of open.values()) it[1](new Error("the browser ended")); badly(new Error("the browser ended")); }));
   ended.catch(() => {});
   const ask = (method, params = {}, sessionId = undefined) => new Promise((well, badly) => { open.set(next, [well, badly]); browser.stdio[3].write(JSON.stringify({ id: next++, method, params, sessionId }) + "\0"); });

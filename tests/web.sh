@@ -29,4 +29,4 @@ for name in chromium chromium-browser google-chrome; do
     fi
 done
 [ ${#browser[@]} != 0 ] || echo "web.sh: the page was not opened: no Chromium is installed"
-timeout 300 node "${flags[@]}" tests/web.mjs "$page" "$program" "${browser[@]}" ${PICTURE:+--picture "$PICTURE"} ${INPUTS:+--inputs "$INPUTS"}
+timeout 900 node "${flags[@]}" tests/web.mjs "$page" "$program" "${browser[@]}" ${PICTURE:+--picture "$PICTURE"} ${INPUTS:+--inputs "$INPUTS"}
