@@ -4,18 +4,18 @@ use Rattle.h2_explain_words.specs.Names.{error_name, scope_word}
 use Rattle.h2_spec.specs.declared.causes.Cause.{Cause}
 use Rattle.h2_spec.specs.declared.ignored.Ignored.{Ignored}
 use Rattle.h2_spec.specs.Causes.Cause.{code_of}
-use Rattle.h2_spec.specs.Causes.CauseWords.{cause_client_duty, cause_client_section, cause_name, cause_section, cause_sentence, cause_server_duty}
-use Rattle.h2_spec.specs.Causes.IgnoredWords.{ignored_client_duty, ignored_client_section, ignored_name, ignored_section, ignored_sentence, ignored_server_duty}
+use Rattle.h2_spec.specs.Causes.CauseWords.{cause_name, row_of}
+use Rattle.h2_spec.specs.Causes.IgnoredWords.{ignored_name, reason_row}
 use Rattle.h2_spec.specs.Causes.Rules.{client_words, server_words}
 use Rattle.h2_spec.specs.Texts.Show.{joined}
 
 -- the two lines of an error
 unfoldable pub error_lines : Bool → Cause → List ℕ
-error_lines ended cause = joined (scope_word ended ∷ error_name (code_of cause) ∷ codes ": " ∷ cause_name cause ∷ codes ", " ∷ cause_section cause ∷ codes ", " ∷ server_words (cause_server_duty cause) ∷ codes "; broken: " ∷ client_words (cause_client_duty cause) ∷ codes ", " ∷ cause_client_section cause ∷ codes "\n" ∷ cause_sentence cause ∷ codes "\n" ∷ [])
+error_lines ended cause = joined (scope_word ended ∷ error_name (code_of cause) ∷ codes ": " ∷ cause_name cause ∷ codes ", " ∷ (row_of cause).section ∷ codes ", " ∷ server_words (row_of cause).server ∷ codes "; broken: " ∷ client_words (row_of cause).client ∷ codes ", " ∷ (row_of cause).client_section ∷ codes "\n" ∷ (row_of cause).sentence ∷ codes "\n" ∷ [])
 
 -- the two lines of an item that was ignored
 unfoldable pub ignored_lines : Ignored → List ℕ
-ignored_lines reason = joined (codes "ignored: " ∷ ignored_name reason ∷ codes ", " ∷ ignored_section reason ∷ codes ", " ∷ server_words (ignored_server_duty reason) ∷ codes "; broken: " ∷ client_words (ignored_client_duty reason) ∷ codes ", " ∷ ignored_client_section reason ∷ codes "\n" ∷ ignored_sentence reason ∷ codes "\n" ∷ [])
+ignored_lines reason = joined (codes "ignored: " ∷ ignored_name reason ∷ codes ", " ∷ (reason_row reason).section ∷ codes ", " ∷ server_words (reason_row reason).server ∷ codes "; broken: " ∷ client_words (reason_row reason).client ∷ codes ", " ∷ (reason_row reason).client_section ∷ codes "\n" ∷ (reason_row reason).sentence ∷ codes "\n" ∷ [])
 
 -- why an item was ignored, or that it was no error
 abbrev pub reason_lines : Option Ignored → List ℕ

@@ -22,25 +22,26 @@ impl Text for WhyError {
 
     fn write_to<O: Output>(&self, output: &mut O) -> Result<(), DeviceFault> {
         let cause = self.cause;
+        let row = cause.row();
         let scope = scope_word(self.has_ended);
         let code = error_name(cause.code());
         texts!(
             scope,
             code,
             ": ",
-            cause.name(),
+            row.name,
             ", ",
-            cause.section(),
+            row.section,
             ", ",
-            cause.server_duty().words(),
+            row.duties.server.words(),
             "; broken: ",
-            cause.client_duty().words(),
+            row.duties.client.words(),
             ", ",
-            cause.client_section(),
+            row.client_section,
             "\n"
         )
         .write_to(output)?;
-        texts!(cause.sentence(), "\n").write_to(output)
+        texts!(row.sentence, "\n").write_to(output)
     }
 }
 
@@ -54,21 +55,22 @@ impl Text for WhyIgnored {
 
     fn write_to<O: Output>(&self, output: &mut O) -> Result<(), DeviceFault> {
         let reason = self.0;
+        let row = reason.row();
         texts!(
             "ignored: ",
-            reason.name(),
+            row.name,
             ", ",
-            reason.section(),
+            row.section,
             ", ",
-            reason.server_duty().words(),
+            row.duties.server.words(),
             "; broken: ",
-            reason.client_duty().words(),
+            row.duties.client.words(),
             ", ",
-            reason.client_section(),
+            row.client_section,
             "\n"
         )
         .write_to(output)?;
-        texts!(reason.sentence(), "\n").write_to(output)
+        texts!(row.sentence, "\n").write_to(output)
     }
 }
 
