@@ -134,7 +134,7 @@ fn push_told_line(alloc: Global, line: &[u8], out: &mut Vec<u8>) -> Result<(), A
     }
     out.extend_from_slice(b";< ".as_slice())?;
     push_short_line(alloc, line, out)?;
-    out.push(b'\n')
+    out.extend_from_slice(b"\n".as_slice())
 }
 
 /// Appends such lines for the lines of a text.

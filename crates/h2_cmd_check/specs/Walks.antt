@@ -106,7 +106,7 @@ pub record Commands (given : Given) (line : List ℕ) (fault : Option ℕ) (w w'
   pub debugger : w'.debugger ≡ Present (answered (debugger_for given w) line).after
   pub refused : is_some fault ≡ is_refusal (answered (debugger_for given w) line).text
 
--- the next frame that was sent was compared with one that is wanted: it has so many octets, if it is that one
+-- the next frame that was sent was compared with one that is wanted: it has that many octets, if it is that one
 pub record Compares (next : Option ℕ) (w w' : Walk) : Type 0 where
   pub found : w'.holds ≡ (w.holds && is_some next)
   pub octets : w'.octets ≡ w.octets
@@ -152,7 +152,7 @@ pub record Lets (w w' : Walk) : Type 0 where
   pub speaks : w'.speaks ≡ false
   pub spoken : w'.spoken ≡ (if not w.speaks && is_none w.octets.items then length (sent_here w) else w.spoken)
 
--- a line that says that a frame is sent stays, where it is the next one, which has so many octets; its line is this
+-- a line that says that a frame is sent stays, where it is the next one, which has that many octets; its line is this
 pub record KeepsFrame (line : List ℕ) (wanted : Option (List ℕ)) (next : Option ℕ) (w w' : Walk) (g g' : Growing) : Type 0 where
   pub octets : w'.octets ≡ w.octets
   pub at : w'.at ≡ w.at

@@ -616,7 +616,7 @@ impl<'t, 'b> Walk<'t, 'b> {
     }
 
     /// Compares DATA with the next frame that was sent, by its length and its sum. Any other line is no line of a script, of
-    /// this kind; it stands for that frame.
+    /// this kind; it counts as that frame.
     fn compare_summary(
         &mut self,
         alloc: Global,
