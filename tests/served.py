@@ -7,6 +7,7 @@ It needs nothing but Python. The last line is `N passed, M failed`; the status i
 """
 
 import errno
+import hashlib
 import json
 import os
 import re
@@ -463,6 +464,21 @@ def a_record_is_a_case(program):
         yield text_of(f"{directory}/connection-2.h2").splitlines(), wanted
 
 
+def a_long_body_is_recorded_by_its_sum(program):
+    """DATA of more than 100 octets is written by the length of its payload and the SHA-256 of that; the case is short, and holds."""
+    with tempfile.TemporaryDirectory() as directory:
+        octets = START + script.octets("HEADERS 05 1 hi2,i6,i4") + script.octets('HEADERS 05 3 hi2,i6,n4="/short"')
+        with Server(program, 1, "--record", directory, "GET|/|200|" + 16484 * "61", "GET|/short|200|" + 100 * "62") as server:
+            server.line()
+            read_all(client(server.port, octets, ends=True))
+            yield server.ended()[1], 0
+        case = f"{directory}/connection-1.h2"
+        data = [line for line in text_of(case).splitlines() if line.startswith(";< DATA")]
+        summary = ";< DATA 00 1 length 16384 sha256 " + hashlib.sha256(16384 * b"a").hexdigest()
+        yield data, [summary, ";< DATA 01 1 x" + 100 * "61", ";< DATA 01 3 x" + 100 * "62"]
+        yield checked(program, case), [f"ok 1 - {case}: connection 1", "1..1"]
+
+
 def a_server_that_is_killed_leaves_a_record(program):
     """What was shown of an item is in the files already, and they can be read."""
     with tempfile.TemporaryDirectory() as directory:
@@ -552,6 +568,7 @@ TESTS = [
     an_upload_that_reads_nothing_is_warned_of,
     a_book_is_named_from_the_record,
     a_record_is_a_case,
+    a_long_body_is_recorded_by_its_sum,
     a_server_that_is_killed_leaves_a_record,
     a_full_disk_ends_the_record_only,
     a_directory_that_is_not_there_is_refused,
