@@ -1,5 +1,5 @@
 -- How a server ends that explains its connections.
-use Rattle.std.proofs.Common.{◌≡◌, ◌⊎◌, ℕ, Bool, false, List, [], ◌∷◌, ◌++◌, Option, Result, Ok, Err, IfErr, IfOk, OnErr, refl, if◌then◌else◌, inl, inr, subst, sym, true}
+use Rattle.std.proofs.Common.{◌≡◌, ◌⊎◌, ℕ, Bool, false, List, [], ◌∷◌, Option, Result, Ok, Err, IfErr, IfOk, OnErr, refl, if◌then◌else◌, inl, inr, subst, sym, true}
 use Rattle.h2_spec.specs.Requests.Answer.{Entry}
 use Rattle.h2_spec.specs.State.{is_allowed}
 use Rattle.h2_spec.specs.declared.connection.Config.{Config}

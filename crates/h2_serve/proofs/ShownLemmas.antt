@@ -1,5 +1,5 @@
 -- What is printed of connections that are explained, one after another.
-use Rattle.std.proofs.Common.{◌≡◌, ◌<◌, ◌≤◌, ◌⊎◌, inr, ◌∙◌, ℕ, zero, suc, ◌+◌, Bool, true, false, List, [], ◌∷◌, ◌++◌, length, Option, Some, None, is_none, Result, Ok, Err, IfErr, IfOk, refl, sym, ap, subst, arith, append_assoc}
+use Rattle.std.proofs.Common.{◌≡◌, ◌<◌, ◌≤◌, ◌⊎◌, inr, ◌∙◌, ℕ, zero, suc, ◌+◌, Bool, true, false, List, [], ◌∷◌, ◌++◌, length, Option, Some, is_none, Result, Ok, Err, IfErr, IfOk, refl, sym, ap, subst, arith, append_assoc}
 use Rattle.std.proofs.lemmas.Bool.{false≢true}
 use Rattle.std.proofs.lemmas.List.{append-nil}
 use Rattle.std.specs.Io.KnownBytes.{Appends}
@@ -8,7 +8,7 @@ use Rattle.h2_serve.specs.declared.driving.drive_fault.DriveEnd.{DriveEnd}
 use Rattle.h2_serve.specs.declared.driving.drive_fault.DriveFault.{DriveFault}
 use Rattle.h2_explain.specs.declared.run.Form.{Form}
 use Rattle.h2_explain.specs.declared.run.Summary.{Summary}
-use Rattle.h2_serve.specs.Faults.{faults_limits, is_of_printing, is_write, not_written}
+use Rattle.h2_serve.specs.Faults.{faults_limits, is_of_printing, not_written}
 use Rattle.h2_serve.specs.Lines.{end_line, listening_line, open_line}
 use Rattle.h2_serve.specs.Numbered.{prefix_of, prefixed}
 use Rattle.h2_serve.specs.Drives.{HasRead, is_out_of_memory}

@@ -1,6 +1,6 @@
 -- What a server prints of connections that are explained, where the octets that its output holds are known; and the
 -- verdict on their clients.
-use Rattle.std.specs.Prelude.{◌≡◌, ◌<◌, ℕ, zero, suc, ◌+◌, ◌++◌, Bool, ◌||◌, if◌then◌else◌, true, false, List, [], ◌∷◌, Option, Some, None, is_none, is_some, Result, Ok, Err, IfErr}
+use Rattle.std.specs.Prelude.{◌≡◌, ◌<◌, ℕ, zero, suc, ◌+◌, ◌++◌, Bool, ◌||◌, if◌then◌else◌, true, false, List, [], ◌∷◌, Option, Some, None, is_none, is_some, Result, Ok, Err}
 use Rattle.h2_serve.specs.Drives.{is_out_of_memory}
 use Rattle.h2_serve.specs.Wires.{grown}
 use Rattle.h2_serve.specs.declared.driving.drive_fault.DriveEnd.{DriveEnd}

@@ -99,7 +99,7 @@ fn serve_next<L: Listener, O: Output>(
 /// - `connection K end goaway CODE`: a connection error ended the connection (RFC 9113, 5.4.1).
 /// - `connection K fault N`: the connection could not be driven to its end; N is the number of a `DriveFault`.
 ///
-/// The first connection is 1. Each line is flushed. Whatever a client does ends its own connection only. A client
+/// The last call of the output must not have failed. The first connection is 1. Each line is flushed. Whatever a client does ends its own connection only. A client
 /// that sends nothing and stays connected blocks the next one: there is no timeout.
 ///
 /// # Errors

@@ -38,7 +38,7 @@ pub struct ClientEnd {
 
 /// Drives a connection over a wire to its end, in at most `turns` turns, and prints what `explain` says of the octets
 /// that are read, after each read, each line after the number of the connection. What is written to the wire is what
-/// `drive` writes.
+/// `drive` writes. The last call of the wire and that of the output must not have failed.
 ///
 /// # Errors
 ///

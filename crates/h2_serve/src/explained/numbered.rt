@@ -1,7 +1,7 @@
 //! The texts of a connection that is served, each line after the connection's number.
 //! Definitions: `specs/Numbered.antt`.
 
-ghost use Rattle.std.specs.Prelude.{◌≡◌, ◌⊎◌, ◌++◌, true, false, None, Some, OnOk, IfOk};
+ghost use Rattle.std.specs.Prelude.{◌≡◌, ◌⊎◌, ◌++◌, true, None, Some, OnOk, IfOk};
 ghost use Rattle.std.specs.Io.KnownBytes.{Appends};
 ghost use Rattle.h2_serve.specs.Faults.{failed_by};
 ghost use Rattle.h2_serve.specs.Numbered.{Grows, PrintsPrefixed, fresh_after, gathered_text, prefix_of, prefixed, prefixed_octet};
