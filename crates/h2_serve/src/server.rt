@@ -74,7 +74,8 @@ fn serve_next<L: Listener, O: Output>(
 ) -> Result<(), ServeFault>
     requires allowed { is_allowed config ≡ true }
     requires writer { O.has_failed output.old ≡ false }
-    ensures lines { AcceptsAs (start_of book.now config) number (O.written output.old) (O.written output.new) (L.events listener.old) (L.events listener.new) result }
+    ensures lines { AcceptsAs (start_of book.now config) number (O.written output.old) (O.written output.new)
+        (L.events listener.old) (L.events listener.new) result }
     ensures wires { HandlesSome (start_of book.now config) 1 (L.events listener.old) (L.events listener.new) }
     ensures flag { O.has_failed output.new ≡ not_written result }
     ensures name { O.name output.new ≡ O.name output.old }
@@ -99,8 +100,9 @@ fn serve_next<L: Listener, O: Output>(
 /// - `connection K end goaway CODE`: a connection error ended the connection (RFC 9113, 5.4.1).
 /// - `connection K fault N`: the connection could not be driven to its end; N is the number of a `DriveFault`.
 ///
-/// The last call of the output must not have failed. The first connection is 1. Each line is flushed. Whatever a client does ends its own connection only. A client
-/// that sends nothing and stays connected blocks the next one: there is no timeout.
+/// The last call of the output must not have failed. The first connection is 1. Each line is flushed. Whatever a client
+/// does ends its own connection only. A client that sends nothing and stays connected blocks the next one: there is no
+/// timeout.
 ///
 /// # Errors
 ///

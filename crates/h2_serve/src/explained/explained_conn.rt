@@ -122,8 +122,8 @@ impl<'b, 'o, O: Output, K: Keeper> ExplainedConn<'b, 'o, O, K> {
         requires ready { IsWatched self.old.failed self.old.conn self.old.explanation self.old.came }
         requires flag { O.has_failed self.old.printer.output.now ≡ failed_by self.old.printer.fault }
         ensures ended { Concludes self.old.failed result self.old.conn self.old.explanation
-            (λ more. PrintsPrefixed self.old.printer.prefix.items self.old.printer.json self.old.printer.fresh self.old.printer.fault (O.written self.old.printer.output.now)
-            more self.new.printer.fresh self.new.printer.fault (O.written self.new.printer.output.now)) }
+            (λ more. PrintsPrefixed self.old.printer.prefix.items self.old.printer.json self.old.printer.fresh self.old.printer.fault
+            (O.written self.old.printer.output.now) more self.new.printer.fresh self.new.printer.fault (O.written self.new.printer.output.now)) }
         ensures flag { O.has_failed self.new.printer.output.now ≡ failed_by self.new.printer.fault }
         ensures grows { Grows self.old.printer.fault self.new.printer.fault (O.written self.old.printer.output.now) (O.written self.new.printer.output.now) }
         ensures lost { is_none result.summary ≡ self.old.failed }
