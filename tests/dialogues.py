@@ -37,8 +37,8 @@ END_STREAM, ACK, END_HEADERS, PADDED, HAS_PRIORITY = 0x01, 0x01, 0x04, 0x08, 0x2
 ANSWERS = ["GET|/|200|6869", "GET|/1|200|6f6e65", "GET|/2|200|74776f", "POST|/p|201|6f6b"]
 # The payload of the PING behind the octets of a step.
 PROBE = b"h2_bench"
-# More of a client is not read.
-MOST_OCTETS = 16 << 20
+# More of a client is not read, and no server of these takes a longer payload.
+MOST_OCTETS, MOST_PAYLOAD = 16 << 20, 65536
 TOP = os.path.dirname(os.path.dirname(os.path.abspath(__file__)))
 
 Frame = collections.namedtuple("Frame", "kind flags stream payload")
@@ -103,7 +103,7 @@ def fragment_of(frame):
     octets = frame.payload
     if frame.kind == HEADERS:
         if frame.flags & PADDED:
-            octets = octets[1:len(octets) - octets[0]]
+            octets = octets[1:len(octets) - (octets or b"\0")[0]]
         if frame.flags & HAS_PRIORITY:
             octets = octets[5:]
     return octets
@@ -243,20 +243,28 @@ class Bench:
     """`serve` for one connection. `take` gives it an item of the client and returns what it sends for it: all up to the answer to a PING that goes behind the item."""
 
     def __init__(self, program, words):
-        answers = [] if any("|" in word for word in words) else ANSWERS
-        with socket.socket() as one:
-            one.bind(("127.0.0.1", 0))
-            port = str(one.getsockname()[1])
-        command = ["h2_bench", "serve", "--json", "--errors", "--quiet", *words, port, "1", *answers]
-        self.process = subprocess.Popen(command, executable=program, stdin=subprocess.DEVNULL, stdout=subprocess.PIPE, text=True, errors="replace")
-        if not self.process.stdout.readline().startswith("listening"):
-            raise OSError("serve does not listen")
+        for _ in range(20):
+            port = self.start(program, words)
+            # Another process may have taken the port meanwhile.
+            if self.process.stdout.readline().startswith("listening"):
+                break
+            self.process.wait()
         self.lines = []
         self.reader = threading.Thread(target=lambda: self.lines.extend(self.process.stdout), daemon=True)
         self.reader.start()
-        self.socket = socket.create_connection(("127.0.0.1", int(port)), 10)
+        self.socket = socket.create_connection(("127.0.0.1", port), 10)
         self.socket.setsockopt(socket.IPPROTO_TCP, socket.TCP_NODELAY, 1)
         self.inbox, self.questions, self.in_block, self.has_ended = b"", 0, False, False
+
+    def start(self, program, words):
+        """Starts it at a port that is free, and returns the port."""
+        with socket.socket() as one:
+            one.bind(("127.0.0.1", 0))
+            port = one.getsockname()[1]
+        answers = [] if any("|" in word for word in words) else ANSWERS
+        command = ["h2_bench", "serve", "--json", "--errors", "--quiet", *words, str(port), "1", *answers]
+        self.process = subprocess.Popen(command, executable=program, stdin=subprocess.DEVNULL, stdout=subprocess.PIPE, text=True, errors="replace")
+        return port
 
     def receive(self):
         """Reads once; without effect where the server has ended the connection."""
@@ -323,13 +331,13 @@ class Bench:
 
 
 class Connection:
-    """A client's connection. `log` has in order: ("item", frame) of the client, ("sent", frame), ("step", its number), and ("end", how it ended)."""
+    """A client's connection. `log` has in order: ("item", frame) of the client, ("sent", frame) to it, ("step", its number), ("end", how it ended)."""
 
     def __init__(self, client, steps, words, options):
         self.client, self.steps, self.options = client, steps, options
         self.bench = Bench(options.program, words)
         self.log, self.at, self.base, self.inbox, self.octets = [], 0, None, b"", 0
-        self.has_preface, self.client_ended, self.cause = False, False, None
+        self.has_preface, self.client_ended, self.cause, self.ended = False, False, None, None
         self.until = time.monotonic() + options.limit
 
     # What goes out for an item.
@@ -421,8 +429,8 @@ class Connection:
         if not self.has_preface and not PREFACE.startswith(front):
             return f"octets that are no frames: {ascii(front.decode('latin1'))}"
         length = int.from_bytes(self.inbox[:3], "big")
-        if self.has_preface and len(self.inbox) >= 9 and length > MOST_OCTETS // 4:
-            return f"octets that are no frames: {self.inbox[:9].hex()}"
+        if self.has_preface and length > MOST_PAYLOAD:
+            return f"octets that are no frames, or a frame of {length} octets: {self.inbox[:9].hex()}"
         if self.octets > MOST_OCTETS:
             return f"the client has sent more than {MOST_OCTETS} octets"
         if time.monotonic() > self.until:
@@ -442,6 +450,8 @@ class Connection:
                 return "closed"
             if self.fault():
                 return self.fault()
+            if self.bench.has_ended:
+                return "ended by the server"
             had = len(self.inbox)
             out = self.taken()
             if out or len(self.inbox) != had:
@@ -459,6 +469,7 @@ class Connection:
             ended = f"the connection failed: {error}"
         self.cause = self.bench.end()
         self.log.append(("end", ended))
+        self.ended = ended
         self.client.close()
 
 
@@ -495,20 +506,20 @@ def waits(log):
     return bool(asked - ended)
 
 
-def reaction_to(connection, number):
+def reaction_to(connection, number, wanted):
     """What the client did with the octets of a step, from there to the end of the connection: the first GOAWAY with an error, or else the first reset of a stream, or else
-    whether it left with a request unanswered. What it resets by NO_ERROR or CANCEL once the PING is answered it gives up at its own end."""
+    whether it left with a request unanswered. Where it has to go on, a reset by NO_ERROR or CANCEL after the answer to the PING is none: it gives up a stream at its end."""
     log, is_alive, resets = after(connection.log, number), False, []
     for frame in of_client(log):
         if frame.kind == GOAWAY and len(frame.payload) >= 8 and number_at(frame.payload, 4):
             return Reaction("connection", 0, number_at(frame.payload, 4))
-        if frame.kind == RST_STREAM and len(frame.payload) == 4 and not (is_alive and number_at(frame.payload, 0) in (0, 8)):
+        gives_up = wanted.scope == "-" and is_alive and number_at(frame.payload, 0) in (0, 8)
+        if frame.kind == RST_STREAM and len(frame.payload) == 4 and not gives_up:
             resets.append(Reaction("stream", frame.stream - (connection.base or 0), number_at(frame.payload, 0)))
         is_alive = is_alive or frame == Frame(PING, ACK, 0, PROBE)
     if resets:
         return resets[0]
-    ended = connection.log[-1][1]
-    if ended == "closed":
+    if connection.ended == "closed":
         goes_on = any(kind == "step" for kind, _ in log) or not waits(connection.log)
         return GOES_ON if goes_on else CLOSED
     return GOES_ON if is_alive else SILENT
@@ -516,9 +527,11 @@ def reaction_to(connection, number):
 
 # ---- verdicts
 
-# What a dialogue found: `same`, or a note of what is allowed beside it; `open`, where the RFC's sentences disagree; `broken` otherwise. Of `broken` the line, what it wants
-# and what was found.
+# The kind of a verdict, the line, what it wants and what was found. `same`: that. `allowed`: something else that the RFC allows. `lingers`: a note too, since a runner has
+# only its patience to say so. `open`: the RFC leaves it open, or the code is neither named nor generic. WRONG: `broken` on the wire, `user`: the exit status of the command,
+# `missing`: the client never sent the item of a step.
 Verdict = collections.namedtuple("Verdict", "kind line wanted found")
+WRONG = ("broken", "user", "missing")
 
 
 def same():
@@ -544,7 +557,7 @@ def judged(wanted, reaction, fails):
         if CODES[reaction.code:reaction.code + 1] in (["PROTOCOL_ERROR"], ["INTERNAL_ERROR"]):
             return allowed("a generic code, 5.4")
         return missed._replace(kind="open" if wanted.duty == "MUST" else missed.kind)
-    if wanted.scope == "stream" and fails:
+    if wanted.scope == "stream" and reaction == GOES_ON and fails:
         return allowed("nothing was sent, and the command fails")
     return missed
 
@@ -569,13 +582,13 @@ class Limits:
         self.waiting, self.frame, self.streams, self.live, self.faults, self.highest = [], 16384, None, set(), [], 0
 
     def highest_of(self, number, in_force):
-        values = [in_force] + [value for pairs in self.waiting for name, value in pairs if name == number]
+        values = [in_force] + [value for _, pairs in self.waiting for name, value in pairs if name == number]
         return None if None in values else max(values)
 
-    def sent(self, frame):
+    def sent(self, at, frame):
         stream = frame.stream & ~(1 << 31)
         if frame.kind == SETTINGS and not frame.flags & ACK and stream == 0 and len(frame.payload) % 6 == 0:
-            self.waiting.append(settings_of(frame))
+            self.waiting.append((at, settings_of(frame)))
         if frame.kind in (DATA, HEADERS) and frame.flags & END_STREAM or frame.kind == RST_STREAM:
             self.live.discard(stream)
 
@@ -583,7 +596,7 @@ class Limits:
         if not self.waiting:
             self.faults.append("SETTINGS ACK without SETTINGS")
             return
-        for name, value in self.waiting.pop(0):
+        for name, value in self.waiting.pop(0)[1]:
             self.streams = value if name == 3 else self.streams
             self.frame = value if name == 5 else self.frame
 
@@ -603,33 +616,28 @@ class Limits:
             self.live.add(frame.stream)
 
 
-def limits_verdict(connection):
-    """Whether the client kept to the limits, and acknowledged each SETTINGS frame: judged where it went on to the answer to the last PING."""
-    limits = Limits()
-    for kind, what in connection.log:
+def limits_faults(connection):
+    """What a client that goes on has done against the limits; and whether it has acknowledged each SETTINGS frame that it got before the last PING that it answered."""
+    limits, answered = Limits(), 0
+    for at, (kind, what) in enumerate(connection.log):
         if kind == "sent":
-            limits.sent(what)
+            limits.sent(at, what)
         elif kind == "item":
             limits.took(what)
-    probes = [at for at, entry in enumerate(connection.log) if entry == ("item", Frame(PING, ACK, 0, PROBE))]
-    if limits.waiting and probes and not limits.faults:
-        sent = sum(1 for kind, frame in connection.log[:probes[-1]] if kind == "sent" and frame.kind == SETTINGS and not frame.flags & ACK)
-        got = sum(1 for frame in of_client(connection.log) if frame.kind == SETTINGS and frame.flags & ACK)
-        limits.faults += [f"{got} of {sent} SETTINGS frames acknowledged"] if got < sent - 1 else []
-    return limits.faults[:1]
+            answered = at if what == Frame(PING, ACK, 0, PROBE) else answered
+    late = sum(1 for at, _ in limits.waiting if at < answered)
+    return limits.faults + ([f"{late} SETTINGS frames are not acknowledged"] if late else [])
 
 
 def verdicts_of_steps(dialogue, connection, fails):
     """A verdict for each step, up to the first that the client did not go on from."""
     for number, step in enumerate(dialogue.steps, 1):
         if ("step", number) not in connection.log:
-            ended = connection.log[-1][1]
-            cause = f"the server ended the connection: {connection.cause}" if connection.cause else f"no such item came; {ended}"
-            yield Verdict("broken", step.line, f"{step.text}", cause)
+            yield Verdict("missing", step.line, step.text, f"no such item came; {connection.ended}")
             return
         if not step.wanted:
             continue
-        reaction = reaction_to(connection, number)
+        reaction = reaction_to(connection, number, step.wanted)
         verdict = judged(step.wanted, reaction, fails)
         for line in step.sends if verdict.kind == "same" else []:
             found = sends_verdict(connection, number, line)
@@ -638,9 +646,8 @@ def verdicts_of_steps(dialogue, connection, fails):
         yield verdict
         if reaction != GOES_ON or verdict.kind == "broken":
             return
-    if not dialogue.steps or reaction_to(connection, len(dialogue.steps)) == GOES_ON:
-        for fault in limits_verdict(connection):
-            yield Verdict("broken", dialogue.line, "the limits of SETTINGS", fault)
+    for fault in limits_faults(connection)[:1]:
+        yield Verdict("broken", dialogue.line, "the limits of SETTINGS", fault)
 
 
 def verdicts_of_status(dialogue, status):
@@ -657,13 +664,14 @@ def verdicts(dialogue, connections, status):
     """All verdicts on a dialogue that are not `same`."""
     if not connections:
         return [Verdict("broken", dialogue.line, "a connection", f"no connection came; exit status {status}" if status is not None else "no connection came")]
-    connection, ended = connections[0], connections[0].log[-1][1]
-    fails = status not in (None, "killed", 0)
-    found = [*verdicts_of_steps(dialogue, connection, fails), *verdicts_of_status(dialogue, status)]
+    connection, ended = connections[0], connections[0].ended
+    statuses = list(verdicts_of_status(dialogue, status))
+    if ended == "ended by the server":
+        # Its error ends the dialogue: the script may have granted what the words of ;@ do not.
+        return [Verdict("broken", dialogue.line, "a client that the server goes on with", f"{ended}: {connection.cause}"), *statuses]
+    found = [*verdicts_of_steps(dialogue, connection, status not in (None, "killed", 0)), *statuses]
     if ended not in ("closed", "silent"):
         found.insert(0, Verdict("broken", dialogue.line, "frames of a client, and their end", ended))
-    elif connection.cause and not any(one.kind == "broken" for one in found):
-        found.append(Verdict("broken", dialogue.line, "a lawful client", f"the server ended the connection: {connection.cause}"))
     if ended == "silent" and any(frame.kind == GOAWAY and number_at(frame.payload, 4) for frame in of_client(connection.log)):
         found.append(Verdict("lingers", dialogue.line, "the connection ends after GOAWAY with an error (5.4.1)", f"open after {connection.options.patience:g} s"))
     return [one for one in found if one.kind != "same"]
@@ -704,27 +712,36 @@ def run_command(command, limit):
         return "killed", process.communicate()[0]
 
 
-def play(dialogue, command, port, options):
-    """Plays a dialogue, and returns its connections and the status of the command."""
+def play(dialogue, port, options, run):
+    """Serves a dialogue at a port while `run` runs, which gets the port and the connections so far; returns the connections and what `run` returns."""
     connections, stop, listener = [], threading.Event(), listener_at(port)
     server = threading.Thread(target=accept_all, args=(listener, dialogue, options, connections, stop), daemon=True)
     server.start()
-    status = None
-    if command:
-        status = run_command(command, options.limit + options.patience)[0]
-    else:
-        until = time.monotonic() + options.limit
-        while not (connections and connections[0].log and connections[0].log[-1][0] == "end") and (connections or time.monotonic() < until):
-            time.sleep(0.02)
-    stop.set()
-    server.join()
-    listener.close()
+    try:
+        status = run(listener.getsockname()[1], connections)
+    finally:
+        stop.set()
+        server.join()
+        listener.close()
     return connections, status
+
+
+def runner(options):
+    """What makes the client's requests: the command, or somebody else while this waits for the end of the first connection."""
+
+    def wait(_, connections):
+        until = time.monotonic() + options.limit
+        while not connections and time.monotonic() < until:
+            time.sleep(0.02)
+        while connections and not connections[0].ended:
+            time.sleep(0.02)
+
+    return (lambda *_: run_command(options.command, options.limit + options.patience)[0]) if options.command else wait
 
 
 def tap(number, path, dialogue, found):
     """The lines of a verdict."""
-    wrong = [one for one in found if one.kind in ("broken", "user")]
+    wrong = [one for one in found if one.kind in WRONG]
     doubts = [one for one in found if one.kind == "open"]
     name = f"{number} - {path}: {dialogue.title}".replace("\\", "\\\\").replace("#", "\\#")
     if not wrong and not doubts:
@@ -770,8 +787,8 @@ def main(words):
     for number, dialogue in chosen:
         if not options.command:
             print(f"# listening {options.port}", flush=True)
-        found = verdicts(dialogue, *play(dialogue, options.command, options.port, options))
-        is_well = is_well and all(one.kind not in ("broken", "user") for one in found)
+        found = verdicts(dialogue, *play(dialogue, options.port, options, runner(options)))
+        is_well = is_well and all(one.kind not in WRONG for one in found)
         print(*tap(number, options.file, dialogue, found), sep="\n", flush=True)
     print(f"1..{len(chosen)}")
     return 0 if is_well else 1
