@@ -62,7 +62,7 @@ class Step:
     def __init__(self, line, text):
         self.line, self.text, self.is_instead = line, text[3:], text[1] == "-"
         self.item = item_of(line, self.text)
-        self.frames, self.sends, self.wanted = [], [], None
+        self.frames, self.sends, self.wanted = [], [], []
 
 
 class Dialogue:
@@ -182,7 +182,7 @@ class Reader:
         elif text[1] == "$":
             self.dialogue(number).statuses.append(status_of(number, text[3:]))
         elif text[1] == "!":
-            self.step(number).wanted = wanted_of(number, text[3:])
+            self.step(number).wanted.append(wanted_of(number, text[3:]))
         else:
             self.sends(number, text[3:])
 
@@ -513,7 +513,7 @@ def reaction_to(connection, number, wanted):
     for frame in of_client(log):
         if frame.kind == GOAWAY and len(frame.payload) >= 8 and number_at(frame.payload, 4):
             return Reaction("connection", 0, number_at(frame.payload, 4))
-        gives_up = wanted.scope == "-" and is_alive and number_at(frame.payload, 0) in (0, 8)
+        gives_up = wanted[0].scope == "-" and is_alive and number_at(frame.payload, 0) in (0, 8)
         if frame.kind == RST_STREAM and len(frame.payload) == 4 and not gives_up:
             resets.append(Reaction("stream", frame.stream - (connection.base or 0), number_at(frame.payload, 0)))
         is_alive = is_alive or frame == Frame(PING, ACK, 0, PROBE)
@@ -638,11 +638,12 @@ def verdicts_of_steps(dialogue, connection, fails):
         if not step.wanted:
             continue
         reaction = reaction_to(connection, number, step.wanted)
-        verdict = judged(step.wanted, reaction, fails)
+        # Of several lines `;!` each is right.
+        verdict = min((judged(wanted, reaction, fails) for wanted in step.wanted), key=lambda one: ("same", "allowed", "open", "broken").index(one.kind))
         for line in step.sends if verdict.kind == "same" else []:
             found = sends_verdict(connection, number, line)
             if found:
-                verdict = Verdict("broken" if step.wanted.duty == "MUST" else "allowed", line.line, line.text, found)
+                verdict = Verdict("broken" if step.wanted[0].duty == "MUST" else "allowed", line.line, line.text, found)
         yield verdict
         if reaction != GOES_ON or verdict.kind == "broken":
             return

@@ -47,7 +47,7 @@ class Client:
     `reaction` gets the number of the PING and what the dialogue wants there, and returns that or something else: (`-`, `connection CODE`, `stream N CODE`, ..)."""
 
     def __init__(self, dialogue, kind, reaction, first=1, acknowledgements=1):
-        self.wanted = [step.wanted for step in dialogue.steps if step.wanted]
+        self.wanted = [step.wanted[0] for step in dialogue.steps if step.wanted]
         self.kind, self.reaction, self.first, self.acknowledgements = kind, reaction, first, acknowledgements
         self.closed, self.failed = set(), False
         self.probes, self.has_left, self.ended, self.opened, self.streams, self.table, self.has_goaway, self.acknowledged = 0, False, set(), 0, 100, b"", False, 0
@@ -182,7 +182,7 @@ def for_all(dialogues, reaction, status, how=None):
 
 
 def duties(dialogue):
-    return [(step.wanted.duty, step.wanted.scope) for step in dialogue.steps if step.wanted]
+    return [(step.wanted[0].duty, step.wanted[0].scope) for step in dialogue.steps if step.wanted]
 
 
 def test_all(dialogues):
@@ -222,6 +222,7 @@ def test_rules(text, name):
 ERROR = ";# An error\n;- HEADERS 05 1\nDATA 00 0 x61\n;! MUST connection PROTOCOL_ERROR\n;+ pong\nHEADERS 05 1 hi8\n"
 STREAM = ";# A stream error\n;- HEADERS 05 1\nHEADERS 04 1 hi8,i8\n;! MUST stream 1 PROTOCOL_ERROR\n;+ pong\nDATA 01 1 x61\n;$ !0\n"
 TWO = ";# A stream error beside a request\n;- HEADERS 05 1\n;- HEADERS 05 3\nHEADERS 04 1 hi8,i8\n;! MUST stream 1 PROTOCOL_ERROR\n"
+EITHER = STREAM.replace(";+ pong", ";! MUST connection COMPRESSION_ERROR\n;+ pong").replace(";$ !0\n", "")
 LAWFUL = ";# Lawful\n;- HEADERS 05 1\nSETTINGS 00 0 s3=5\n;< SETTINGS 01 0 -\n;! MUST -\n;+ pong\nHEADERS 05 1 hi8\n;$ 0\n"
 PINGS = ";# A PING, and no DATA\n;- HEADERS 05 1\nPING 00 0 x0102030405060708\n;< PING 01 0 x0102030405060708\n;< ! DATA 00 1\n;! MUST -\n;+ pong\nHEADERS 05 1 hi8\n"
 LATER = ";# An item that never comes\n;- HEADERS 05 1\n;+ RST_STREAM 00 1\nPING 00 0 x0102030405060708\n"
@@ -239,6 +240,9 @@ REACTIONS = [
     (STREAM, "stream 1 PROTOCOL_ERROR", 0, [("user", "exit status 0")]),
     (STREAM, "stream 1 INTERNAL_ERROR", 1, [("allowed", "stream 1 INTERNAL_ERROR: a generic code, 5.4")]),
     (STREAM, "stream 1 CANCEL", 1, [("open", "stream 1 CANCEL")]),
+    (EITHER, "stream 1 PROTOCOL_ERROR", None, []),
+    (EITHER, "connection COMPRESSION_ERROR", None, []),
+    (EITHER, "-", None, [("broken", "goes on")]),
     (TWO, "stream 3 PROTOCOL_ERROR", 1, [("broken", "stream 3 PROTOCOL_ERROR")]),
     (STREAM, "connection PROTOCOL_ERROR", 1, [("allowed", "connection PROTOCOL_ERROR: a connection error for a stream error, 5.4.2")]),
     (STREAM, "-", 1, [("allowed", "goes on: nothing was sent, and the command fails")]),
