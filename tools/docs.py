@@ -283,7 +283,7 @@ def faults_of_table():
 
 # ---- names
 
-FOLDERS = ("crates", "docs", "edits", "examples", "tests", "tools", "bench", "cases", "share", "specs", "proofs", "src", "must-fail", ".ci")
+FOLDERS = ("crates", "docs", "edits", "examples", "tests", "tools", "bench", "cases", "dialogues", "share", "specs", "proofs", "src", "must-fail", ".ci")
 FILE = re.compile(r"(?<![\w./*-])[\w.-]*\w\.(?:rt|antt|sh|py)\b")
 QUOTED = re.compile(r"`([^`\s]+)`")
 LINK = re.compile(r"\]\(([^)\s#]*)(#[^)\s]*)?\)")
@@ -311,7 +311,7 @@ def declares(name, path):
 def sources():
     """Each source file and script, by its name alone."""
     found = {}
-    for pattern in ("crates/*/src/**/*.rt", "crates/*/specs/**/*.antt", "crates/*/proofs/**/*.antt", "tools/*", "tests/*", "tests/*/*", "bench/**/*", "cases/**/*"):
+    for pattern in ("crates/*/src/**/*.rt", "crates/*/specs/**/*.antt", "crates/*/proofs/**/*.antt", "tools/*", "tests/*", "tests/*/*", "bench/**/*", "cases/**/*", "dialogues/*"):
         for path in glob.glob(pattern, recursive=True):
             if os.path.isfile(path):
                 found.setdefault(os.path.basename(path), []).append(path)
