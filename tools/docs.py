@@ -7,6 +7,7 @@
 What is checked:
 
   - each cause and reason has a definition, a function and a case, each cause its script in examples/causes and one place in the text of docs/TABLE.md;
+  - the error that this script shows is one that the row of the cause allows, and of the scope that the laws have;
   - where TABLE.md has a cause in brackets with sections, as `(6.9.1; **own**; CAUSE)`, one of them is the section of its rule, of what the client had to do, or of one of
     its special cases, and **own** is there where the RFC demands nothing;
   - each file, link (with its heading), crate, path, function and type that README.md, CONTRIBUTING.md, CHANGELOG.md or docs/*.md names is there, and is in the file that is
@@ -281,6 +282,23 @@ def faults_of_table():
             yield f"{TABLE}: `{row.name}` is own, and its brackets do not say so"
 
 
+# ---- what this server does
+
+CODES = {"PROTOCOL_ERROR": "1", "FLOW_CONTROL_ERROR": "3", "STREAM_CLOSED": "5", "FRAME_SIZE_ERROR": "6", "REFUSED_STREAM": "7", "COMPRESSION_ERROR": "9", "ENHANCE_YOUR_CALM": "11"}
+
+
+def faults_of_errors():
+    """Errors that the scripts of examples/causes show, and that the rows do not allow, or whose scope the laws have otherwise."""
+    of_stream = set(re.findall(r"^is_of_stream (\w+) = true$", read("crates/h2_spec_laws/specs/Conformance.antt"), re.M))
+    for row in rows_of("causes"):
+        said = re.search(rf"(connection|stream) error (\w+): {row.name}, ", read(f"examples/causes/{row.name}.h2"))
+        named = row.stream.split() + (row.connection.split() if said[1] == "connection" else [])
+        if CODES[said[2]] not in named:
+            yield f"{row.name}: this server's {said[1]} error {said[2]} is not in its row"
+        if (said[1] == "stream") != (row.variant in of_stream):
+            yield f"{row.name}: this server's error is one of the {said[1]}, and is_of_stream says otherwise"
+
+
 # ---- names
 
 FOLDERS = ("crates", "docs", "edits", "examples", "tests", "tools", "bench", "cases", "dialogues", "share", "specs", "proofs", "src", "must-fail", ".ci")
@@ -403,10 +421,10 @@ def files_in_comments(known):
 def check(made, wrong, known):
     """Shows what is wrong, and counts."""
     crates = set(re.findall(r"^(\w+)[^:\n]*:", read("crates.txt"), re.M))
-    wrong += faults_of_table()
+    wrong += [*faults_of_table(), *faults_of_errors()]
     if not os.path.exists(MADE) or read(MADE) != made:
         wrong.append(f"{MADE} is not what tools/docs.py writes: run it")
-    passed, all_words = 2 * len(rows_of("causes")) + len(rows_of("ignored")) + 1, words_of(known)
+    passed, all_words = 3 * len(rows_of("causes")) + len(rows_of("ignored")) + 1, words_of(known)
     for page in ["README.md", "CONTRIBUTING.md", "CHANGELOG.md", *sorted(glob.glob("docs/*.md"))]:
         for number, word, there in names(page, known, crates, all_words):
             passed += 1
