@@ -81,7 +81,7 @@ TOPICS = [
     ("what is sent keeps to what is granted", "h2_spec_laws/Grants.antt h2_conn/Granted.antt", "grants_are_kept h2_spec_laws/grants_laws.rt"),
     ("the rows of this page", "Cause.antt Ignored.antt Rules.antt CauseWords.antt IgnoredWords.antt SpecialCases.antt", "Cause h2_spec/causes.rt, Ignored h2_spec/ignored.rt, SpecialCase h2_spec/special_cases.rt, case_of_error h2_explain_item/special.rt"),
     ("what is shown of a state", "View.antt Show.antt", "Shown, view h2_conn_view/view.rt"),
-    ("warnings, what a live stream waits for, the verdict of `--strict`", "h2_explain_item/Warnings.antt h2_explain_text/Waits.antt h2_explain/Verdicts.antt", "warnings_of h2_explain_item/warning.rt, wait_of h2_explain_text/waits.rt, Tally, ClientVerdict h2_explain/verdict.rt"),
+    ("warnings, what a live stream waits for, the verdict of `--strict`", "h2_explain_item/Warnings.antt h2_explain_item/FrameFacts.antt h2_explain_item/RunFacts.antt h2_explain_text/Waits.antt h2_explain/Verdicts.antt", "warnings_of h2_explain_item/warning.rt, frame_facts h2_explain_item/frame_facts.rt, run_facts h2_explain_step/explainer.rt, wait_of h2_explain_text/waits.rt, Tally, ClientVerdict h2_explain/verdict.rt"),
 ]
 
 
@@ -104,6 +104,16 @@ def rows_of(module):
     said = [" ".join(re.findall(r"/// ([^\n]*)", text)) for text, _ in variants]
     assert variants and all(len(it) == len(variants) for it in columns), f"the columns of {module}.rt differ in length"
     return [Row(*row) for row in zip([name for _, name in variants], *columns, said)]
+
+
+def warning_rows():
+    """The warnings: (name, section, sentence, whether it is a note)."""
+    source = read("crates/h2_explain_item/src/diagnosis/warning.rt")
+    notes = re.findall(r"one_if\(self\.([\w.]+)\)", re.search(r"fn note_count.*?\n    }\n", source, re.S)[0])
+    are_notes = [field in notes for field in re.findall(r"Warning::\w+ => self\.([\w.]+),", source)]
+    columns = [column(source, name) for name in ("NAMES", "SECTIONS", "SENTENCES")]
+    assert all(len(it) == len(are_notes) for it in columns) and sum(are_notes) == len(notes), "the columns of warning.rt differ in length"
+    return list(zip(*columns, are_notes))
 
 
 def codes_of():
@@ -225,6 +235,9 @@ def made_page(known, wrong):
             out.append(f"| `{row.name}` | {row.section}; {code}{row.sentence} | {CLIENT[row.client]}, {row.client_section} | {SERVER[row.server]} | {'; '.join(decided)} | {', '.join(files)} |")
     out += ["", "## Special cases", "", "Here `explain` prints other duties than those of the cause or reason.", "", "| Name | Of | Rule | The client broke | Server |", "|---|---|---|---|---|"]
     out += [f"| `{row.name}` | {row.said.rstrip('.')} | {row.section} | {CLIENT[row.client]}, {row.client_section} | {SERVER[row.server]} |" for row in special]
+    out += ["", "## Warnings", "", "What `explain` [warns](EXPLAIN.md#warnings) of. A note is no broken rule, so it leaves the verdict of `--strict` as it is.", "",
+            "| Name | Section | Sentence | Is |", "|---|---|---|---|"]
+    out += [f"| `{name}` | {section} | {sentence} | {'a note' if is_note else 'a broken rule'} |" for name, section, sentence, is_note in warning_rows()]
     out += ["", "## Rules without a cause", "", "| Topic | Definitions | Functions and types |", "|---|---|---|"]
     for topic, files, does in TOPICS:
         for file in files.split():
