@@ -81,7 +81,7 @@ TOPICS = [
     ("what is sent keeps to what is granted", "h2_spec_laws/Grants.antt h2_conn/Granted.antt", "grants_are_kept h2_spec_laws/grants_laws.rt"),
     ("the rows of this page", "Cause.antt Ignored.antt Rules.antt CauseWords.antt IgnoredWords.antt SpecialCases.antt", "Cause h2_spec/causes.rt, Ignored h2_spec/ignored.rt, SpecialCase h2_spec/special_cases.rt, case_of_error h2_explain_item/special.rt"),
     ("what is shown of a state", "View.antt Show.antt", "Shown, view h2_conn_view/view.rt"),
-    ("warnings, what a live stream waits for, the verdict of `--strict`", "h2_explain_item/Warnings.antt h2_explain_item/FrameFacts.antt h2_explain_item/RunFacts.antt h2_explain_text/Waits.antt h2_explain/Verdicts.antt", "warnings_of h2_explain_item/warning.rt, frame_facts h2_explain_item/frame_facts.rt, run_facts h2_explain_step/explainer.rt, wait_of h2_explain_text/waits.rt, Tally, ClientVerdict h2_explain/verdict.rt"),
+    ("warnings, what a live stream waits for, the verdict of `--strict`", "h2_explain_item/Warnings.antt h2_explain_item/FrameFacts.antt h2_explain_item/RunFacts.antt h2_explain_text/Waits.antt h2_explain/Verdicts.antt", "warnings_of h2_explain_item/warning.rt, frame_facts h2_explain_item/frame_facts.rt, run_facts h2_explain_item/run_facts.rt, wait_of h2_explain_text/waits.rt, Tally, ClientVerdict h2_explain/verdict.rt"),
 ]
 
 

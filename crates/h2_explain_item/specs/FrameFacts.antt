@@ -1,5 +1,5 @@
 -- What is wrong with a frame by itself, though a receiver has to pass it over (RFC 9113, 4.1, 6.1 and 6.2; RFC 8441, 3).
-use Rattle.std.specs.Prelude.{ℕ, ◌+◌, Bool, true, false, ◌&&◌, not, ◌==◌, if◌then◌else◌, List, [], nat_le, nat_lt, slice_get, Option, Some, None}
+use Rattle.std.specs.Prelude.{ℕ, ◌+◌, Bool, false, ◌&&◌, not, ◌==◌, if◌then◌else◌, List, [], nat_le, nat_lt, slice_get, Option, Some, None}
 use Rattle.std.specs.List.{list_any}
 use Rattle.h2_spec.specs.Frames.FrameType.{ACK, END_HEADERS, END_STREAM, PADDED, WITH_PRIORITY, frame_type, has}
 use Rattle.h2_spec.specs.Frames.Payload.{Part, OfData, OfHeaders, OfPriority, OfRstStream, OfSettings, OfSettingsAck, OfPushPromise, OfPing, OfGoaway, OfWindowUpdate, OfContinuation, OfUnknown}
@@ -106,7 +106,3 @@ frame_facts x = record {
   flags = has_undefined_flags (head_in x.what);
   connect_protocol = has_bad_connect (part_in (frame_in x.what x.octets.now));
 }
-
--- nothing is
-abbrev pub no_frame_facts : FrameFacts
-no_frame_facts = record { padding = false; reserved_bit = false; flags = false; connect_protocol = false }

@@ -1,6 +1,6 @@
 -- What a client did wrong with an item, by what came before it in the run: what it was granted, and the empty frames of
 -- its field block.
-use Rattle.std.specs.Prelude.{ℕ, ◌+◌, ◌-◌, ◌^◌, min, Bool, true, false, ◌&&◌, not, ◌==◌, if◌then◌else◌, nat_lt, Option, Some, None, is_some}
+use Rattle.std.specs.Prelude.{ℕ, ◌+◌, ◌-◌, ◌^◌, min, Bool, false, ◌&&◌, not, ◌==◌, if◌then◌else◌, nat_lt, Option, Some, None, is_some}
 use Rattle.h2_spec.specs.Frames.FrameType.{CONTINUATION, HEADERS}
 use Rattle.h2_spec.specs.declared.frames.Head.{Head}
 use Rattle.h2_explain_item.specs.Granted.{counted_octets, is_early}
@@ -39,7 +39,3 @@ run_facts g empties x = record {
   sent_unacknowledged = is_unacknowledged_use g x && not (is_early g x);
   many_empty = is_one_too_many empties (head_in x.what);
 }
-
--- nothing
-abbrev pub no_run_facts : RunFacts
-no_run_facts = record { sent_early = false; sent_unacknowledged = false; many_empty = false }

@@ -132,7 +132,7 @@ broken_count ws =
     request_count ws.request + block_count ws.block + frame_count ws.frame + one_if ws.run.sent_early + one_if ws.run.sent_unacknowledged
     + one_if ws.after_error + one_if ws.goaway_raised + one_if ws.goaway_odd + one_if ws.on_closed + one_if ws.zero_increment + one_if ws.on_negative
 
--- those that are notes: the client opens a stream behind its GOAWAY, which binds only who receives it (6.8); there are many
+-- those that are notes: the client opens a stream after its GOAWAY, which binds only who receives it (6.8); there are many
 -- empty frames in a block (10.5.1); the input ends early (6.5.3, 6.9)
 abbrev pub note_count : Warnings → ℕ
 note_count ws = one_if ws.after_goaway + one_if ws.run.many_empty + one_if ws.unacknowledged + one_if ws.answer_unfinished

@@ -24,7 +24,7 @@ use h2_explain_item::diagnosis::facts::{facts_of, others_of, wider_of};
 use h2_explain_item::diagnosis::request_facts::{
     BlockFacts, RequestFacts, block_facts, request_facts,
 };
-use h2_explain_item::diagnosis::run_facts::{RunFacts, empties_after, is_one_too_many};
+use h2_explain_item::diagnosis::run_facts::run_facts;
 use h2_explain_item::diagnosis::special::CaseFacts;
 use h2_explain_item::diagnosis::warning::{opens_stream, warnings_of};
 use h2_explain_item::item::Explained;
@@ -362,26 +362,6 @@ impl<A: Allocator + Copy> ItemExplainer<A> {
         block_facts(&self.reader)
     }
 
-    /// What is wrong with an item by what came before it, which it is taken into.
-    ///
-    /// `AllocError` where memory is refused.
-    fn run_facts(&mut self, item: &Explained<'_>) -> Result<RunFacts, AllocError>
-        ensures facts { IfOk result (λ facts. facts ≡ run_facts self.old.granted self.old.empties item.now) }
-        ensures empties { OnOk result (self.new.empties ≡ empties_after self.old.empties (head_in item.now.what)) }
-        ensures notes { self.new.notes ≡ self.old.notes }
-        ensures full { self.new.is_full ≡ self.old.is_full }
-    {
-        let (empties, head) = (self.empties, item.head());
-        let needs_answer = self.granted.take_unasked(item);
-        let sent_early = self.granted.take(item)?;
-        self.empties = empties_after(empties, head);
-        Ok(RunFacts {
-            sent_early,
-            sent_unacknowledged: needs_answer && !sent_early,
-            many_empty: is_one_too_many(empties, head),
-        })
-    }
-
     /// What sentences draw their values from.
     fn context<'f, 'o>(
         &'f self,
@@ -478,7 +458,7 @@ impl<A: Allocator + Copy> ItemExplainer<A> {
         ensures notes { OnOk result (NotesItem item.now conn.now.state self.old.notes self.new.notes) }
         ensures full { self.new.is_full ≡ self.old.is_full }
     {
-        let run = self.run_facts(item)?;
+        let run = run_facts(&mut self.granted, &mut self.empties, item)?;
         account.is_full = self.is_full;
         account.shows_fields = self.read_block(alloc, item)?;
         self.follow_refused(alloc, item)?;

@@ -5,8 +5,9 @@ ghost use Rattle.std.specs.Prelude.{◌≡◌, ◌≤◌};
 ghost use Rattle.std.specs.List.{list_any};
 ghost use Rattle.std.specs.Option.{option_map};
 ghost use Rattle.h2_frame.specs.Parts.{part_seen, settings_in};
-ghost use Rattle.h2_explain_item.specs.Item.{frame_in, head_in, part_in};
-ghost use Rattle.h2_explain_item.specs.FrameFacts.{defined_flags, flag_in, frame_facts, has_bad_connect, has_bad_padding, has_reserved_bit, has_undefined_flags, is_bad_connect, is_high, is_not_zero, no_frame_facts};
+ghost use Rattle.h2_spec.specs.Frames.FrameType.{frame_type};
+ghost use Rattle.h2_explain_item.specs.Item.{head_in};
+ghost use Rattle.h2_explain_item.specs.FrameFacts.{defined_flags, flag_in, frame_facts, has_bad_connect, has_bad_padding, has_reserved_bit, has_undefined_flags, is_bad_connect, is_high, is_not_zero};
 
 use crate::item::Explained;
 use h2_frame::{Part, SettingsPart};
@@ -27,9 +28,7 @@ pub struct FrameFacts {
 
 impl FrameFacts {
     /// Nothing is wrong.
-    pub fn none() -> FrameFacts
-        ensures { result ≡ no_frame_facts }
-    {
+    pub fn none() -> FrameFacts {
         FrameFacts {
             padding: false,
             reserved_bit: false,

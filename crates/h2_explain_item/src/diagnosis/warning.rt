@@ -4,10 +4,7 @@
 ghost use Rattle.std.specs.Prelude.{◌≡◌, ◌≤◌, map, slice_get, Some};
 ghost use Rattle.h2_spec.specs.Causes.Rules.{text_of};
 ghost use Rattle.h2_explain_item.specs.Special.{rule_of_cause, rule_of_reason};
-ghost use Rattle.h2_explain_item.specs.Warnings.{all_warnings, block_count, broken_count, duty_of_error, duty_of_reason, frame_count, has_warning, is_after_error, is_below_zero, is_breach, is_empty_data, is_goaway, is_no_error, is_odd, is_on_negative, is_opening, is_raised, is_running, is_unacknowledged, is_zero_increment, no_block_facts, no_request_facts, note_count, one_if, opens_stream, request_count, warning_count, warning_name, warning_section, warning_sentence, warnings_of};
-ghost use Rattle.h2_explain_item.specs.FrameFacts.{frame_facts, no_frame_facts};
-ghost use Rattle.h2_explain_item.specs.Item.{head_in};
-ghost use Rattle.h2_explain_item.specs.RunFacts.{no_run_facts};
+ghost use Rattle.h2_explain_item.specs.Warnings.{all_warnings, block_count, broken_count, duty_of_error, duty_of_reason, frame_count, has_warning, is_after_error, is_below_zero, is_breach, is_empty_data, is_goaway, is_no_error, is_odd, is_on_negative, is_opening, is_raised, is_running, is_unacknowledged, is_zero_increment, no_request_facts, note_count, one_if, opens_stream, request_count, warning_count, warning_name, warning_section, warning_sentence, warnings_of};
 
 use crate::diagnosis::frame_facts::{FrameFacts, frame_facts};
 use crate::diagnosis::request_facts::{BlockFacts, RequestFacts};
