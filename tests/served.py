@@ -352,7 +352,8 @@ def a_verdict_is_the_status(program):
             yield [line for line in ended.splitlines() if not line.startswith("connection")], wanted_lines
 
 
-UPLOAD = START + script.octets("SETTINGS 01 0 -") + script.octets('HEADERS 04 1 hi3,i6,i4')
+ACK, POST = script.octets("SETTINGS 01 0 -"), script.octets('HEADERS 04 1 hi3,i6,i4,n1="a"')
+UPLOAD = START + ACK + POST
 EARLY = "warning: sent-before-granted, RFC 9113 6.9"
 
 
@@ -398,6 +399,25 @@ def data_before_its_credit_is_warned_of(program):
             one.sendall(more)
 
         yield told_of_upload(program, words, pads)[0], warned
+
+
+def data_shows_that_settings_were_read(program):
+    """Every client may send 65,535 octets of DATA. One more needs a WINDOW_UPDATE, and SETTINGS came before it: they have to be acknowledged (RFC 9113, 6.5.3). Where
+    the octets end before that, it is a note."""
+    window = b"".join(script.octets("DATA 00 1 x" + length * "61") for length in (16384, 16384, 16384, 16383))
+    last, late = script.octets("DATA 01 1 x61"), "warning: sent-before-acknowledged, RFC 9113 6.5.3"
+
+    def note(at):
+        return f"@{at}  warning: settings-not-acknowledged, RFC 9113 6.5.3"
+
+    def goes_on(one, rest):
+        one.sendall(START + POST + window)
+        read_to(one, script.octets("WINDOW_UPDATE 00 1 w32768"))
+        one.sendall(rest)
+
+    yield told_of_upload(program, (), lambda one: goes_on(one, last)), ([late, note(65629)], "8 items, no error, 2 warnings", 5)
+    yield told_of_upload(program, (), lambda one: goes_on(one, ACK + last)), ([], "9 items, no error, no warning", 0)
+    yield told_of_upload(program, (), lambda one: one.sendall(START + POST + window)), ([note(65619)], "7 items, no error, 1 warning", 0)
 
 
 def an_upload_that_reads_nothing_is_warned_of(program):
@@ -565,6 +585,7 @@ TESTS = [
     times_are_in_front,
     a_verdict_is_the_status,
     data_before_its_credit_is_warned_of,
+    data_shows_that_settings_were_read,
     an_upload_that_reads_nothing_is_warned_of,
     a_book_is_named_from_the_record,
     a_record_is_a_case,

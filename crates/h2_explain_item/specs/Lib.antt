@@ -5,4 +5,6 @@ pub mod Notes
 pub mod Changes
 pub mod Counts
 pub mod Special
+pub mod FrameFacts
+pub mod RunFacts
 pub mod Warnings

@@ -3,6 +3,8 @@
 pub mod error_context;
 pub mod facts;
 pub mod fields;
+pub mod frame_facts;
 pub mod request_facts;
+pub mod run_facts;
 pub mod special;
 pub mod warning;
