@@ -519,6 +519,8 @@ def reaction_to(connection, number, wanted):
         is_alive = is_alive or frame == Frame(PING, ACK, 0, PROBE)
     if resets:
         return resets[0]
+    if connection.ended == "closed" and not is_alive and wanted[0].scope != "-":
+        return CLOSED
     if connection.ended == "closed":
         goes_on = any(kind == "step" for kind, _ in log) or not waits(connection.log)
         return GOES_ON if goes_on else CLOSED
@@ -632,6 +634,8 @@ def limits_faults(connection):
 def verdicts_of_steps(dialogue, connection, fails):
     """A verdict for each step, up to the first that the client did not go on from."""
     for number, step in enumerate(dialogue.steps, 1):
+        if ("step", number) not in connection.log and not step.frames and not step.wanted:
+            continue
         if ("step", number) not in connection.log:
             yield Verdict("missing", step.line, step.text, f"no such item came; {connection.ended}")
             return

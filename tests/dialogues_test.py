@@ -223,6 +223,7 @@ ERROR = ";# An error\n;- HEADERS 05 1\nDATA 00 0 x61\n;! MUST connection PROTOCO
 STREAM = ";# A stream error\n;- HEADERS 05 1\nHEADERS 04 1 hi8,i8\n;! MUST stream 1 PROTOCOL_ERROR\n;+ pong\nDATA 01 1 x61\n;$ !0\n"
 TWO = ";# A stream error beside a request\n;- HEADERS 05 1\n;- HEADERS 05 3\nHEADERS 04 1 hi8,i8\n;! MUST stream 1 PROTOCOL_ERROR\n"
 EITHER = STREAM.replace(";+ pong", ";! MUST connection COMPRESSION_ERROR\n;+ pong").replace(";$ !0\n", "")
+WHOLE = ";# An error in a whole response\n;- HEADERS 05 1\nHEADERS 05 1 x8880\n;! MUST connection COMPRESSION_ERROR\n"
 LAWFUL = ";# Lawful\n;- HEADERS 05 1\nSETTINGS 00 0 s3=5\n;< SETTINGS 01 0 -\n;! MUST -\n;+ pong\nHEADERS 05 1 hi8\n;$ 0\n"
 PINGS = ";# A PING, and no DATA\n;- HEADERS 05 1\nPING 00 0 x0102030405060708\n;< PING 01 0 x0102030405060708\n;< ! DATA 00 1\n;! MUST -\n;+ pong\nHEADERS 05 1 hi8\n"
 LATER = ";# An item that never comes\n;- HEADERS 05 1\n;+ RST_STREAM 00 1\nPING 00 0 x0102030405060708\n"
@@ -248,6 +249,9 @@ REACTIONS = [
     (STREAM, "-", 1, [("allowed", "goes on: nothing was sent, and the command fails")]),
     (STREAM, "-", 0, [("broken", "goes on"), ("user", "exit status 0")]),
     (LAWFUL, "-", 0, []),
+    (WHOLE, "leaves", None, [("allowed", "closed: no GOAWAY; 5.4.1 has SHOULD")]),
+    (WHOLE, "-", None, [("broken", "goes on")]),
+    (LAWFUL + ";- DATA 01 1\n", "-", 0, []),
     (LAWFUL, "-", 7, [("user", "exit status 7")]),
     (LAWFUL, "-", "killed", [("broken", "it had to be killed")]),
     (LAWFUL, "leaves", 0, [("broken", "closed")]),

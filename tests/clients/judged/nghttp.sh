@@ -10,9 +10,12 @@ case $1 in
     *) exit 9 ;;
 esac
 echo "$said" | tail -n 4
-# Lines `id responseEnd requestStart process code size path`, in the order of the ids.
-codes=($(grep -E '^ +[0-9]+ ' <<<"$said" | sort -n | awk '{ print $5 + 0 }'))
+# Lines `id responseEnd requestStart process code size path`, of streams that have a response.
+answered() {
+    awk -v id="$1" '$1 == id && $5 > 0 { found = 1 } END { exit !found }' <<<"$said"
+}
+
 status=0
-if [ "${codes[0]:-0}" = 0 ]; then status=1; fi
-if [ "$1" = two-requests ] && [ "${codes[1]:-0}" = 0 ]; then status=$((status + 2)); fi
+if ! answered 1; then status=1; fi
+if [ "$1" = two-requests ] && ! answered 3; then status=$((status + 2)); fi
 exit $status
