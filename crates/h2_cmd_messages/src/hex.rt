@@ -3,8 +3,8 @@
 
 use crate::dump::{Look, has_offsets, look_of, look_of_octets};
 use crate::place::{InputSource, place_at};
-use h2_explain_words::say::{HexOctet, Say, TextBuilder};
-use h2_explain_words::say_all;
+use h2_io::say::{HexOctet, Say, TextBuilder};
+use h2_io::say_all;
 use std::alloc::{AllocError, Allocator, Global};
 
 /// Whether an octet is a space, a tab, a carriage return or a line feed.

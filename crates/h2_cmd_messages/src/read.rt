@@ -1,8 +1,8 @@
 //! Why an input or a file was not read.
 
 use crate::place::{InputSource, place_at};
-use h2_explain_words::say::{Say, TextBuilder};
-use h2_explain_words::say_all;
+use h2_io::say::{Say, TextBuilder};
+use h2_io::say_all;
 use std::io::ErrorKind;
 
 /// Why the system refused to read a file, and what to do.

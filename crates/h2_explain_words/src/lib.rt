@@ -1,15 +1,12 @@
 //! Frames, settings, error codes and fields in words.
 //! `frame_words` has a frame in words, `spelled` the fields of field blocks, each with how it was spelled, `why` why an item
-//! was an error or was ignored; `say` puts texts together, `json_text` escapes them for JSON.
+//! was an error or was ignored.
 #![tactic(auto)]
 
 pub mod frame_words;
-pub mod json_text;
 mod kept_fields;
 pub mod names;
-mod plain;
 mod reading;
-pub mod say;
 pub mod sent;
 pub mod spelled;
 pub mod why;
