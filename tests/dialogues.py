@@ -336,7 +336,7 @@ class Connection:
     def __init__(self, client, steps, words, options):
         self.client, self.steps, self.options = client, steps, options
         self.bench = Bench(options.program, words)
-        self.log, self.at, self.base, self.inbox, self.octets = [], 0, None, b"", 0
+        self.log, self.at, self.base, self.inbox, self.octets, self.reset = [], 0, None, b"", 0, set()
         self.has_preface, self.client_ended, self.cause, self.ended = False, False, None, None
         self.until = time.monotonic() + options.limit
 
@@ -362,7 +362,8 @@ class Connection:
         return fits(wanted, item, self.base)
 
     def answered(self, item, frames):
-        """What goes out where the server sends these frames for an item."""
+        """What goes out where the server sends these frames for an item: nothing more on a stream that the script has reset."""
+        frames = [frame for frame in frames if frame.stream not in self.reset]
         if not self.is_next(item):
             self.log += [("sent", frame) for frame in frames]
             return b"".join(map(octets_of, frames))
@@ -371,6 +372,7 @@ class Connection:
         out = [] if step.is_instead else list(frames)
         self.log += [("sent", frame) for frame in out] + [("step", self.at)]
         script = [self.shifted(frame) for frame in step.frames] + ([Frame(PING, 0, 0, PROBE)] if step.wanted else [])
+        self.reset |= {frame.stream for frame in script if frame.kind == RST_STREAM and frame.stream}
         self.log += [("sent", frame) for frame in script]
         return b"".join(map(octets_of, out + script))
 

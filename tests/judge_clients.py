@@ -6,7 +6,8 @@
     tests/judge_clients.py write               docs/CLIENTS.md from the results, and what tests/clients/judged/looked-at.tsv says of them by hand
 
 Debian's packages: curl nghttp2-client nodejs golang-go golang-golang-x-net-dev python3-h2 python3-httpx librust-h2-dev cargo libprotocol-http2-perl ruby ruby-http-2. What is
-not installed is skipped. Traffic is on 127.0.0.1 alone. PATIENCE is the seconds for a silent client (9), JOBS how many dialogues run side by side (2).
+not installed is skipped. Traffic is on 127.0.0.1 alone. PATIENCE is the seconds for a silent client (9), JOBS how many dialogues run side by side (2); with ONLY those are
+played again whose title has these words, and the other results are kept.
 """
 
 import concurrent.futures
@@ -147,10 +148,15 @@ def run_clients(names):
             upload = f"{folder}/upload"
             with open(upload, "wb") as file:
                 file.write(b"u" * 200000)
-            command, rows = command_of(name, folder), list(all_dialogues(folder))
+            command, only = command_of(name, folder), os.environ.get("ONLY", "")
+            rows = [row for row in all_dialogues(folder) if only in row[2].title]
             with concurrent.futures.ThreadPoolExecutor(int(os.environ.get("JOBS", "2"))) as pool:
                 results = list(pool.map(lambda row: played(row[2], row[1], command, upload, options), rows))
         found = [{"file": file, "title": dialogue.title, **result} for (file, _, dialogue), result in zip(rows, results)]
+        if only:
+            with open(f"{KEPT}/{name}.json", encoding="utf-8") as file:
+                again = {row["title"]: row for row in found}
+                found = [again.get(row["title"], row) for row in json.load(file)["dialogues"]]
         with open(f"{KEPT}/{name}.json", "w", encoding="utf-8") as file:
             json.dump({"version": version_of(name), "date": datetime.datetime.now(datetime.timezone.utc).strftime("%Y-%m-%d"), "dialogues": found}, file, indent=1)
         print(name, {kind: sum(row["kind"] == kind for row in found) for _, kind, _ in SIGNS}, flush=True)
