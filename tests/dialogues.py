@@ -567,9 +567,10 @@ def judged(wanted, reaction, fails):
 
 
 def sends_verdict(connection, number, line):
-    """Whether the client sent, or did not send, what a line `;<` says, up to the next step."""
+    """What was found where a line `;<` does not hold: the client has to send the frame after the step (perhaps behind the answer to the PING, which RFC 9113, 6.7, wants to
+    be fast), or must not send it before the next step."""
     log = after(connection.log, number)
-    ends = [at for at, (kind, _) in enumerate(log) if kind == "step"]
+    ends = [at for at, (kind, _) in enumerate(log) if kind == "step" and not line.is_sent]
     frames = of_client(log[:ends[0]] if ends else log)
     if isinstance(line.what, Pattern):
         is_sent = any(fits(line.what, frame, connection.base) for frame in frames)

@@ -337,6 +337,12 @@ def test_limits():
     for times, wanted in ((0, "2 SETTINGS frames are not acknowledged"), (2, "SETTINGS ACK without SETTINGS")):
         got = found(read(LAWFUL.replace(";< SETTINGS 01 0 -\n", "")), "get", obeys, 0, acknowledgements=times)
         expect([one.found for one in got] == [wanted], f"SETTINGS acknowledged {times} times: {got}")
+    late = types.SimpleNamespace(base=0, log=[("step", 1), ("item", Frame(PING, ACK, 0, PROBE)), ("step", 2), ("item", Frame(SETTINGS, ACK, 0, b""))])
+    late.shifted = lambda frame: frame
+    [sends] = read(LAWFUL).steps[0].sends
+    expect(under_test.sends_verdict(late, 1, sends) is None, "an acknowledgement behind the answer to the PING")
+    never = sends._replace(is_sent=False, what=under_test.Pattern(SETTINGS, 0, 0, b""))
+    expect(under_test.sends_verdict(late, 1, never) is None and under_test.sends_verdict(late, 2, never) == "it is sent", "a frame that must not come before the next step")
     got = found(read(LAWFUL), "get", obeys, 0, acknowledgements=0)
     expect([(one.line, one.found) for one in got] == [(4, "-")], f"a line ;< that does not hold: {got}")
     limits = under_test.Limits()
@@ -348,6 +354,17 @@ def test_limits():
     limits.took(Frame(HEADERS, 5, 5, GET))
     wanted = ["HEADERS on stream 3, where 1 streams are allowed and 1 are live", "DATA of 20481 octets, where 20480 are allowed"]
     expect(limits.faults == wanted, f"limits: {limits.faults}")
+
+
+def test_reset():
+    """On a stream that a script has reset nothing of the server goes out: here it grants an octet for each one of DATA, on the connection alone."""
+    dialogue = read(";# A reset\n;@ --credit 1\n;+ DATA 00 1\nRST_STREAM 00 1 c0\n")
+    octets = START + octets_of(Frame(HEADERS, END_HEADERS, 1, POST)) + octets_of(Frame(DATA, 0, 1, b"a")) * 3
+    made = Raw(None, octets, "leaves")
+    connections, _ = under_test.play(dialogue, 0, options(patience=0.3), made.run)
+    sent = [(frame.kind, frame.stream) for kind, frame in connections[0].log if kind == "sent"]
+    wanted = [(WINDOW_UPDATE, 0), (WINDOW_UPDATE, 1), (RST_STREAM, 1), (WINDOW_UPDATE, 0), (WINDOW_UPDATE, 0)]
+    expect(sent[2:] == wanted, f"a stream that is reset: {sent}")
 
 
 # ---- lines
@@ -409,6 +426,7 @@ def main():
     test_reactions()
     test_raw()
     test_limits()
+    test_reset()
     test_all([(name, dialogue) for name, _, dialogues in all_files for dialogue in dialogues])
     print(f"{passed} passed, {failed} failed")
     return 1 if failed else 0
