@@ -201,20 +201,36 @@ def test_all(dialogues):
         expect(("broken" in kinds(verdicts)) == (("MUST", "-") in duties(dialogue)[:1]), f"the client that refuses all: {dialogue.title}: {verdicts}")
 
 
-def test_rules(text, name):
-    """A dialogue that names a rule of docs/RULES.md has its section in the title; one that wants an error of it has its code."""
+def rules():
+    """The rows of docs/RULES.md by name, each with its cells by the names of the columns."""
+    found, names = {}, []
     with open(f"{TOP}/docs/RULES.md", encoding="utf-8") as file:
-        rows = {row.split("`")[1]: row for row in file if row.startswith("| `")}
+        for line in file:
+            cells = [cell.strip() for cell in line.strip().strip("|").split(" | ")]
+            if line.startswith("| Name |"):
+                names = cells
+            elif line.startswith("| `"):
+                found[cells[0].strip("` ")] = dict(zip(names, cells))
+    return found
+
+
+def test_rules(text, name, rows):
+    """A dialogue that names a rule of docs/RULES.md has its section in the title; one that wants an error of it has a code, a scope and a duty of its row."""
     for one in re.split(r"^;# ", text, flags=re.M)[1:]:
-        title, rule, wanted = one.split("\n")[0], re.search(r"^; Rule: (.*)$", one, re.M), re.search(r"^;! (\S+) (?:connection|stream \d+) (\S+)$", one, re.M)
+        title, rule, wanted = one.split("\n")[0], re.search(r"^; Rule: (.*)$", one, re.M), re.search(r"^;! (\S+) (connection|stream) (?:\d+ )?(\S+)$", one, re.M)
         expect(re.search(r"RFC \d{4}, \d", title), f"{name}: {title}: no section")
-        if rule:
-            row = rows.get(rule[1], "")
-            sections = re.findall(r"RFC \d+ ([\d.]+)", row)
-            expect(any(re.search(rf"\b{re.escape(section)}\b", title) for section in sections), f"{name}: {title}: {rule[1]} is of {sections}")
-            codes = re.findall(r"[A-Z]+(?:_[A-Z]+)+(?=:)", row)
-            # The rows of DATA after END_STREAM and of a window that the server need not defend name the code as this one does; that of long lists is of the bench alone.
-            expect(not wanted or not codes or wanted[2] in codes or rule[1] == "list-too-large", f"{name}: {title}: {rule[1]} has {codes}")
+        if not rule:
+            continue
+        row = rows.get(rule[1], {"Rule": "", "Server": ""})
+        sections = re.findall(r"RFC \d+ ([\d.]+\d)", row["Rule"] + row["Server"])
+        expect(any(re.search(rf"\b{re.escape(section)}\b", title) for section in sections), f"{name}: {title}: {rule[1]} is of {sections}")
+        may = row.get("A server may", "") + row.get("Open", "")
+        if wanted and may:
+            codes = {(letter, int(code)) for letter, several in re.findall(r"\b([CS]) (\d+(?: or \d+)*)", may) for code in several.split(" or ")}
+            expect((wanted[2][0].upper(), CODES.index(wanted[3])) in codes or "; Open: " in one, f"{name}: {title}: {wanted[0]} and {may}")
+            expect((wanted[1] == "MUST") == (row["Server"] == "server MUST"), f"{name}: {title}: {wanted[0]} and {row['Server']}")
+        elif wanted and rule[1] != "list-too-large":
+            expect(f"{wanted[3]}:" in row["Rule"], f"{name}: {title}: {wanted[0]} and {row['Rule']}")
 
 
 # ---- verdicts of one dialogue each
@@ -418,9 +434,9 @@ def test_command():
 
 
 def main():
-    all_files = list(files())
+    all_files, rows = list(files()), rules()
     for name, text, _ in all_files:
-        test_rules(text, name)
+        test_rules(text, name, rows)
     test_bad_lines()
     test_command()
     test_reactions()
