@@ -223,7 +223,9 @@ def read_file(path, program):
     if ran.returncode:
         said = re.match(r"standard input, line (\d+), (.*)", ran.stderr.strip()) or ["", 0, ran.stdout + ran.stderr]
         raise Refused(int(said[1]), said[2].strip())
-    for use, frame in zip(reader.users, frames_of(bytes.fromhex(ran.stdout))[0], strict=True):
+    frames = frames_of(bytes.fromhex(ran.stdout))[0]
+    assert len(frames) == len(reader.users), "each line is one frame"
+    for use, frame in zip(reader.users, frames):
         use(frame)
     for dialogue in reader.dialogues:
         check_words(dialogue, program)
