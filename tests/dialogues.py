@@ -223,7 +223,9 @@ def read_file(path, program):
     if ran.returncode:
         said = re.match(r"standard input, line (\d+), (.*)", ran.stderr.strip()) or ["", 0, ran.stdout + ran.stderr]
         raise Refused(int(said[1]), said[2].strip())
-    for use, frame in zip(reader.users, frames_of(bytes.fromhex(ran.stdout))[0], strict=True):
+    frames = frames_of(bytes.fromhex(ran.stdout))[0]
+    assert len(frames) == len(reader.users), "each line is one frame"
+    for use, frame in zip(reader.users, frames):
         use(frame)
     for dialogue in reader.dialogues:
         check_words(dialogue, program)
@@ -336,7 +338,7 @@ class Connection:
     def __init__(self, client, steps, words, options):
         self.client, self.steps, self.options = client, steps, options
         self.bench = Bench(options.program, words)
-        self.log, self.at, self.base, self.inbox, self.octets = [], 0, None, b"", 0
+        self.log, self.at, self.base, self.inbox, self.octets, self.reset = [], 0, None, b"", 0, set()
         self.has_preface, self.client_ended, self.cause, self.ended = False, False, None, None
         self.until = time.monotonic() + options.limit
 
@@ -362,7 +364,8 @@ class Connection:
         return fits(wanted, item, self.base)
 
     def answered(self, item, frames):
-        """What goes out where the server sends these frames for an item."""
+        """What goes out where the server sends these frames for an item: nothing more on a stream that the script has reset."""
+        frames = [frame for frame in frames if frame.stream not in self.reset]
         if not self.is_next(item):
             self.log += [("sent", frame) for frame in frames]
             return b"".join(map(octets_of, frames))
@@ -371,6 +374,7 @@ class Connection:
         out = [] if step.is_instead else list(frames)
         self.log += [("sent", frame) for frame in out] + [("step", self.at)]
         script = [self.shifted(frame) for frame in step.frames] + ([Frame(PING, 0, 0, PROBE)] if step.wanted else [])
+        self.reset |= {frame.stream for frame in script if frame.kind == RST_STREAM and frame.stream}
         self.log += [("sent", frame) for frame in script]
         return b"".join(map(octets_of, out + script))
 
@@ -565,9 +569,10 @@ def judged(wanted, reaction, fails):
 
 
 def sends_verdict(connection, number, line):
-    """Whether the client sent, or did not send, what a line `;<` says, up to the next step."""
+    """What was found where a line `;<` does not hold: the client has to send the frame after the step (perhaps behind the answer to the PING, which RFC 9113, 6.7, wants to
+    be fast), or must not send it before the next step."""
     log = after(connection.log, number)
-    ends = [at for at, (kind, _) in enumerate(log) if kind == "step"]
+    ends = [at for at, (kind, _) in enumerate(log) if kind == "step" and not line.is_sent]
     frames = of_client(log[:ends[0]] if ends else log)
     if isinstance(line.what, Pattern):
         is_sent = any(fits(line.what, frame, connection.base) for frame in frames)

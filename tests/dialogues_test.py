@@ -201,20 +201,36 @@ def test_all(dialogues):
         expect(("broken" in kinds(verdicts)) == (("MUST", "-") in duties(dialogue)[:1]), f"the client that refuses all: {dialogue.title}: {verdicts}")
 
 
-def test_rules(text, name):
-    """A dialogue that names a rule of docs/RULES.md has its section in the title; one that wants an error of it has its code."""
+def rules():
+    """The rows of docs/RULES.md by name, each with its cells by the names of the columns."""
+    found, names = {}, []
     with open(f"{TOP}/docs/RULES.md", encoding="utf-8") as file:
-        rows = {row.split("`")[1]: row for row in file if row.startswith("| `")}
+        for line in file:
+            cells = [cell.strip() for cell in line.strip().strip("|").split(" | ")]
+            if line.startswith("| Name |"):
+                names = cells
+            elif line.startswith("| `"):
+                found[cells[0].strip("` ")] = dict(zip(names, cells))
+    return found
+
+
+def test_rules(text, name, rows):
+    """A dialogue that names a rule of docs/RULES.md has its section in the title; one that wants an error of it has a code, a scope and a duty of its row."""
     for one in re.split(r"^;# ", text, flags=re.M)[1:]:
-        title, rule, wanted = one.split("\n")[0], re.search(r"^; Rule: (.*)$", one, re.M), re.search(r"^;! (\S+) (?:connection|stream \d+) (\S+)$", one, re.M)
+        title, rule, wanted = one.split("\n")[0], re.search(r"^; Rule: (.*)$", one, re.M), re.search(r"^;! (\S+) (connection|stream) (?:\d+ )?(\S+)$", one, re.M)
         expect(re.search(r"RFC \d{4}, \d", title), f"{name}: {title}: no section")
-        if rule:
-            row = rows.get(rule[1], "")
-            sections = re.findall(r"RFC \d+ ([\d.]+)", row)
-            expect(any(re.search(rf"\b{re.escape(section)}\b", title) for section in sections), f"{name}: {title}: {rule[1]} is of {sections}")
-            codes = re.findall(r"[A-Z]+(?:_[A-Z]+)+(?=:)", row)
-            # The rows of DATA after END_STREAM and of a window that the server need not defend name the code as this one does; that of long lists is of the bench alone.
-            expect(not wanted or not codes or wanted[2] in codes or rule[1] == "list-too-large", f"{name}: {title}: {rule[1]} has {codes}")
+        if not rule:
+            continue
+        row = rows.get(rule[1], {"Rule": "", "Server": ""})
+        sections = re.findall(r"RFC \d+ ([\d.]+\d)", row["Rule"] + row["Server"])
+        expect(any(re.search(rf"\b{re.escape(section)}\b", title) for section in sections), f"{name}: {title}: {rule[1]} is of {sections}")
+        may = row.get("A server may", "") + row.get("Open", "")
+        if wanted and may:
+            codes = {(letter, int(code)) for letter, several in re.findall(r"\b([CS]) (\d+(?: or \d+)*)", may) for code in several.split(" or ")}
+            expect((wanted[2][0].upper(), CODES.index(wanted[3])) in codes or "; Open: " in one, f"{name}: {title}: {wanted[0]} and {may}")
+            expect((wanted[1] == "MUST") == (row["Server"] == "server MUST"), f"{name}: {title}: {wanted[0]} and {row['Server']}")
+        elif wanted and rule[1] != "list-too-large":
+            expect(f"{wanted[3]}:" in row["Rule"], f"{name}: {title}: {wanted[0]} and {row['Rule']}")
 
 
 # ---- verdicts of one dialogue each
@@ -337,6 +353,12 @@ def test_limits():
     for times, wanted in ((0, "2 SETTINGS frames are not acknowledged"), (2, "SETTINGS ACK without SETTINGS")):
         got = found(read(LAWFUL.replace(";< SETTINGS 01 0 -\n", "")), "get", obeys, 0, acknowledgements=times)
         expect([one.found for one in got] == [wanted], f"SETTINGS acknowledged {times} times: {got}")
+    late = types.SimpleNamespace(base=0, log=[("step", 1), ("item", Frame(PING, ACK, 0, PROBE)), ("step", 2), ("item", Frame(SETTINGS, ACK, 0, b""))])
+    late.shifted = lambda frame: frame
+    [sends] = read(LAWFUL).steps[0].sends
+    expect(under_test.sends_verdict(late, 1, sends) is None, "an acknowledgement behind the answer to the PING")
+    never = sends._replace(is_sent=False, what=under_test.Pattern(SETTINGS, 0, 0, b""))
+    expect(under_test.sends_verdict(late, 1, never) is None and under_test.sends_verdict(late, 2, never) == "it is sent", "a frame that must not come before the next step")
     got = found(read(LAWFUL), "get", obeys, 0, acknowledgements=0)
     expect([(one.line, one.found) for one in got] == [(4, "-")], f"a line ;< that does not hold: {got}")
     limits = under_test.Limits()
@@ -348,6 +370,17 @@ def test_limits():
     limits.took(Frame(HEADERS, 5, 5, GET))
     wanted = ["HEADERS on stream 3, where 1 streams are allowed and 1 are live", "DATA of 20481 octets, where 20480 are allowed"]
     expect(limits.faults == wanted, f"limits: {limits.faults}")
+
+
+def test_reset():
+    """On a stream that a script has reset nothing of the server goes out: here it grants an octet for each one of DATA, on the connection alone."""
+    dialogue = read(";# A reset\n;@ --credit 1\n;+ DATA 00 1\nRST_STREAM 00 1 c0\n")
+    octets = START + octets_of(Frame(HEADERS, END_HEADERS, 1, POST)) + octets_of(Frame(DATA, 0, 1, b"a")) * 3
+    made = Raw(None, octets, "leaves")
+    connections, _ = under_test.play(dialogue, 0, options(patience=0.3), made.run)
+    sent = [(frame.kind, frame.stream) for kind, frame in connections[0].log if kind == "sent"]
+    wanted = [(WINDOW_UPDATE, 0), (WINDOW_UPDATE, 1), (RST_STREAM, 1), (WINDOW_UPDATE, 0), (WINDOW_UPDATE, 0)]
+    expect(sent[2:] == wanted, f"a stream that is reset: {sent}")
 
 
 # ---- lines
@@ -401,14 +434,15 @@ def test_command():
 
 
 def main():
-    all_files = list(files())
+    all_files, rows = list(files()), rules()
     for name, text, _ in all_files:
-        test_rules(text, name)
+        test_rules(text, name, rows)
     test_bad_lines()
     test_command()
     test_reactions()
     test_raw()
     test_limits()
+    test_reset()
     test_all([(name, dialogue) for name, _, dialogues in all_files for dialogue in dialogues])
     print(f"{passed} passed, {failed} failed")
     return 1 if failed else 0

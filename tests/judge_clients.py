@@ -6,7 +6,8 @@
     tests/judge_clients.py write               docs/CLIENTS.md from the results, and what tests/clients/judged/looked-at.tsv says of them by hand
 
 Debian's packages: curl nghttp2-client nodejs golang-go golang-golang-x-net-dev python3-h2 python3-httpx librust-h2-dev cargo libprotocol-http2-perl ruby ruby-http-2. What is
-not installed is skipped. Traffic is on 127.0.0.1 alone. PATIENCE is the seconds for a silent client (9), JOBS how many dialogues run side by side (2).
+not installed is skipped. Traffic is on 127.0.0.1 alone. PATIENCE is the seconds for a silent client (9), JOBS how many dialogues run side by side (2); with ONLY those are
+played again whose title has these words, and the other results are kept.
 """
 
 import concurrent.futures
@@ -46,9 +47,18 @@ KNOWN = {
 # The files whose dialogues need more than GET /, by name.
 OTHER_KINDS = ("upload", "two-requests", "next-request", "small-window")
 # What a page shows of a verdict, and what it means. The first that a dialogue has counts.
-SIGNS = [("X", "broken", "breaks a MUST on the wire"), ("x", "unseen", "seems to break one; not looked at"), ("U", "user", "right on the wire, wrong word to its user"), ("S", "silent", "silent, or had to be killed"),
-         ("m", "missing", "never sends the item of a step"), ("?", "open", "the RFC leaves it open, or the code is neither named nor generic"), ("L", "lingers", "right, but open after its own GOAWAY with an error"),
-         ("a", "allowed", "something else that the RFC allows"), ("=", "same", "what the dialogue says"), ("-", "skipped", "not run: the client has no such mode")]
+SIGNS = [
+    ("X", "broken", "breaks a MUST on the wire"),
+    ("x", "unseen", "seems to break one; not looked at"),
+    ("U", "user", "right on the wire, wrong word to its user"),
+    ("S", "silent", "silent, or had to be killed"),
+    ("m", "missing", "never sends the item of a step"),
+    ("?", "open", "the RFC leaves it open, or the code is neither named nor generic"),
+    ("L", "lingers", "right, but open after its own GOAWAY with an error (5.4.1)"),
+    ("a", "allowed", "something else that the RFC allows"),
+    ("=", "same", "what the dialogue says"),
+    ("-", "skipped", "not run: the client has no such mode"),
+]
 
 
 def version_of(name):
@@ -127,8 +137,8 @@ def played(dialogue, kind, command, upload, options):
         return {"kind": "skipped", "verdicts": []}
     verdicts = runner.verdicts(dialogue, connections, status)
     log = [[kind, what if kind in ("step", "end") else shown(what)] for kind, what in connections[0].log] if connections else []
-    # An item that never came where the client's reaction to an earlier step was read already says nothing more.
-    return {"kind": kind_of(verdicts), "verdicts": [list(one) for one in verdicts], "status": status, "output": said[0][-600:], "connections": len(connections), "log": log[:12] + log[-60:] if len(log) > 72 else log}
+    log = log[:12] + log[-60:] if len(log) > 72 else log
+    return {"kind": kind_of(verdicts), "verdicts": [list(one) for one in verdicts], "status": status, "output": said[0][-600:], "connections": len(connections), "log": log}
 
 
 def kind_of(verdicts):
@@ -147,10 +157,15 @@ def run_clients(names):
             upload = f"{folder}/upload"
             with open(upload, "wb") as file:
                 file.write(b"u" * 200000)
-            command, rows = command_of(name, folder), list(all_dialogues(folder))
+            command, only = command_of(name, folder), os.environ.get("ONLY", "")
+            rows = [row for row in all_dialogues(folder) if only in row[2].title]
             with concurrent.futures.ThreadPoolExecutor(int(os.environ.get("JOBS", "2"))) as pool:
                 results = list(pool.map(lambda row: played(row[2], row[1], command, upload, options), rows))
         found = [{"file": file, "title": dialogue.title, **result} for (file, _, dialogue), result in zip(rows, results)]
+        if only:
+            with open(f"{KEPT}/{name}.json", encoding="utf-8") as file:
+                again = {row["title"]: row for row in found}
+                found = [again.get(row["title"], row) for row in json.load(file)["dialogues"]]
         with open(f"{KEPT}/{name}.json", "w", encoding="utf-8") as file:
             json.dump({"version": version_of(name), "date": datetime.datetime.now(datetime.timezone.utc).strftime("%Y-%m-%d"), "dialogues": found}, file, indent=1)
         print(name, {kind: sum(row["kind"] == kind for row in found) for _, kind, _ in SIGNS}, flush=True)
@@ -173,7 +188,7 @@ def show(name, words):
 
 
 def looked_at():
-    """What was found by hand: (client, title) with a sentence."""
+    """What was found by hand: (client, title), or (client, lingers), with a sentence."""
     with open(LOOKED_AT, encoding="utf-8") as file:
         return {tuple(line.rstrip("\n").split("\t")[:2]): line.rstrip("\n").split("\t")[2] for line in file if line.count("\t") == 2}
 
@@ -189,10 +204,17 @@ def octets_of(dialogue):
     return " ".join(frames[:4]) + (" .." if len(frames) > 4 else "")
 
 
+def short(title):
+    """A title without the number of the RFC that most are of."""
+    return title.replace("(RFC 9113, ", "(").replace("; RFC 9113, 6.7,", "; 6.7").replace("(RFC ", "(").replace("; RFC ", "; ")
+
+
 def wanted_of(dialogue):
-    found = [" or ".join(line.text for line in step.wanted) for step in dialogue.steps if step.wanted]
-    status = [f"status {line.text}" for line in dialogue.statuses]
-    return "; ".join(found[:1] + status[:1])
+    """The reaction that is wanted, with its duty where that is not MUST, and whether the client's user sees a success."""
+    lines = next((step.wanted for step in dialogue.steps if step.wanted), [])
+    words = [line.text.removeprefix("MUST ").replace("connection ", "C ").replace("stream ", "S").replace("_ERROR", "") for line in lines]
+    ends = {"0": ["ok"], "!0": ["fails"]}.get(dialogue.statuses[0].text if dialogue.statuses else "", [])
+    return "; ".join([" or ".join(words)] * bool(words) + ends)
 
 
 def write():
@@ -210,7 +232,7 @@ def write():
         dialogues = list(all_dialogues(folder))
     with open(PAGE, "w", encoding="utf-8") as file:
         file.write("\n".join(page(results, seen, kinds, dialogues)) + "\n")
-    unused = sorted(key for key in seen if kinds.get(key) not in ("broken", "user", "silent", "open", "missing", "lingers"))
+    unused = sorted(key for key in seen if key[1] != "lingers" and kinds.get(key) not in ("broken", "user", "silent", "open", "missing", "lingers"))
     print(*(f"looked-at.tsv: {name}: {title}: {kinds.get((name, title))} now" for name, title in unused), sep="\n")
 
 
@@ -219,30 +241,39 @@ def page(results, seen, kinds, dialogues):
     names = list(results)
     dates = sorted({result["date"] for result in results.values()})
     yield from ["# What clients do", "",
-                f"The {len(dialogues)} [dialogues](../dialogues/README.md) with {len(names)} clients, played on {' to '.join(dates)}. `tests/judge_clients.py` writes this page. These are the versions that Debian 12 has (node's is newer), most of 2022 and",
-                "2023: look at a newer version before you write to an author. Each `X`, `U` and `S` was read as frames before it was called one.", ""]
+                f"The {len(dialogues)} [dialogues](../dialogues/README.md) with {len(names)} clients, on {' to '.join(dates)}. `tests/judge_clients.py` writes this page. These are the versions",
+                "of Debian 12 (node's is newer), most of 2022 and 2023: look at a newer one before you write to an author. Each `X`, `U` and `S` was read as frames by hand.", ""]
     yield from [f"- `{name}`: {result['version']}" for name, result in results.items()]
     yield from ["", "| | | " + " | ".join(names) + " |", "|---|---|" + "---|" * len(names)]
     for sign, kind, said in SIGNS:
         counts = [sum(one == kind for (client, _), one in kinds.items() if client == name) for name in names]
         if any(counts):
             yield f"| `{sign}` | {said} | " + " | ".join(map(str, counts)) + " |"
-    yield from ["", "## Found", "", "What the client got is under [Octets](#octets). Where a title is of a GET, the stream is 1; Go's client begins with 3."]
+    named, places = {}, {}
+    for file, _, dialogue in dialogues:
+        places[file] = places.get(file, 0) + 1
+        named[dialogue.title] = f"{file} {places[file]}"
+    yield from ["", "## Found", "", "`blocks 2` is the second dialogue of dialogues/blocks.h2; [All](#all) has its title, [Octets](#octets) what the client got. Go's first stream is 3",
+                "where 1 is written. *Takes it*: it answers the PING behind the octets, and its user gets the response as if nothing had been."]
     for name, result in results.items():
         rows = [row for row in result["dialogues"] if (name, row["title"]) in seen and kinds[name, row["title"]] in ("broken", "user", "silent")]
-        if rows:
-            yield from ["", f"### {name}", ""]
-            by_sentence = {}
-            for row in rows:
-                by_sentence.setdefault((kinds[name, row["title"]], seen[name, row["title"]]), []).append(row["title"])
-            yield from [f"- `{signs[kind]}` {'; '.join(titles)}: {sentence}" for (kind, sentence), titles in by_sentence.items()]
-    yield from ["", "## All", "", "| Dialogue | Wanted | " + " | ".join(names) + " |", "|---|---|" + "---|" * len(names)]
+        by_sentence = {}
+        for row in rows:
+            by_sentence.setdefault((kinds[name, row["title"]], seen[name, row["title"]]), []).append(named[row["title"]])
+        lingers = [named[row["title"]] for row in result["dialogues"] if row["kind"] == "lingers"]
+        if lingers and (name, "lingers") in seen:
+            by_sentence["lingers", seen[name, "lingers"]] = [f"{len(lingers)} dialogues"]
+        yield from ["", f"### {name}", ""] * bool(by_sentence)
+        yield from [f"- `{signs[kind]}` {', '.join(places)}: {sentence}." for (kind, sentence), places in by_sentence.items()]
+    yield from ["", "## All", "", "Wanted: `-` it goes on, `C` a connection error, `S1` an error of stream 1; all MUST where no other word is there. `ok`, `fails`: what its user has to see.", "",
+                "| | Dialogue | Wanted | " + " | ".join(names) + " |", "|---|---|---|" + "---|" * len(names)]
     for _, _, dialogue in dialogues:
-        yield f"| {dialogue.title} | {wanted_of(dialogue)} | " + " | ".join(signs[kinds[name, dialogue.title]] for name in names) + " |"
-    yield from ["", "## Octets", "", "Of each dialogue above under Found: the frames to the client, after its request.", "", "| Dialogue | Octets |", "|---|---|"]
+        row = "|".join(signs[kinds[name, dialogue.title]] for name in names)
+        yield f"| {named[dialogue.title]} | {short(dialogue.title)} | {wanted_of(dialogue)} |{row}|"
+    yield from ["", "## Octets", "", "The frames to the client of each dialogue that one failed.", "", "| | Octets |", "|---|---|"]
     for _, _, dialogue in dialogues:
         if any(kinds[name, dialogue.title] in ("broken", "user", "silent", "unseen") for name in names):
-            yield f"| {dialogue.title} | `{octets_of(dialogue)}` |"
+            yield f"| {named[dialogue.title]} | `{octets_of(dialogue)}` |"
 
 
 def main(word="", *more):
