@@ -10,3 +10,4 @@ pub mod rest;
 pub mod text;
 pub mod waits;
 mod warning_words;
+pub mod why;

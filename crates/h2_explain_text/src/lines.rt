@@ -122,7 +122,7 @@ impl Text for FirstLine<'_> {
 }
 
 /// An error of the connection, which has ended, or of a stream.
-fn scope(phase: Phase) -> &'static str
+pub(crate) fn scope(phase: Phase) -> &'static str
     ensures { result.now ≡ scope phase }
 {
     match phase {
@@ -133,15 +133,17 @@ fn scope(phase: Phase) -> &'static str
 
 /// What follows the name of a cause, or of a reason, in its two lines: its rule, and a sentence on a line of its own.
 #[derive(Clone, Copy)]
-struct RuleLines<'w> {
-    paint: Paint,
-    role: Role,
-    rule: Rule,
-    sentence: &'w str,
+pub(crate) struct RuleLines<'w> {
+    pub paint: Paint,
+    /// The blanks before the sentence.
+    pub indent: &'w str,
+    pub role: Role,
+    pub rule: Rule,
+    pub sentence: &'w str,
 }
 
 impl Text for RuleLines<'_> {
-    ghost text = { λ l. rule_lines l.paint.0 l.role l.rule.section.now l.rule.server.now l.rule.client.now l.rule.client_section.now l.sentence.now };
+    ghost text = { λ l. rule_lines l.indent.now l.paint.0 l.role l.rule.section.now l.rule.server.now l.rule.client.now l.rule.client_section.now l.sentence.now };
 
     fn write_to<O: Output>(&self, output: &mut O) -> Result<(), DeviceFault> {
         let start = self.paint.started(self.role);
@@ -158,7 +160,7 @@ impl Text for RuleLines<'_> {
             ", ",
             client_section,
             end,
-            INDENT,
+            self.indent,
             start,
             self.sentence,
             end
@@ -189,6 +191,7 @@ impl Text for ErrorLines<'_> {
         let rule = rule_of_cause(cause, self.case);
         let rest = RuleLines {
             paint: self.paint,
+            indent: INDENT,
             role: Role::Error,
             rule,
             sentence: self.sentence,
@@ -215,6 +218,7 @@ impl Text for IgnoredLines {
         let rule = rule_of_reason(reason, self.case);
         let rest = RuleLines {
             paint: self.paint,
+            indent: INDENT,
             role: Role::Ignored,
             rule,
             sentence: rule.sentence,

@@ -1,6 +1,6 @@
 //! Frames, settings, error codes and fields in words.
-//! `frame_words` has a frame in words, `spelled` the fields of field blocks, each with how it was spelled, `why` why an item
-//! was an error or was ignored; `say` puts texts together, `json_text` escapes them for JSON.
+//! `frame_words` has a frame in words, `spelled` the fields of field blocks, each with how it was spelled; `say` puts texts
+//! together, `json_text` escapes them for JSON.
 #![tactic(auto)]
 
 pub mod frame_words;
@@ -12,4 +12,3 @@ mod reading;
 pub mod say;
 pub mod sent;
 pub mod spelled;
-pub mod why;
