@@ -7,6 +7,7 @@
 What is checked:
 
   - each cause and reason has a definition, a function and a case, each cause its script in examples/causes and one place in the text of docs/TABLE.md;
+  - the error that this script shows is one that the row of the cause allows, and of the scope that the laws have;
   - where TABLE.md has a cause in brackets with sections, as `(6.9.1; **own**; CAUSE)`, one of them is the section of its rule, of what the client had to do, or of one of
     its special cases, and **own** is there where the RFC demands nothing;
   - each file, link (with its heading), crate, path, function and type that README.md, CONTRIBUTING.md, CHANGELOG.md or docs/*.md names is there, and is in the file that is
@@ -24,16 +25,23 @@ import sys
 
 MADE = "docs/RULES.md"
 TABLE = "docs/TABLE.md"
-Row = collections.namedtuple("Row", "variant name section client client_section server sentence said")
+Row = collections.namedtuple("Row", "variant name server section client client_section least connection stream also open_connection open_stream open_also sentence said")
 
 # ---- the table of rules, as h2_spec has it
 
-CLIENT = {"MustNot": "client MUST NOT", "Must": "client MUST", "Limit": "limit", "Nothing": "nothing"}
-SERVER = {"Must": "server MUST", "May": "server MAY", "Own": "own"}
+CLIENT = {"MustNot": "client MUST NOT", "Must": "client MUST", "Breach": "client breach", "Limit": "limit", "Nothing": "nothing"}
+SERVER = {"Must": "server MUST", "Should": "server SHOULD", "May": "server MAY", "Own": "own"}
+LEAST = {"Connection": "connection error", "Stream": "stream error", "Malformed": "malformed", "None": "none", "Ignore": "ignored", "Accept": "accepted"}
+ALSO = {"ignore": "ignore", "accept": "accept", "wait": "wait", "answer": "4xx", "close": "close", "http1": "HTTP/1.1"}
+# A row of a table of h2_spec, as its macro `column` reads it.
+LISTED = re.compile(r'''
+    "(?P<name>[^"]*)",\ (?P<server>\w+)\ "(?P<section>[^"]*)",\ (?P<client>\w+)\ "(?P<client_section>[^"]*)",\ (?P<least>\w+)
+    \ \[(?P<connection>[^]]*)\]\ \[(?P<stream>[^]]*)\]\ \[(?P<also>[^]]*)\]
+    (?:\ open\ \[(?P<open_connection>[^]]*)\]\ \[(?P<open_stream>[^]]*)\]\ \[(?P<open_also>[^]]*)\])?,\s*"(?P<sentence>(?:[^"\\]|\\.)*)";''', re.X)
 # Definitions and functions that only translate a reason or a fault into a cause.
 TRANSLATES = {"request_cause", "trailers_cause", "fault_cause", "cause_by"}
 # Files of definitions that have the words of rules, or list them, and not when they hold.
-WORDS = {"Cause", "CauseWords", "IgnoredWords", "Rules", "SpecialCases", "ErrorContext", "Special", "Ignoring", "Account"}
+WORDS = {"Cause", "CauseWords", "IgnoredWords", "Rules", "SpecialCases", "AcceptedWords", "ErrorContext", "Special", "Ignoring", "Account"}
 # Crates whose functions decide; those above them speak of causes alone.
 DECIDING = ["h2_frame", "h2_conn_rules", "h2_conn", "h2_spec"]
 # What decides where a translated reason or fault arises: (definition, its file), (function, its crate and file).
@@ -90,20 +98,27 @@ def read(path):
         return file.read()
 
 
-def column(source, name):
-    body = re.search(rf"static {name}: \[[^;]*; \d+\] = \[(.*?)\n\];", source, re.S)[1]
-    return re.findall(r'"((?:[^"\\]|\\.)*)"', body) or re.findall(r"::(\w+)", body)
-
-
 def rows_of(module):
-    """The rows of a table of h2_spec: causes, ignored or special_cases."""
+    """The rows of a table of h2_spec: causes, ignored, special_cases or accepted."""
     source = read(f"crates/h2_spec/src/{module}.rt")
     body = re.search(r"\npub enum \w+ \{\n(.*?)\n\}", source, re.S)[1]
     variants = re.findall(r"((?:    /// [^\n]*\n)+)    (\w+),", body + "\n")
-    columns = [column(source, name) for name in ("NAMES", "SECTIONS", "CLIENT_DUTIES", "CLIENT_SECTIONS", "SERVER_DUTIES", "SENTENCES")]
-    said = [" ".join(re.findall(r"/// ([^\n]*)", text)) for text, _ in variants]
-    assert variants and all(len(it) == len(variants) for it in columns), f"the columns of {module}.rt differ in length"
-    return [Row(*row) for row in zip([name for _, name in variants], *columns, said)]
+    listed = [match.groupdict() for match in LISTED.finditer(source)]
+    assert variants and len(listed) == len(variants), f"{module}.rt has {len(variants)} variants and {len(listed)} rows"
+    return [Row(variant=name, said=" ".join(re.findall(r"/// ([^\n]*)", text)), **row) for (text, name), row in zip(variants, listed)]
+
+
+def reactions(connection, stream, also):
+    """Reactions in words: codes of a connection error, codes of a stream error, others."""
+    connection, stream = (connection or "").split(), (stream or "").split()
+    parts = [f"{scope} {' or '.join(codes)}" for scope, codes in (("C", connection + [it for it in stream if it not in connection]), ("S", stream)) if codes]
+    return ", ".join(parts + [ALSO[word] for word in (also or "").split()])
+
+
+def duties(row):
+    """The cells of a row: what the client broke, the server's duty, the least of it, what others may do, what is open."""
+    named = (reactions(row.open_connection, "", ""), reactions("", row.open_stream, "").split(", ")[-1], reactions("", "", row.open_also))
+    return f"{CLIENT[row.client]}, {row.client_section} | {SERVER[row.server]} | {LEAST[row.least]} | {reactions(row.connection, row.stream, row.also)} | {', '.join(filter(None, named))}"
 
 
 def codes_of():
@@ -208,12 +223,13 @@ def made_page(known, wrong):
     played, codes = cases(), codes_of()
     causes, reasons, special = rows_of("causes"), rows_of("ignored"), rows_of("special_cases")
     out = ["# Rules", "",
-           "Each cause of an error, each special case and each reason to ignore a frame: its section, what the client broke, how far the RFC decides the server's reaction",
-           "([TABLE.md](TABLE.md#the-duties-rules-causewords-ignoredwords-specialcases) has the words), the definition and the function that decide, and the files of its cases.",
+           "Each cause of an error, each special case, each reason to ignore a frame, and what is accepted: its section, what the client broke, what a server has to do and may do",
+           "([TABLE.md](TABLE.md#the-duties-rules-conforming) has the words), the definition and the function that decide, and the files of its cases.",
            "[TABLE.md](TABLE.md) says each rule in its place, `examples/causes/CAUSE.h2` shows it. Definitions are in `crates/h2_spec/specs` unless their crate is named.",
            "`tools/docs.py` writes this page."]
+    head = "The client broke | Server | At least | A server may | Open"
     for title, mark, enum, rows in (("Causes of errors", "!", "Cause", causes), ("Reasons to ignore a frame", "?", "Ignored", reasons)):
-        out += ["", f"## {title}", "", "| Name | Rule | The client broke | Server | Decided by | Cases |", "|---|---|---|---|---|---|"]
+        out += ["", f"## {title}", "", f"| Name | Rule | {head} | Decided by | Cases |", "|---|---|---|---|---|---|---|---|---|"]
         for row in rows:
             if row.name in DECIDED:
                 decided = [given(text, folder, known) for text, folder in zip(DECIDED[row.name], ("specs", "src"))]
@@ -222,9 +238,11 @@ def made_page(known, wrong):
             files = played.get((mark, row.name), [])
             wrong += [f"{row.name} has no {what}" for what, cell in zip(("definition", "function", "case"), (*decided, files)) if not cell]
             code = f"{codes[row.variant]}: " if enum == "Cause" else ""
-            out.append(f"| `{row.name}` | {row.section}; {code}{row.sentence} | {CLIENT[row.client]}, {row.client_section} | {SERVER[row.server]} | {'; '.join(decided)} | {', '.join(files)} |")
-    out += ["", "## Special cases", "", "Here `explain` prints other duties than those of the cause or reason.", "", "| Name | Of | Rule | The client broke | Server |", "|---|---|---|---|---|"]
-    out += [f"| `{row.name}` | {row.said.rstrip('.')} | {row.section} | {CLIENT[row.client]}, {row.client_section} | {SERVER[row.server]} |" for row in special]
+            out.append(f"| `{row.name}` | {row.section}; {code}{row.sentence} | {duties(row)} | {'; '.join(decided)} | {', '.join(files)} |")
+    out += ["", "## Special cases", "", "Here `explain` prints other duties than those of the cause or reason.", "", f"| Name | Of | Rule | {head} |", "|---|---|---|---|---|---|---|---|"]
+    out += [f"| `{row.name}` | {row.said.rstrip('.')} | {row.section} | {duties(row)} |" for row in special]
+    out += ["", "## What is accepted", "", "Items without an error for which the RFC says more than that they are lawful.", "", f"| Name | Rule | {head} |", "|---|---|---|---|---|---|---|"]
+    out += [f"| `{row.name}` | {row.section}; {row.sentence} | {duties(row)} |" for row in rows_of("accepted")]
     out += ["", "## Rules without a cause", "", "| Topic | Definitions | Functions and types |", "|---|---|---|"]
     for topic, files, does in TOPICS:
         for file in files.split():
@@ -262,6 +280,23 @@ def faults_of_table():
             yield f"{TABLE}: `{row.name}` is in brackets with {', '.join(sorted(sections))}, and its sections are {', '.join(sorted(allowed))}"
         if row.server == "Own" and "**own**" not in bracket:
             yield f"{TABLE}: `{row.name}` is own, and its brackets do not say so"
+
+
+# ---- what this server does
+
+CODES = {"PROTOCOL_ERROR": "1", "FLOW_CONTROL_ERROR": "3", "STREAM_CLOSED": "5", "FRAME_SIZE_ERROR": "6", "REFUSED_STREAM": "7", "COMPRESSION_ERROR": "9", "ENHANCE_YOUR_CALM": "11"}
+
+
+def faults_of_errors():
+    """Errors that the scripts of examples/causes show, and that the rows do not allow, or whose scope the laws have otherwise."""
+    of_stream = set(re.findall(r"^is_of_stream (\w+) = true$", read("crates/h2_spec_laws/specs/Conformance.antt"), re.M))
+    for row in rows_of("causes"):
+        said = re.search(rf"(connection|stream) error (\w+): {row.name}, ", read(f"examples/causes/{row.name}.h2"))
+        named = row.stream.split() + (row.connection.split() if said[1] == "connection" else [])
+        if CODES[said[2]] not in named:
+            yield f"{row.name}: this server's {said[1]} error {said[2]} is not in its row"
+        if (said[1] == "stream") != (row.variant in of_stream):
+            yield f"{row.name}: this server's error is one of the {said[1]}, and is_of_stream says otherwise"
 
 
 # ---- names
@@ -386,10 +421,10 @@ def files_in_comments(known):
 def check(made, wrong, known):
     """Shows what is wrong, and counts."""
     crates = set(re.findall(r"^(\w+)[^:\n]*:", read("crates.txt"), re.M))
-    wrong += faults_of_table()
+    wrong += [*faults_of_table(), *faults_of_errors()]
     if not os.path.exists(MADE) or read(MADE) != made:
         wrong.append(f"{MADE} is not what tools/docs.py writes: run it")
-    passed, all_words = 2 * len(rows_of("causes")) + len(rows_of("ignored")) + 1, words_of(known)
+    passed, all_words = 3 * len(rows_of("causes")) + len(rows_of("ignored")) + 1, words_of(known)
     for page in ["README.md", "CONTRIBUTING.md", "CHANGELOG.md", *sorted(glob.glob("docs/*.md"))]:
         for number, word, there in names(page, known, crates, all_words):
             passed += 1

@@ -15,31 +15,22 @@ variant=$(variant_of "$name") before=$(variant_of "$after")
 # The variants of the enum, in their order.
 variants() { sed -n '/^pub enum Cause/,/^}/s/^    \([A-Z][A-Za-z]*\),$/\1/p' "$code"; }
 
-place=$(variants | grep -nx "$before" | cut -d: -f1) || { echo "new-cause.sh: there is no cause $after" >&2; exit 1; }
+variants | grep -qx "$before" || { echo "new-cause.sh: there is no cause $after" >&2; exit 1; }
 if variants | grep -qx "$variant"; then
     echo "new-cause.sh: there is a cause $name already" >&2
     exit 1
 fi
 count=$(variants | wc -l)
 
-# column TABLE [TEXT]: one entry more in a table of causes.rt, after the other cause's; without a text a copy of that one.
-column() {
-    awk -v head="static $1:" -v place="$place" -v text="${2-}" '
-        { print }
-        index($0, head) == 1 { inside = 1; at = 0; next }
-        inside && ++at == place { print text == "" ? $0 : text; inside = 0 }
-    ' "$code" >"$code.new"
-    mv "$code.new" "$code"
-}
-
 sed -i "/^pub enum Cause/,/^}/s|^    $before,\$|&\n    /// $name: say when it arises.\n    $variant,|" "$code"
-column NAMES "    \"$name\","
-column SECTIONS
-column CLIENT_DUTIES
-column CLIENT_SECTIONS
-column SERVER_DUTIES
-column SENTENCES "    \"$name: say the rule\","
-sed -i "s/^\(static .*; \)$count\] = \[\$/\1$((count + 1))] = [/" "$code"
+# The row of the other cause once more, with the new name and a sentence.
+awk -v row="        \"$after\"," -v name="$name" '
+    { print }
+    index($0, row) == 1 { copy = substr($0, length(row) + 1); next }
+    copy != "" { print "        \"" name "\"," copy; print "            \"" name ": say the rule\";"; copy = "" }
+' "$code" >"$code.new"
+mv "$code.new" "$code"
+sed -i "s/^\(static .*; \)$count\] = causes!/\1$((count + 1))] = causes!/" "$code"
 sed -i "/pub fn code(self)/,/^    }/s/Cause::$before\b/& | Cause::$variant/" "$code"
 
 for file in "$words" "$codes" "$places"; do

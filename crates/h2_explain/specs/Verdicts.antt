@@ -34,6 +34,7 @@ cause_in (Some cause) = cause ∷ []
 abbrev pub is_limit : ClientDuty → Bool
 is_limit client_duty.MustNot = false
 is_limit client_duty.Must = false
+is_limit client_duty.Breach = false
 is_limit client_duty.Limit = true
 is_limit client_duty.Nothing = false
 

@@ -42,7 +42,9 @@ fn is_limit(duty: ClientDuty) -> bool
 {
     match duty {
         ClientDuty::Limit => true,
-        ClientDuty::MustNot | ClientDuty::Must | ClientDuty::Nothing => false,
+        ClientDuty::MustNot | ClientDuty::Must | ClientDuty::Breach | ClientDuty::Nothing => {
+            false
+        }
     }
 }
 

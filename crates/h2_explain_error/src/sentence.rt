@@ -32,7 +32,7 @@ pub fn say_sentence<A: Allocator + Copy>(
         || say_huffman(alloc, cause, context.reader, out)
         || say_field(cause, context.fields(), out);
     if !said {
-        say_all!(out; cause.sentence());
+        say_all!(out; cause.row().sentence);
     }
     if has(b":status".as_slice(), context.fields()) || begins_with_status(context.item.octets) {
         say_all!(out; "; a response has :status, so these may be the octets of a server");

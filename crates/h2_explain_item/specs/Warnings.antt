@@ -112,6 +112,7 @@ opens_stream x = is_no_error x.cause && is_opening x.before.stream.kind x.after.
 abbrev pub is_breach : ClientDuty → Bool
 is_breach client_duty.MustNot = true
 is_breach client_duty.Must = true
+is_breach client_duty.Breach = true
 is_breach client_duty.Limit = false
 is_breach client_duty.Nothing = false
 

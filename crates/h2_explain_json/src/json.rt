@@ -346,7 +346,7 @@ fn put_error<A: Allocator + Copy>(
     put_also(account.also.as_slice(), out);
     put_case(case, out);
     out.plain(member!("cause"), cause.name());
-    out.plain(member!("client"), rule.client);
+    out.plain(member!("client"), rule.duties.client.words());
     out.plain(member!("client_section"), rule.client_section);
     put_code(cause.code().number(), out);
     out.plain(
@@ -359,7 +359,7 @@ fn put_error<A: Allocator + Copy>(
     );
     out.plain(member!("section"), rule.section);
     out.text(member!("sentence"), account.sentence.as_str());
-    out.plain(member!("server"), rule.server);
+    out.plain(member!("server"), rule.duties.server.words());
     out.close();
 }
 
@@ -368,12 +368,12 @@ fn put_ignored<A: Allocator>(why: Ignored, case: Option<SpecialCase>, out: &mut 
     let rule = rule_of_reason(why, case);
     out.open(member!("ignored"));
     put_case(case, out);
-    out.plain(member!("client"), rule.client);
+    out.plain(member!("client"), rule.duties.client.words());
     out.plain(member!("client_section"), rule.client_section);
     out.plain(member!("reason"), why.name());
     out.plain(member!("section"), rule.section);
     out.plain(member!("sentence"), rule.sentence);
-    out.plain(member!("server"), rule.server);
+    out.plain(member!("server"), rule.duties.server.words());
     out.close();
 }
 

@@ -5,6 +5,7 @@
 ghost use Rattle.std.specs.Prelude.{◌≡◌, [], None, OnOk, if◌then◌else◌};
 ghost use Rattle.h2_explain_text.specs.Lines.{Words as Said, blanks, cause_lines, ended, error_lines, first_line, ignored_lines, is_silent, lines, lines_of, reason_lines, rule_lines, scope, shown_words, started};
 ghost use Rattle.h2_explain_item.specs.Special.{rule_of_cause, rule_of_reason};
+ghost use Rattle.h2_spec.specs.Causes.Rules.{client_words, server_words};
 
 use crate::account::Account;
 use crate::paint::{Paint, Role};
@@ -14,7 +15,7 @@ use crate::text::{
 };
 use crate::warning_words::say_warnings;
 use h2_explain_item::diagnosis::special::{
-    Rule, case_of_error, case_of_reason, rule_of_cause, rule_of_reason,
+    case_of_error, case_of_reason, rule_of_cause, rule_of_reason,
 };
 use h2_explain_item::item::Explained;
 use h2_explain_words::names::{error_name, scope_word};
@@ -25,6 +26,7 @@ use h2_spec::causes::Cause;
 use h2_spec::connection::Phase;
 use h2_spec::frames::ItemHead;
 use h2_spec::ignored::Ignored;
+use h2_spec::rules::Row;
 use h2_spec::special_cases::SpecialCase;
 use itoa::Buffer;
 use std::alloc::{AllocError, Allocator, Global};
@@ -138,25 +140,29 @@ pub(crate) struct RuleLines<'w> {
     /// The blanks before the sentence.
     pub indent: &'w str,
     pub role: Role,
-    pub rule: Rule,
+    pub rule: Row,
     pub sentence: &'w str,
 }
 
 impl Text for RuleLines<'_> {
-    ghost text = { λ l. rule_lines l.indent.now l.paint.0 l.role l.rule.section.now l.rule.server.now l.rule.client.now l.rule.client_section.now l.sentence.now };
+    ghost text = { λ l. rule_lines l.indent.now l.paint.0 l.role l.rule.section.now (server_words l.rule.duties.server) (client_words l.rule.duties.client) l.rule.client_section.now l.sentence.now };
 
     fn write_to<O: Output>(&self, output: &mut O) -> Result<(), DeviceFault> {
         let start = self.paint.started(self.role);
         let end = self.paint.ended();
-        let (section, server) = (self.rule.section, self.rule.server);
-        let (client, client_section) = (self.rule.client, self.rule.client_section);
+        let Row {
+            section,
+            client_section,
+            duties,
+            ..
+        } = self.rule;
         texts!(
             ", ",
             section,
             ", ",
-            server,
+            duties.server.words(),
             "; broken: ",
-            client,
+            duties.client.words(),
             ", ",
             client_section,
             end,

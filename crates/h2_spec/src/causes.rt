@@ -3,11 +3,11 @@
 
 ghost use Rattle.std.specs.Prelude.{◌≡◌, map, slice_get, Some};
 ghost use Rattle.h2_spec.specs.Causes.Cause.{code_of};
-ghost use Rattle.h2_spec.specs.Causes.CauseWords.{all_causes, cause_client_duty, cause_client_section, cause_name, cause_section, cause_sentence, cause_server_duty};
-ghost use Rattle.h2_spec.specs.Causes.Rules.{text_of};
+ghost use Rattle.h2_spec.specs.Causes.CauseWords.{all_causes, row_of};
+ghost use Rattle.h2_spec.specs.Causes.Rules.{duties_of, row_shown, text_of};
 
 use crate::errors::ErrorCode;
-use crate::rules::{ClientDuty, ServerDuty, client_duty_at, server_duty_at, text_at};
+use crate::rules::{Duties, Row, column, duties_at, text_at};
 use std::fmt;
 
 /// The rule that an item breaks.
@@ -168,526 +168,208 @@ pub enum Cause {
     TrailersBadTe,
 }
 
-/// The name of each cause, in their order.
-static NAMES: [&str; 76] = [
-    "bad-preface",
-    "first-not-settings",
-    "first-is-settings-ack",
-    "frame-too-large",
-    "stream-frame-too-large",
-    "block-interrupted",
-    "data-on-stream-zero",
-    "headers-on-stream-zero",
-    "priority-on-stream-zero",
-    "rst-stream-on-stream-zero",
-    "continuation-on-stream-zero",
-    "settings-on-stream",
-    "ping-on-stream",
-    "goaway-on-stream",
-    "data-length",
-    "headers-length",
-    "priority-length",
-    "rst-stream-length",
-    "settings-length",
-    "settings-ack-length",
-    "ping-length",
-    "goaway-length",
-    "window-update-length",
-    "data-padding",
-    "headers-padding",
-    "push-promise-from-client",
-    "continuation-outside-block",
-    "data-on-idle",
-    "data-on-skipped",
-    "data-after-end-stream",
-    "data-on-closed",
-    "headers-on-even",
-    "headers-on-skipped",
-    "headers-after-end-stream",
-    "headers-on-closed",
-    "rst-stream-on-idle",
-    "window-update-on-idle",
-    "connection-window-exceeded",
-    "stream-window-exceeded",
-    "connection-increment-zero",
-    "stream-increment-zero",
-    "connection-window-overflow",
-    "stream-window-overflow",
-    "enable-push-value",
-    "initial-window-size-value",
-    "max-frame-size-value",
-    "initial-window-size-overflow",
-    "block-too-large",
-    "block-truncated",
-    "integer-too-long",
-    "index-zero",
-    "index-out-of-tables",
-    "huffman-string",
-    "size-update-late",
-    "size-update-too-large",
-    "size-update-missing",
-    "too-many-streams",
-    "list-too-large",
-    "bad-name",
-    "bad-value",
-    "late-pseudo-field",
-    "unknown-pseudo-field",
-    "double-pseudo-field",
-    "lacking-pseudo-field",
-    "connection-field",
-    "bad-te",
-    "bad-content-length",
-    "content-missing",
-    "content-too-long",
-    "content-too-short",
-    "trailers-without-end-stream",
-    "trailers-bad-name",
-    "trailers-bad-value",
-    "trailers-pseudo-field",
-    "trailers-connection-field",
-    "trailers-bad-te",
-];
+/// The rows in their order, and a column of them: what has to be read column by column, since a table of many texts
+/// takes long to prove.
+macro_rules! causes {
+    ($column:ident) => { column! { $column
+        "bad-preface", Must "RFC 9113 3.4", Breach "RFC 9113 3.4", Connection [1] [] [wait http1],
+            "the octets are not the connection preface";
+        "first-not-settings", Must "RFC 9113 3.4", Must "RFC 9113 3.4", Connection [1] [] [],
+            "the first frame after the preface has to be SETTINGS";
+        "first-is-settings-ack", Own "RFC 9113 3.4", Must "RFC 9113 3.4", None [1] [] [accept],
+            "the first SETTINGS is the client's own and has no ACK";
+        "frame-too-large", Must "RFC 9113 4.2", MustNot "RFC 9113 4.1", Connection [6] [] [wait],
+            "the frame is longer than this server takes";
+        "stream-frame-too-large", Must "RFC 9113 4.2", MustNot "RFC 9113 4.1", Stream [] [6] [wait],
+            "the frame is longer than this server takes";
+        "block-interrupted", Must "RFC 9113 6.2", Must "RFC 9113 6.2", Connection [1] [] [] open [9] [] [],
+            "while a field block is open, only CONTINUATION on its stream may follow";
+        "data-on-stream-zero", Must "RFC 9113 6.1", Must "RFC 9113 6.1", Connection [1] [] [],
+            "DATA has to be on a stream, not on 0";
+        "headers-on-stream-zero", Must "RFC 9113 6.2", Must "RFC 9113 6.2", Connection [1] [] [],
+            "HEADERS has to be on a stream, not on 0";
+        "priority-on-stream-zero", Must "RFC 9113 6.3", Breach "RFC 9113 6.3", Connection [1] [] [],
+            "PRIORITY has to be on a stream, not on 0";
+        "rst-stream-on-stream-zero", Must "RFC 9113 6.4", Must "RFC 9113 6.4", Connection [1] [] [],
+            "RST_STREAM has to be on a stream, not on 0";
+        "continuation-on-stream-zero", Must "RFC 9113 6.10", Must "RFC 9113 6.10", Connection [1] [] [],
+            "CONTINUATION has to be on a stream, not on 0";
+        "settings-on-stream", Must "RFC 9113 6.5", Must "RFC 9113 6.5", Connection [1] [] [],
+            "SETTINGS has to be on stream 0";
+        "ping-on-stream", Must "RFC 9113 6.7", Breach "RFC 9113 6.7", Connection [1] [] [],
+            "PING has to be on stream 0";
+        "goaway-on-stream", Must "RFC 9113 6.8", Breach "RFC 9113 6.8", Connection [1] [] [],
+            "GOAWAY has to be on stream 0";
+        "data-length", Must "RFC 9113 4.2", Breach "RFC 9113 6.1", Stream [] [6] [],
+            "DATA with PADDED has no octet for the Pad Length";
+        "headers-length", Must "RFC 9113 4.2", Breach "RFC 9113 6.2", Connection [6] [] [],
+            "HEADERS is too short for what its flags announce";
+        "priority-length", Must "RFC 9113 6.3", Breach "RFC 9113 6.3", Stream [] [6] [],
+            "PRIORITY has to have 5 octets";
+        "rst-stream-length", Must "RFC 9113 6.4", Breach "RFC 9113 6.4", Connection [6] [] [],
+            "RST_STREAM has to have 4 octets";
+        "settings-length", Must "RFC 9113 6.5", Breach "RFC 9113 6.5", Connection [6] [] [],
+            "the length of SETTINGS has to be a multiple of 6";
+        "settings-ack-length", Must "RFC 9113 6.5", Must "RFC 9113 6.5", Connection [6] [] [],
+            "SETTINGS with ACK has to be empty";
+        "ping-length", Must "RFC 9113 6.7", Must "RFC 9113 6.7", Connection [6] [] [],
+            "PING has to have 8 octets";
+        "goaway-length", Must "RFC 9113 4.2", Breach "RFC 9113 6.8", Connection [6] [] [],
+            "GOAWAY has to have 8 octets or more";
+        "window-update-length", Must "RFC 9113 6.9", Breach "RFC 9113 6.9", Connection [6] [] [],
+            "WINDOW_UPDATE has to have 4 octets";
+        "data-padding", Must "RFC 9113 6.1", Breach "RFC 9113 6.1", Connection [1] [] [],
+            "the padding of DATA is longer than the rest of its payload";
+        "headers-padding", Must "RFC 9113 6.2", Breach "RFC 9113 6.2", Connection [1] [] [] open [6] [] [],
+            "the padding of HEADERS is longer than the rest of its payload";
+        "push-promise-from-client", Must "RFC 9113 8.4", Breach "RFC 9113 8.4", Connection [1] [] [] open [6] [] [],
+            "a client can't push: PUSH_PROMISE may not be sent to a server";
+        "continuation-outside-block", Must "RFC 9113 6.10", Must "RFC 9113 6.10", Connection [1] [] [],
+            "no field block is open that CONTINUATION could continue";
+        "data-on-idle", Must "RFC 9113 5.1", Breach "RFC 9113 6.1", Connection [1 5] [] [] open [] [5] [],
+            "the stream is idle: only HEADERS opens it";
+        "data-on-skipped", May "RFC 9113 5.1", MustNot "RFC 9113 5.1", None [5] [5] [ignore],
+            "the stream was closed, unused, when a higher one was opened";
+        "data-after-end-stream", Must "RFC 9113 5.1", Breach "RFC 9113 5.1", Stream [] [5] [],
+            "the client has already ended this stream by END_STREAM";
+        "data-on-closed", May "RFC 9113 5.1", MustNot "RFC 9113 5.1", None [5] [5] [ignore],
+            "the stream is closed";
+        "headers-on-even", Must "RFC 9113 5.1.1", Must "RFC 9113 5.1.1", Connection [1] [] [],
+            "a client opens streams with odd identifiers";
+        "headers-on-skipped", Must "RFC 9113 5.1.1", Must "RFC 9113 5.1.1", Connection [1 5] [] [],
+            "a new stream has to have a higher identifier than all streams before";
+        "headers-after-end-stream", Must "RFC 9113 5.1", Breach "RFC 9113 5.1", Stream [] [5] [],
+            "the client has already ended this stream by END_STREAM";
+        "headers-on-closed", May "RFC 9113 5.1", MustNot "RFC 9113 5.1", None [5] [5] [ignore],
+            "the stream is closed";
+        "rst-stream-on-idle", Must "RFC 9113 6.4", MustNot "RFC 9113 6.4", Connection [1] [] [],
+            "an idle stream can't be reset";
+        "window-update-on-idle", Must "RFC 9113 5.1", Breach "RFC 9113 5.1", Connection [1] [] [],
+            "the stream is idle: it has no window yet";
+        "connection-window-exceeded", May "RFC 9113 6.9", MustNot "RFC 9113 6.9.1", None [3] [] [accept] open [] [3] [],
+            "DATA is longer than the connection's receive window";
+        "stream-window-exceeded", May "RFC 9113 6.9", MustNot "RFC 9113 6.9.1", None [3] [3] [accept],
+            "DATA is longer than the stream's receive window";
+        "connection-increment-zero", Must "RFC 9113 6.9", Breach "RFC 9113 6.9", Connection [1] [] [],
+            "the increment of WINDOW_UPDATE has to be 1 or more";
+        "stream-increment-zero", Must "RFC 9113 6.9", Breach "RFC 9113 6.9", Stream [] [1] [],
+            "the increment of WINDOW_UPDATE has to be 1 or more";
+        "connection-window-overflow", Must "RFC 9113 6.9.1", Breach "RFC 9113 6.9.1", Connection [3] [] [],
+            "the connection's send window would be above 2147483647";
+        "stream-window-overflow", Must "RFC 9113 6.9.1", Breach "RFC 9113 6.9.1", Stream [] [3] [],
+            "the stream's send window would be above 2147483647";
+        "enable-push-value", Must "RFC 9113 6.5.2", Breach "RFC 9113 6.5.2", Connection [1] [] [],
+            "SETTINGS_ENABLE_PUSH has to be 0 or 1";
+        "initial-window-size-value", Must "RFC 9113 6.5.2", Breach "RFC 9113 6.5.2", Connection [3] [] [],
+            "SETTINGS_INITIAL_WINDOW_SIZE has to be 2147483647 or less";
+        "max-frame-size-value", Must "RFC 9113 6.5.2", Must "RFC 9113 6.5.2", Connection [1] [] [],
+            "SETTINGS_MAX_FRAME_SIZE has to be 16384 to 16777215";
+        "initial-window-size-overflow", Must "RFC 9113 6.9.2", Breach "RFC 9113 6.9.2", Connection [3] [] [],
+            "SETTINGS_INITIAL_WINDOW_SIZE takes a stream's send window above 2147483647";
+        "block-too-large", Own "RFC 9113 10.5.1", Limit "RFC 9113 10.5.1", None [9] [11] [accept answer],
+            "the fragments of the field block have more than 65536 octets";
+        "block-truncated", Must "RFC 9113 4.3", Breach "RFC 9113 4.3", Connection [9] [] [],
+            "the field block ends inside an instruction";
+        "integer-too-long", Own "RFC 7541 5.1", Limit "RFC 7541 5.1", None [9] [] [accept],
+            "an integer has more than five continuation octets";
+        "index-zero", Must "RFC 7541 6.1", Breach "RFC 7541 6.1", Connection [9] [] [],
+            "an indexed field has the index 0";
+        "index-out-of-tables", Must "RFC 7541 2.3.3", Breach "RFC 7541 2.3.3", Connection [9] [] [],
+            "an index is beyond the end of both tables";
+        "huffman-string", Must "RFC 7541 5.2", Breach "RFC 7541 5.2", Connection [9] [] [],
+            "a Huffman string contains EOS, or its padding is longer than 7 bits or has a 0 in it";
+        "size-update-late", Own "RFC 7541 4.2", Must "RFC 7541 4.2", None [9] [] [accept],
+            "a table size update may only be at the beginning of a field block";
+        "size-update-too-large", Must "RFC 7541 6.3", Must "RFC 7541 6.3", Connection [9] [] [],
+            "a table size update is above the limit of the table";
+        "size-update-missing", Must "RFC 9113 4.3.1", Must "RFC 9113 4.3.1", Connection [9] [] [] open [] [] [accept],
+            "the limit of the table is lower now: the field block has to begin with a table size update";
+        "too-many-streams", Must "RFC 9113 5.1.2", MustNot "RFC 9113 5.1.2", Stream [] [7] [],
+            "as many streams are open as this server allows";
+        "list-too-large", Own "RFC 9113 10.5.1", Limit "RFC 9113 10.5.1", None [9] [11 1] [accept answer],
+            "the list of fields has more than 65536 octets";
+        "bad-name", Must "RFC 9113 8.2.1", MustNot "RFC 9113 8.2.1", Malformed [] [1] [answer],
+            "the name of a field is empty or has an octet that names may not have";
+        "bad-value", Must "RFC 9113 8.2.1", MustNot "RFC 9113 8.2.1", Malformed [] [1] [answer],
+            "the value of a field has an octet that values may not have, or a blank at an end";
+        "late-pseudo-field", Must "RFC 9113 8.3", Must "RFC 9113 8.3", Malformed [] [1] [answer],
+            "a pseudo-field is after a regular field";
+        "unknown-pseudo-field", Must "RFC 9113 8.3", MustNot "RFC 9113 8.3", Malformed [] [1] [answer],
+            "a pseudo-field is not one of a request";
+        "double-pseudo-field", Must "RFC 9113 8.3", MustNot "RFC 9113 8.3", Malformed [] [1] [answer],
+            "a pseudo-field is there twice";
+        "lacking-pseudo-field", Must "RFC 9113 8.3.1", Must "RFC 9113 8.3.1", Malformed [] [1] [answer],
+            "a pseudo-field is missing or empty, or CONNECT has one that it may not have";
+        "connection-field", Must "RFC 9113 8.2.2", MustNot "RFC 9113 8.2.2", Malformed [] [1] [answer],
+            "a field belongs to HTTP/1.1 connections";
+        "bad-te", Must "RFC 9113 8.2.2", MustNot "RFC 9113 8.2.2", Malformed [] [1] [answer],
+            "te has another value than trailers";
+        "bad-content-length", Must "RFC 9113 8.1.1", MustNot "RFC 9110 8.6", Malformed [] [1] [answer wait] open [] [] [accept],
+            "content-length is not 1 to 18 digits, or is there twice with different numbers";
+        "content-missing", Must "RFC 9113 8.1.1", Breach "RFC 9113 8.1.1", Malformed [] [1] [answer],
+            "the request ends with its fields and declares content";
+        "content-too-long", Must "RFC 9113 8.1.1", Breach "RFC 9113 8.1.1", Malformed [] [1] [answer wait],
+            "the content is longer than content-length declares";
+        "content-too-short", Must "RFC 9113 8.1.1", Breach "RFC 9113 8.1.1", Malformed [] [1] [answer],
+            "the content is shorter than content-length declares";
+        "trailers-without-end-stream", Must "RFC 9113 8.1", Breach "RFC 9113 8.1", Malformed [] [1] [answer],
+            "trailers have to end the stream by END_STREAM";
+        "trailers-bad-name", Must "RFC 9113 8.2.1", MustNot "RFC 9113 8.2.1", Malformed [] [1] [answer],
+            "the name of a trailer is empty or has an octet that names may not have";
+        "trailers-bad-value", Must "RFC 9113 8.2.1", MustNot "RFC 9113 8.2.1", Malformed [] [1] [answer],
+            "the value of a trailer has an octet that values may not have, or a blank at an end";
+        "trailers-pseudo-field", Must "RFC 9113 8.1", MustNot "RFC 9113 8.1", Malformed [] [1] [answer],
+            "trailers may not have a pseudo-field";
+        "trailers-connection-field", Must "RFC 9113 8.2.2", MustNot "RFC 9113 8.2.2", Malformed [] [1] [answer],
+            "a trailer belongs to HTTP/1.1 connections";
+        "trailers-bad-te", Must "RFC 9113 8.2.2", MustNot "RFC 9113 8.2.2", Malformed [] [1] [answer],
+            "te, in the trailers, has another value than trailers";
+    } };
+}
 
-/// The section that has the rule of each cause, in their order.
-static SECTIONS: [&str; 76] = [
-    "RFC 9113 3.4",
-    "RFC 9113 3.4",
-    "RFC 9113 3.4",
-    "RFC 9113 4.2",
-    "RFC 9113 4.2",
-    "RFC 9113 6.2",
-    "RFC 9113 6.1",
-    "RFC 9113 6.2",
-    "RFC 9113 6.3",
-    "RFC 9113 6.4",
-    "RFC 9113 6.10",
-    "RFC 9113 6.5",
-    "RFC 9113 6.7",
-    "RFC 9113 6.8",
-    "RFC 9113 4.2",
-    "RFC 9113 4.2",
-    "RFC 9113 6.3",
-    "RFC 9113 6.4",
-    "RFC 9113 6.5",
-    "RFC 9113 6.5",
-    "RFC 9113 6.7",
-    "RFC 9113 4.2",
-    "RFC 9113 6.9",
-    "RFC 9113 6.1",
-    "RFC 9113 6.2",
-    "RFC 9113 8.4",
-    "RFC 9113 6.10",
-    "RFC 9113 5.1",
-    "RFC 9113 5.1",
-    "RFC 9113 5.1",
-    "RFC 9113 5.1",
-    "RFC 9113 5.1.1",
-    "RFC 9113 5.1.1",
-    "RFC 9113 5.1",
-    "RFC 9113 5.1",
-    "RFC 9113 6.4",
-    "RFC 9113 5.1",
-    "RFC 9113 6.9",
-    "RFC 9113 6.9",
-    "RFC 9113 6.9",
-    "RFC 9113 6.9",
-    "RFC 9113 6.9.1",
-    "RFC 9113 6.9.1",
-    "RFC 9113 6.5.2",
-    "RFC 9113 6.5.2",
-    "RFC 9113 6.5.2",
-    "RFC 9113 6.9.2",
-    "RFC 9113 10.5.1",
-    "RFC 9113 4.3",
-    "RFC 7541 5.1",
-    "RFC 7541 6.1",
-    "RFC 7541 2.3.3",
-    "RFC 7541 5.2",
-    "RFC 7541 4.2",
-    "RFC 7541 6.3",
-    "RFC 9113 4.3.1",
-    "RFC 9113 5.1.2",
-    "RFC 9113 10.5.1",
-    "RFC 9113 8.2.1",
-    "RFC 9113 8.2.1",
-    "RFC 9113 8.3",
-    "RFC 9113 8.3",
-    "RFC 9113 8.3",
-    "RFC 9113 8.3.1",
-    "RFC 9113 8.2.2",
-    "RFC 9113 8.2.2",
-    "RFC 9113 8.1.1",
-    "RFC 9113 8.1.1",
-    "RFC 9113 8.1.1",
-    "RFC 9113 8.1.1",
-    "RFC 9113 8.1",
-    "RFC 9113 8.2.1",
-    "RFC 9113 8.2.1",
-    "RFC 9113 8.1",
-    "RFC 9113 8.2.2",
-    "RFC 9113 8.2.2",
-];
+static NAMES: [&str; 76] = causes!(name);
 
-/// What the client did, for each cause, in their order.
-static CLIENT_DUTIES: [ClientDuty; 76] = [
-    ClientDuty::Must,
-    ClientDuty::Must,
-    ClientDuty::Must,
-    ClientDuty::MustNot,
-    ClientDuty::MustNot,
-    ClientDuty::Must,
-    ClientDuty::Must,
-    ClientDuty::Must,
-    ClientDuty::Must,
-    ClientDuty::Must,
-    ClientDuty::Must,
-    ClientDuty::Must,
-    ClientDuty::Must,
-    ClientDuty::Must,
-    ClientDuty::Must,
-    ClientDuty::Must,
-    ClientDuty::Must,
-    ClientDuty::Must,
-    ClientDuty::Must,
-    ClientDuty::Must,
-    ClientDuty::Must,
-    ClientDuty::Must,
-    ClientDuty::Must,
-    ClientDuty::MustNot,
-    ClientDuty::MustNot,
-    ClientDuty::MustNot,
-    ClientDuty::Must,
-    ClientDuty::MustNot,
-    ClientDuty::MustNot,
-    ClientDuty::MustNot,
-    ClientDuty::MustNot,
-    ClientDuty::Must,
-    ClientDuty::Must,
-    ClientDuty::MustNot,
-    ClientDuty::MustNot,
-    ClientDuty::MustNot,
-    ClientDuty::MustNot,
-    ClientDuty::MustNot,
-    ClientDuty::MustNot,
-    ClientDuty::MustNot,
-    ClientDuty::MustNot,
-    ClientDuty::MustNot,
-    ClientDuty::MustNot,
-    ClientDuty::Must,
-    ClientDuty::MustNot,
-    ClientDuty::Must,
-    ClientDuty::MustNot,
-    ClientDuty::Limit,
-    ClientDuty::Must,
-    ClientDuty::Limit,
-    ClientDuty::MustNot,
-    ClientDuty::MustNot,
-    ClientDuty::MustNot,
-    ClientDuty::Must,
-    ClientDuty::Must,
-    ClientDuty::Must,
-    ClientDuty::MustNot,
-    ClientDuty::Limit,
-    ClientDuty::MustNot,
-    ClientDuty::MustNot,
-    ClientDuty::Must,
-    ClientDuty::MustNot,
-    ClientDuty::MustNot,
-    ClientDuty::Must,
-    ClientDuty::MustNot,
-    ClientDuty::MustNot,
-    ClientDuty::MustNot,
-    ClientDuty::Must,
-    ClientDuty::Must,
-    ClientDuty::Must,
-    ClientDuty::Must,
-    ClientDuty::MustNot,
-    ClientDuty::MustNot,
-    ClientDuty::MustNot,
-    ClientDuty::MustNot,
-    ClientDuty::MustNot,
-];
+static SECTIONS: [&str; 76] = causes!(section);
 
-/// The section that says what the client had to do, for each cause, in their order.
-static CLIENT_SECTIONS: [&str; 76] = [
-    "RFC 9113 3.4",
-    "RFC 9113 3.4",
-    "RFC 9113 3.4",
-    "RFC 9113 4.2",
-    "RFC 9113 4.2",
-    "RFC 9113 6.2",
-    "RFC 9113 6.1",
-    "RFC 9113 6.2",
-    "RFC 9113 6.3",
-    "RFC 9113 6.4",
-    "RFC 9113 6.10",
-    "RFC 9113 6.5",
-    "RFC 9113 6.7",
-    "RFC 9113 6.8",
-    "RFC 9113 4.2",
-    "RFC 9113 4.2",
-    "RFC 9113 6.3",
-    "RFC 9113 6.4",
-    "RFC 9113 6.5",
-    "RFC 9113 6.5",
-    "RFC 9113 6.7",
-    "RFC 9113 4.2",
-    "RFC 9113 6.9",
-    "RFC 9113 6.1",
-    "RFC 9113 6.2",
-    "RFC 9113 8.4",
-    "RFC 9113 6.10",
-    "RFC 9113 5.1",
-    "RFC 9113 5.1",
-    "RFC 9113 5.1",
-    "RFC 9113 5.1",
-    "RFC 9113 5.1.1",
-    "RFC 9113 5.1.1",
-    "RFC 9113 5.1",
-    "RFC 9113 5.1",
-    "RFC 9113 6.4",
-    "RFC 9113 5.1",
-    "RFC 9113 6.9.1",
-    "RFC 9113 6.9.1",
-    "RFC 9113 6.9",
-    "RFC 9113 6.9",
-    "RFC 9113 6.9.1",
-    "RFC 9113 6.9.1",
-    "RFC 9113 6.5.2",
-    "RFC 9113 6.5.2",
-    "RFC 9113 6.5.2",
-    "RFC 9113 6.9.2",
-    "RFC 9113 10.5.1",
-    "RFC 9113 4.3",
-    "RFC 7541 5.1",
-    "RFC 7541 6.1",
-    "RFC 7541 2.3.3",
-    "RFC 7541 5.2",
-    "RFC 7541 4.2",
-    "RFC 7541 6.3",
-    "RFC 9113 4.3.1",
-    "RFC 9113 5.1.2",
-    "RFC 9113 10.5.1",
-    "RFC 9113 8.2.1",
-    "RFC 9113 8.2.1",
-    "RFC 9113 8.3",
-    "RFC 9113 8.3",
-    "RFC 9113 8.3",
-    "RFC 9113 8.3.1",
-    "RFC 9113 8.2.2",
-    "RFC 9113 8.2.2",
-    "RFC 9110 8.6",
-    "RFC 9113 8.1.1",
-    "RFC 9113 8.1.1",
-    "RFC 9113 8.1.1",
-    "RFC 9113 8.1",
-    "RFC 9113 8.2.1",
-    "RFC 9113 8.2.1",
-    "RFC 9113 8.1",
-    "RFC 9113 8.2.2",
-    "RFC 9113 8.2.2",
-];
+static CLIENT_SECTIONS: [&str; 76] = causes!(client_section);
 
-/// How far the RFC decides what this server does, for each cause, in their order.
-static SERVER_DUTIES: [ServerDuty; 76] = [
-    ServerDuty::Must,
-    ServerDuty::Must,
-    ServerDuty::Own,
-    ServerDuty::Must,
-    ServerDuty::May,
-    ServerDuty::Must,
-    ServerDuty::Must,
-    ServerDuty::Must,
-    ServerDuty::Must,
-    ServerDuty::Must,
-    ServerDuty::Must,
-    ServerDuty::Must,
-    ServerDuty::Must,
-    ServerDuty::Must,
-    ServerDuty::May,
-    ServerDuty::Must,
-    ServerDuty::May,
-    ServerDuty::Must,
-    ServerDuty::Must,
-    ServerDuty::Must,
-    ServerDuty::Must,
-    ServerDuty::Must,
-    ServerDuty::Must,
-    ServerDuty::Must,
-    ServerDuty::Must,
-    ServerDuty::Must,
-    ServerDuty::Must,
-    ServerDuty::Must,
-    ServerDuty::May,
-    ServerDuty::Must,
-    ServerDuty::May,
-    ServerDuty::Must,
-    ServerDuty::Must,
-    ServerDuty::Must,
-    ServerDuty::May,
-    ServerDuty::Must,
-    ServerDuty::Must,
-    ServerDuty::May,
-    ServerDuty::May,
-    ServerDuty::Must,
-    ServerDuty::Must,
-    ServerDuty::Must,
-    ServerDuty::Must,
-    ServerDuty::Must,
-    ServerDuty::Must,
-    ServerDuty::Must,
-    ServerDuty::Must,
-    ServerDuty::Own,
-    ServerDuty::Must,
-    ServerDuty::Own,
-    ServerDuty::Must,
-    ServerDuty::Must,
-    ServerDuty::Must,
-    ServerDuty::Own,
-    ServerDuty::Must,
-    ServerDuty::Must,
-    ServerDuty::Must,
-    ServerDuty::Own,
-    ServerDuty::Must,
-    ServerDuty::Must,
-    ServerDuty::Must,
-    ServerDuty::Must,
-    ServerDuty::Must,
-    ServerDuty::Must,
-    ServerDuty::Must,
-    ServerDuty::Must,
-    ServerDuty::Own,
-    ServerDuty::Must,
-    ServerDuty::Must,
-    ServerDuty::Must,
-    ServerDuty::Must,
-    ServerDuty::Must,
-    ServerDuty::Must,
-    ServerDuty::Must,
-    ServerDuty::Must,
-    ServerDuty::Must,
-];
+static SENTENCES: [&str; 76] = causes!(sentence);
 
-/// The sentence of each cause, in their order.
-static SENTENCES: [&str; 76] = [
-    "the octets are not the connection preface",
-    "the first frame after the preface has to be SETTINGS",
-    "the first SETTINGS is the client's own and has no ACK",
-    "the frame is longer than this server takes",
-    "the frame is longer than this server takes",
-    "while a field block is open, only CONTINUATION on its stream may follow",
-    "DATA has to be on a stream, not on 0",
-    "HEADERS has to be on a stream, not on 0",
-    "PRIORITY has to be on a stream, not on 0",
-    "RST_STREAM has to be on a stream, not on 0",
-    "CONTINUATION has to be on a stream, not on 0",
-    "SETTINGS has to be on stream 0",
-    "PING has to be on stream 0",
-    "GOAWAY has to be on stream 0",
-    "DATA with PADDED has no octet for the Pad Length",
-    "HEADERS is too short for what its flags announce",
-    "PRIORITY has to have 5 octets",
-    "RST_STREAM has to have 4 octets",
-    "the length of SETTINGS has to be a multiple of 6",
-    "SETTINGS with ACK has to be empty",
-    "PING has to have 8 octets",
-    "GOAWAY has to have 8 octets or more",
-    "WINDOW_UPDATE has to have 4 octets",
-    "the padding of DATA is longer than the rest of its payload",
-    "the padding of HEADERS is longer than the rest of its payload",
-    "a client can't push: PUSH_PROMISE may not be sent to a server",
-    "no field block is open that CONTINUATION could continue",
-    "the stream is idle: only HEADERS opens it",
-    "the stream was closed, unused, when a higher one was opened",
-    "the client has already ended this stream by END_STREAM",
-    "the stream is closed",
-    "a client opens streams with odd identifiers",
-    "a new stream has to have a higher identifier than all streams before",
-    "the client has already ended this stream by END_STREAM",
-    "the stream is closed",
-    "an idle stream can't be reset",
-    "the stream is idle: it has no window yet",
-    "DATA is longer than the connection's receive window",
-    "DATA is longer than the stream's receive window",
-    "the increment of WINDOW_UPDATE has to be 1 or more",
-    "the increment of WINDOW_UPDATE has to be 1 or more",
-    "the connection's send window would be above 2147483647",
-    "the stream's send window would be above 2147483647",
-    "SETTINGS_ENABLE_PUSH has to be 0 or 1",
-    "SETTINGS_INITIAL_WINDOW_SIZE has to be 2147483647 or less",
-    "SETTINGS_MAX_FRAME_SIZE has to be 16384 to 16777215",
-    "SETTINGS_INITIAL_WINDOW_SIZE takes a stream's send window above 2147483647",
-    "the fragments of the field block have more than 65536 octets",
-    "the field block ends inside an instruction",
-    "an integer has more than five continuation octets",
-    "an indexed field has the index 0",
-    "an index is beyond the end of both tables",
-    "a Huffman string contains EOS, or its padding is longer than 7 bits or has a 0 in it",
-    "a table size update may only be at the beginning of a field block",
-    "a table size update is above the limit of the table",
-    "the limit of the table is lower now: the field block has to begin with a table size update",
-    "as many streams are open as this server allows",
-    "the list of fields has more than 65536 octets",
-    "the name of a field is empty or has an octet that names may not have",
-    "the value of a field has an octet that values may not have, or a blank at an end",
-    "a pseudo-field is after a regular field",
-    "a pseudo-field is not one of a request",
-    "a pseudo-field is there twice",
-    "a pseudo-field is missing or empty, or CONNECT has one that it may not have",
-    "a field belongs to HTTP/1.1 connections",
-    "te has another value than trailers",
-    "content-length is not 1 to 18 digits, or is there twice with different numbers",
-    "the request ends with its fields and declares content",
-    "the content is longer than content-length declares",
-    "the content is shorter than content-length declares",
-    "trailers have to end the stream by END_STREAM",
-    "the name of a trailer is empty or has an octet that names may not have",
-    "the value of a trailer has an octet that values may not have, or a blank at an end",
-    "trailers may not have a pseudo-field",
-    "a trailer belongs to HTTP/1.1 connections",
-    "te, in the trailers, has another value than trailers",
-];
+static DUTIES: [Duties; 76] = causes!(duties);
 
 /// The names as a slice; read here alone, so that no other proof goes through them.
 fn names() -> &'static [&'static str]
-    ensures { map text_of result.now ≡ map cause_name all_causes }
+    ensures { map text_of result.now ≡ map (λ it. (row_of it).name) all_causes }
 {
     &NAMES
 }
 
 /// The sections as a slice; read here alone, as `names` is.
 fn sections() -> &'static [&'static str]
-    ensures { map text_of result.now ≡ map cause_section all_causes }
+    ensures { map text_of result.now ≡ map (λ it. (row_of it).section) all_causes }
 {
     &SECTIONS
 }
 
 /// The sections of the client's duties as a slice; read here alone, as `names` is.
 fn client_sections() -> &'static [&'static str]
-    ensures { map text_of result.now ≡ map cause_client_section all_causes }
+    ensures { map text_of result.now ≡ map (λ it. (row_of it).client_section) all_causes }
 {
     &CLIENT_SECTIONS
 }
 
 /// The sentences as a slice; read here alone, as `names` is.
 fn sentences() -> &'static [&'static str]
-    ensures { map text_of result.now ≡ map cause_sentence all_causes }
+    ensures { map text_of result.now ≡ map (λ it. (row_of it).sentence) all_causes }
 {
     &SENTENCES
 }
 
-/// What the client did, as a slice; read here alone, as `names` is.
-fn client_duties() -> &'static [ClientDuty]
-    ensures { result.now ≡ map cause_client_duty all_causes }
+/// The duties as a slice; read here alone, as `names` is.
+fn duties() -> &'static [Duties]
+    ensures { result.now ≡ map (λ it. duties_of (row_of it)) all_causes }
 {
-    &CLIENT_DUTIES
-}
-
-/// How far the RFC decides, as a slice; read here alone, as `names` is.
-fn server_duties() -> &'static [ServerDuty]
-    ensures { result.now ≡ map cause_server_duty all_causes }
-{
-    &SERVER_DUTIES
+    &DUTIES
 }
 
 /// The place of a cause in their order.
@@ -780,47 +462,25 @@ impl Cause {
             Cause::TooManyStreams => ErrorCode::RefusedStream,
         }
     }
-
-    /// The name, by which documents, examples and outputs call the cause.
+    /// The name, by which documents, examples and outputs call it.
     pub fn name(self) -> &'static str
-        ensures { result.now ≡ cause_name self }
+        ensures { result.now ≡ (row_of self).name }
     {
         text_at(names(), place_of(self))
     }
 
-    /// The section that has the rule, as `RFC 9113 6.10` or `RFC 7541 5.1`.
-    pub fn section(self) -> &'static str
-        ensures { result.now ≡ cause_section self }
+    /// Its row of the table of rules.
+    pub fn row(self) -> Row
+        ensures { row_shown result ≡ row_of self }
     {
-        text_at(sections(), place_of(self))
-    }
-
-    /// What the client did, by the RFC.
-    pub fn client_duty(self) -> ClientDuty
-        ensures { result ≡ cause_client_duty self }
-    {
-        client_duty_at(client_duties(), place_of(self))
-    }
-
-    /// The section that says what the client had to do, or that it was free to do what it did.
-    pub fn client_section(self) -> &'static str
-        ensures { result.now ≡ cause_client_section self }
-    {
-        text_at(client_sections(), place_of(self))
-    }
-
-    /// Whether the RFC demands this error of whoever receives, allows it, or leaves it to this server.
-    pub fn server_duty(self) -> ServerDuty
-        ensures { result ≡ cause_server_duty self }
-    {
-        server_duty_at(server_duties(), place_of(self))
-    }
-
-    /// The rule, in a sentence.
-    pub fn sentence(self) -> &'static str
-        ensures { result.now ≡ cause_sentence self }
-    {
-        text_at(sentences(), place_of(self))
+        let place = place_of(self);
+        Row {
+            name: text_at(names(), place),
+            section: text_at(sections(), place),
+            client_section: text_at(client_sections(), place),
+            sentence: text_at(sentences(), place),
+            duties: duties_at(duties(), place),
+        }
     }
 }
 

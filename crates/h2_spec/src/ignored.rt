@@ -2,10 +2,10 @@
 //! `specs/Causes/IgnoredWords.antt`.
 
 ghost use Rattle.std.specs.Prelude.{◌≡◌, map, slice_get, Some};
-ghost use Rattle.h2_spec.specs.Causes.IgnoredWords.{all_reasons, ignored_client_duty, ignored_client_section, ignored_name, ignored_section, ignored_sentence, ignored_server_duty};
-ghost use Rattle.h2_spec.specs.Causes.Rules.{text_of};
+ghost use Rattle.h2_spec.specs.Causes.IgnoredWords.{all_reasons, reason_row};
+ghost use Rattle.h2_spec.specs.Causes.Rules.{duties_of, row_shown, text_of};
 
-use crate::rules::{ClientDuty, ServerDuty, client_duty_at, server_duty_at, text_at};
+use crate::rules::{Duties, Row, column, duties_at, text_at};
 use std::fmt;
 
 /// Why a frame is ignored.
@@ -43,160 +43,86 @@ pub enum Ignored {
     TableOnlyBlock,
 }
 
-/// The name of each reason, in their order.
-static NAMES: [&str; 15] = [
-    "priority",
-    "unknown-type",
-    "second-acknowledgement",
-    "ping-acknowledgement",
-    "rst-stream-on-skipped",
-    "rst-stream-on-closed",
-    "rst-stream-on-peer-reset",
-    "rst-stream-on-reset",
-    "window-update-on-skipped",
-    "window-update-on-closed",
-    "window-update-on-peer-reset",
-    "window-update-on-reset",
-    "window-update-by-zero",
-    "data-on-reset",
-    "table-only-block",
-];
+/// The rows in their order, and a column of them: what has to be read column by column, since a table of many texts
+/// takes long to prove.
+macro_rules! reasons {
+    ($column:ident) => { column! { $column
+        "priority", Must "RFC 9113 6.3", Nothing "RFC 9113 6.3", Ignore [] [] [ignore] open [1] [1] [],
+            "this server does not use priorities";
+        "unknown-type", Must "RFC 9113 5.5", Nothing "RFC 9113 5.5", Ignore [] [] [ignore],
+            "the type of the frame is unknown";
+        "second-acknowledgement", Own "RFC 9113 6.5.3", Nothing "RFC 9113 6.5.3", None [1] [] [ignore],
+            "the server's SETTINGS were acknowledged before";
+        "ping-acknowledgement", Own "RFC 9113 6.7", Nothing "RFC 9113 6.7", None [1] [] [ignore],
+            "this server sends no PING that could be acknowledged";
+        "rst-stream-on-skipped", May "RFC 9113 5.1", MustNot "RFC 9113 5.1", None [5] [] [ignore],
+            "the stream was closed, unused, when a higher one was opened";
+        "rst-stream-on-closed", Must "RFC 9113 5.1", Nothing "RFC 9113 5.1", Ignore [] [] [ignore] open [5 1] [] [],
+            "the stream is closed";
+        "rst-stream-on-peer-reset", May "RFC 9113 5.1", MustNot "RFC 9113 5.1", None [5] [] [ignore],
+            "the client has already reset the stream";
+        "rst-stream-on-reset", Must "RFC 9113 5.1", Nothing "RFC 9113 5.1", Ignore [] [] [ignore] open [5 1] [] [],
+            "the server has reset the stream";
+        "window-update-on-skipped", May "RFC 9113 5.1", MustNot "RFC 9113 5.1", None [5] [5] [ignore],
+            "the stream was closed, unused, when a higher one was opened";
+        "window-update-on-closed", Must "RFC 9113 6.9", Nothing "RFC 9113 6.9", Ignore [] [] [ignore] open [1] [] [],
+            "the stream is closed";
+        "window-update-on-peer-reset", May "RFC 9113 5.1", MustNot "RFC 9113 5.1", None [5] [5] [ignore],
+            "the client has reset the stream";
+        "window-update-on-reset", Must "RFC 9113 5.1", Nothing "RFC 9113 5.1", Ignore [] [] [ignore] open [5 1] [] [],
+            "the server has reset the stream";
+        "window-update-by-zero", Own "RFC 9113 6.9", Breach "RFC 9113 6.9", None [5] [1] [ignore],
+            "the increment of WINDOW_UPDATE has to be 1 or more, but the stream is closed";
+        "data-on-reset", Must "RFC 9113 5.1", Nothing "RFC 9113 5.1", Ignore [] [] [ignore] open [5 1] [5] [],
+            "the server has reset the stream: DATA counts for the connection's window and no more";
+        "table-only-block", Must "RFC 9113 5.1", Nothing "RFC 9113 5.1", Ignore [] [] [ignore] open [5 1] [5] [],
+            "the server has reset the stream: the block changes the header table and no more";
+    } };
+}
 
-/// The section that has the rule of each reason, in their order.
-static SECTIONS: [&str; 15] = [
-    "RFC 9113 6.3",
-    "RFC 9113 5.5",
-    "RFC 9113 6.5.3",
-    "RFC 9113 6.7",
-    "RFC 9113 5.1",
-    "RFC 9113 5.1",
-    "RFC 9113 5.1",
-    "RFC 9113 5.1",
-    "RFC 9113 5.1",
-    "RFC 9113 6.9",
-    "RFC 9113 5.1",
-    "RFC 9113 5.1",
-    "RFC 9113 6.9",
-    "RFC 9113 5.1",
-    "RFC 9113 5.1",
-];
+static NAMES: [&str; 15] = reasons!(name);
 
-/// What the client did, for each reason, in their order.
-static CLIENT_DUTIES: [ClientDuty; 15] = [
-    ClientDuty::Nothing,
-    ClientDuty::Nothing,
-    ClientDuty::Nothing,
-    ClientDuty::Nothing,
-    ClientDuty::MustNot,
-    ClientDuty::Nothing,
-    ClientDuty::MustNot,
-    ClientDuty::Nothing,
-    ClientDuty::MustNot,
-    ClientDuty::Nothing,
-    ClientDuty::MustNot,
-    ClientDuty::Nothing,
-    ClientDuty::MustNot,
-    ClientDuty::Nothing,
-    ClientDuty::Nothing,
-];
+static SECTIONS: [&str; 15] = reasons!(section);
 
-/// The section that says what the client had to do, for each reason, in their order.
-static CLIENT_SECTIONS: [&str; 15] = [
-    "RFC 9113 6.3",
-    "RFC 9113 5.5",
-    "RFC 9113 6.5.3",
-    "RFC 9113 6.7",
-    "RFC 9113 5.1",
-    "RFC 9113 5.1",
-    "RFC 9113 5.1",
-    "RFC 9113 5.1",
-    "RFC 9113 5.1",
-    "RFC 9113 6.9",
-    "RFC 9113 5.1",
-    "RFC 9113 5.1",
-    "RFC 9113 6.9",
-    "RFC 9113 5.1",
-    "RFC 9113 5.1",
-];
+static CLIENT_SECTIONS: [&str; 15] = reasons!(client_section);
 
-/// How far the RFC decides what this server does, for each reason, in their order.
-static SERVER_DUTIES: [ServerDuty; 15] = [
-    ServerDuty::Must,
-    ServerDuty::Must,
-    ServerDuty::Own,
-    ServerDuty::Must,
-    ServerDuty::Own,
-    ServerDuty::May,
-    ServerDuty::Own,
-    ServerDuty::Must,
-    ServerDuty::Own,
-    ServerDuty::Must,
-    ServerDuty::Own,
-    ServerDuty::Must,
-    ServerDuty::Own,
-    ServerDuty::Must,
-    ServerDuty::Must,
-];
+static SENTENCES: [&str; 15] = reasons!(sentence);
 
-/// The sentence of each reason, in their order.
-static SENTENCES: [&str; 15] = [
-    "this server does not use priorities",
-    "the type of the frame is unknown",
-    "the server's SETTINGS were acknowledged before",
-    "this server sends no PING that could be acknowledged",
-    "the stream was closed, unused, when a higher one was opened",
-    "the stream is closed",
-    "the client has already reset the stream",
-    "the server has reset the stream",
-    "the stream was closed, unused, when a higher one was opened",
-    "the stream is closed",
-    "the client has reset the stream",
-    "the server has reset the stream",
-    "the increment of WINDOW_UPDATE has to be 1 or more, but the stream is closed",
-    "the server has reset the stream: DATA counts for the connection's window and no more",
-    "the server has reset the stream: the block changes the header table and no more",
-];
+static DUTIES: [Duties; 15] = reasons!(duties);
 
 /// The names as a slice; read here alone, so that no other proof goes through them.
 fn names() -> &'static [&'static str]
-    ensures { map text_of result.now ≡ map ignored_name all_reasons }
+    ensures { map text_of result.now ≡ map (λ it. (reason_row it).name) all_reasons }
 {
     &NAMES
 }
 
 /// The sections as a slice; read here alone, as `names` is.
 fn sections() -> &'static [&'static str]
-    ensures { map text_of result.now ≡ map ignored_section all_reasons }
+    ensures { map text_of result.now ≡ map (λ it. (reason_row it).section) all_reasons }
 {
     &SECTIONS
 }
 
 /// The sections of the client's duties as a slice; read here alone, as `names` is.
 fn client_sections() -> &'static [&'static str]
-    ensures { map text_of result.now ≡ map ignored_client_section all_reasons }
+    ensures { map text_of result.now ≡ map (λ it. (reason_row it).client_section) all_reasons }
 {
     &CLIENT_SECTIONS
 }
 
 /// The sentences as a slice; read here alone, as `names` is.
 fn sentences() -> &'static [&'static str]
-    ensures { map text_of result.now ≡ map ignored_sentence all_reasons }
+    ensures { map text_of result.now ≡ map (λ it. (reason_row it).sentence) all_reasons }
 {
     &SENTENCES
 }
 
-/// What the client did, as a slice; read here alone, as `names` is.
-fn client_duties() -> &'static [ClientDuty]
-    ensures { result.now ≡ map ignored_client_duty all_reasons }
+/// The duties as a slice; read here alone, as `names` is.
+fn duties() -> &'static [Duties]
+    ensures { result.now ≡ map (λ it. duties_of (reason_row it)) all_reasons }
 {
-    &CLIENT_DUTIES
-}
-
-/// How far the RFC decides, as a slice; read here alone, as `names` is.
-fn server_duties() -> &'static [ServerDuty]
-    ensures { result.now ≡ map ignored_server_duty all_reasons }
-{
-    &SERVER_DUTIES
+    &DUTIES
 }
 
 /// The place of a reason in their order.
@@ -207,46 +133,25 @@ fn place_of(reason: Ignored) -> usize
 }
 
 impl Ignored {
-    /// The name, by which documents and outputs call the reason.
+    /// The name, by which documents, examples and outputs call it.
     pub fn name(self) -> &'static str
-        ensures { result.now ≡ ignored_name self }
+        ensures { result.now ≡ (reason_row self).name }
     {
         text_at(names(), place_of(self))
     }
 
-    /// The section that has the rule, as `RFC 9113 5.1`.
-    pub fn section(self) -> &'static str
-        ensures { result.now ≡ ignored_section self }
+    /// Its row of the table of rules.
+    pub fn row(self) -> Row
+        ensures { row_shown result ≡ reason_row self }
     {
-        text_at(sections(), place_of(self))
-    }
-
-    /// What the client did, by the RFC.
-    pub fn client_duty(self) -> ClientDuty
-        ensures { result ≡ ignored_client_duty self }
-    {
-        client_duty_at(client_duties(), place_of(self))
-    }
-
-    /// The section that says what the client had to do, or that it was free to do what it did.
-    pub fn client_section(self) -> &'static str
-        ensures { result.now ≡ ignored_client_section self }
-    {
-        text_at(client_sections(), place_of(self))
-    }
-
-    /// Whether the RFC demands that the frame is no error, allows it, or leaves it to this server.
-    pub fn server_duty(self) -> ServerDuty
-        ensures { result ≡ ignored_server_duty self }
-    {
-        server_duty_at(server_duties(), place_of(self))
-    }
-
-    /// Why, in a sentence.
-    pub fn sentence(self) -> &'static str
-        ensures { result.now ≡ ignored_sentence self }
-    {
-        text_at(sentences(), place_of(self))
+        let place = place_of(self);
+        Row {
+            name: text_at(names(), place),
+            section: text_at(sections(), place),
+            client_section: text_at(client_sections(), place),
+            sentence: text_at(sentences(), place),
+            duties: duties_at(duties(), place),
+        }
     }
 }
 

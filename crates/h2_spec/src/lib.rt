@@ -2,7 +2,9 @@
 //! in `h2_spec_laws`; in `proofs/` here are the lemmas that code is proved with.
 #![tactic(auto)]
 
+pub mod accepted;
 pub mod causes;
+pub mod conforming;
 pub mod connection;
 pub mod errors;
 pub mod flow;

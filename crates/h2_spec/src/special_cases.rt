@@ -3,10 +3,10 @@
 //! `specs/Causes/SpecialCases.antt`.
 
 ghost use Rattle.std.specs.Prelude.{◌≡◌, map, slice_get, Some};
-ghost use Rattle.h2_spec.specs.Causes.Rules.{text_of};
-ghost use Rattle.h2_spec.specs.Causes.SpecialCases.{all_special_cases, special_client_duty, special_client_section, special_name, special_section, special_sentence, special_server_duty};
+ghost use Rattle.h2_spec.specs.Causes.SpecialCases.{all_special_cases, special_row};
+ghost use Rattle.h2_spec.specs.Causes.Rules.{duties_of, row_shown, text_of};
 
-use crate::rules::{ClientDuty, ServerDuty, client_duty_at, server_duty_at, text_at};
+use crate::rules::{Duties, Row, column, duties_at, text_at};
 
 /// A case of a cause or of a reason, with a rule of its own.
 #[derive(Clone, Copy)]
@@ -37,142 +37,80 @@ pub enum SpecialCase {
     BlockAfterEnd,
 }
 
-/// The name of each case, in their order.
-static NAMES: [&str; 12] = [
-    "limit-not-acknowledged",
-    "behind-continuation",
-    "unknown-type-in-block",
-    "empty-name",
-    "connect-pseudo-fields",
-    "empty-path-of-other-scheme",
-    "content-lengths-differ",
-    "content-length-too-long",
-    "unfollowed-window",
-    "even-stream",
-    "data-after-end",
-    "block-after-end",
-];
+/// The rows in their order, and a column of them: what has to be read column by column, since a table of many texts
+/// takes long to prove.
+macro_rules! special_cases {
+    ($column:ident) => { column! { $column
+        "limit-not-acknowledged", Own "RFC 9113 5.1.2", Limit "RFC 9113 6.5.3", None [] [7] [accept],
+            "as many streams are open as this server allows; the client has not acknowledged that limit yet";
+        "behind-continuation", Must "RFC 9113 6.10", Must "RFC 9113 6.10", Connection [1] [] [] open [9] [] [],
+            "after a CONTINUATION without END_HEADERS only CONTINUATION on its stream may follow";
+        "unknown-type-in-block", Must "RFC 9113 5.5", Breach "RFC 9113 5.5", Connection [1] [] [],
+            "while a field block is open, frames of unknown types may not come either";
+        "empty-name", Should "RFC 9113 8.2.1", Breach "RFC 9110 5.1", None [] [1] [answer accept],
+            "the name of a field is empty";
+        "connect-pseudo-fields", Must "RFC 9113 8.5", Must "RFC 9113 8.5", Malformed [] [1] [answer],
+            "CONNECT has to have :method and :authority, and neither :scheme nor :path";
+        "empty-path-of-other-scheme", Own "RFC 9113 8.3.1", Nothing "RFC 9113 8.3.1", None [] [1] [answer accept],
+            ":path is empty, which is forbidden for http and https alone";
+        "content-lengths-differ", Must "RFC 9113 8.1.1", MustNot "RFC 9110 5.3", Malformed [] [1] [answer wait] open [] [] [accept],
+            "content-length is there twice with different numbers";
+        "content-length-too-long", Own "RFC 9110 8.6", Limit "RFC 9110 8.6", None [] [1] [answer accept wait],
+            "content-length has more than 18 digits";
+        "unfollowed-window", Must "RFC 9113 6.9.2", Nothing "RFC 9113 6.9.2", Accept [] [] [accept],
+            "on a half-closed (local) stream this server's send window does not follow SETTINGS_INITIAL_WINDOW_SIZE: the client's own count may allow the increment";
+        "even-stream", Must "RFC 9113 5.1", Must "RFC 9113 5.1.1", Connection [1] [] [] open [5] [5] [],
+            "the streams of a client have odd identifiers: an even one is always idle";
+        "data-after-end", Own "RFC 9113 5.1", Breach "RFC 9113 5.1", None [5] [5] [ignore],
+            "the client had ended the stream before the server reset it: DATA counts for the connection's window and no more";
+        "block-after-end", Own "RFC 9113 5.1", Breach "RFC 9113 5.1", None [5] [5] [ignore],
+            "the client had ended the stream before the server reset it: the block changes the header table and no more";
+    } };
+}
 
-/// The section that has the rule of each case, in their order.
-static SECTIONS: [&str; 12] = [
-    "RFC 9113 5.1.2",
-    "RFC 9113 6.10",
-    "RFC 9113 5.5",
-    "RFC 9113 8.2.1",
-    "RFC 9113 8.5",
-    "RFC 9113 8.3.1",
-    "RFC 9113 8.1.1",
-    "RFC 9113 8.1.1",
-    "RFC 9113 6.9.1",
-    "RFC 9113 5.1",
-    "RFC 9113 5.1",
-    "RFC 9113 5.1",
-];
+static NAMES: [&str; 12] = special_cases!(name);
 
-/// What the client did, for each case, in their order.
-static CLIENT_DUTIES: [ClientDuty; 12] = [
-    ClientDuty::Limit,
-    ClientDuty::Must,
-    ClientDuty::MustNot,
-    ClientDuty::MustNot,
-    ClientDuty::Must,
-    ClientDuty::Nothing,
-    ClientDuty::MustNot,
-    ClientDuty::Limit,
-    ClientDuty::Nothing,
-    ClientDuty::Must,
-    ClientDuty::MustNot,
-    ClientDuty::MustNot,
-];
+static SECTIONS: [&str; 12] = special_cases!(section);
 
-/// The section that says what the client had to do, for each case, in their order.
-static CLIENT_SECTIONS: [&str; 12] = [
-    "RFC 9113 6.5.3",
-    "RFC 9113 6.10",
-    "RFC 9113 5.5",
-    "RFC 9110 5.1",
-    "RFC 9113 8.5",
-    "RFC 9113 8.3.1",
-    "RFC 9113 8.1.1",
-    "RFC 9110 8.6",
-    "RFC 9113 6.9.2",
-    "RFC 9113 5.1.1",
-    "RFC 9113 5.1",
-    "RFC 9113 5.1",
-];
+static CLIENT_SECTIONS: [&str; 12] = special_cases!(client_section);
 
-/// How far the RFC decides what this server does, for each case, in their order.
-static SERVER_DUTIES: [ServerDuty; 12] = [
-    ServerDuty::Own,
-    ServerDuty::Must,
-    ServerDuty::Must,
-    ServerDuty::Own,
-    ServerDuty::Must,
-    ServerDuty::Own,
-    ServerDuty::Must,
-    ServerDuty::Own,
-    ServerDuty::Own,
-    ServerDuty::Must,
-    ServerDuty::Own,
-    ServerDuty::Own,
-];
+static SENTENCES: [&str; 12] = special_cases!(sentence);
 
-/// The sentence of each case, in their order.
-static SENTENCES: [&str; 12] = [
-    "as many streams are open as this server allows; the client has not acknowledged that limit yet",
-    "after a CONTINUATION without END_HEADERS only CONTINUATION on its stream may follow",
-    "while a field block is open, frames of unknown types may not come either",
-    "the name of a field is empty",
-    "CONNECT has to have :method and :authority, and neither :scheme nor :path",
-    ":path is empty, which is forbidden for http and https alone",
-    "content-length is there twice with different numbers",
-    "content-length has more than 18 digits",
-    "on a half-closed (local) stream this server's send window does not follow SETTINGS_INITIAL_WINDOW_SIZE: the client's own count may allow the increment",
-    "the streams of a client have odd identifiers: an even one is always idle",
-    "the client had ended the stream before the server reset it: DATA counts for the connection's window and no more",
-    "the client had ended the stream before the server reset it: the block changes the header table and no more",
-];
+static DUTIES: [Duties; 12] = special_cases!(duties);
 
 /// The names as a slice; read here alone, so that no other proof goes through them.
 fn names() -> &'static [&'static str]
-    ensures { map text_of result.now ≡ map special_name all_special_cases }
+    ensures { map text_of result.now ≡ map (λ it. (special_row it).name) all_special_cases }
 {
     &NAMES
 }
 
 /// The sections as a slice; read here alone, as `names` is.
 fn sections() -> &'static [&'static str]
-    ensures { map text_of result.now ≡ map special_section all_special_cases }
+    ensures { map text_of result.now ≡ map (λ it. (special_row it).section) all_special_cases }
 {
     &SECTIONS
 }
 
 /// The sections of the client's duties as a slice; read here alone, as `names` is.
 fn client_sections() -> &'static [&'static str]
-    ensures { map text_of result.now ≡ map special_client_section all_special_cases }
+    ensures { map text_of result.now ≡ map (λ it. (special_row it).client_section) all_special_cases }
 {
     &CLIENT_SECTIONS
 }
 
 /// The sentences as a slice; read here alone, as `names` is.
 fn sentences() -> &'static [&'static str]
-    ensures { map text_of result.now ≡ map special_sentence all_special_cases }
+    ensures { map text_of result.now ≡ map (λ it. (special_row it).sentence) all_special_cases }
 {
     &SENTENCES
 }
 
-/// What the client did, as a slice; read here alone, as `names` is.
-fn client_duties() -> &'static [ClientDuty]
-    ensures { result.now ≡ map special_client_duty all_special_cases }
+/// The duties as a slice; read here alone, as `names` is.
+fn duties() -> &'static [Duties]
+    ensures { result.now ≡ map (λ it. duties_of (special_row it)) all_special_cases }
 {
-    &CLIENT_DUTIES
-}
-
-/// How far the RFC decides, as a slice; read here alone, as `names` is.
-fn server_duties() -> &'static [ServerDuty]
-    ensures { result.now ≡ map special_server_duty all_special_cases }
-{
-    &SERVER_DUTIES
+    &DUTIES
 }
 
 /// The place of a case in their order.
@@ -183,45 +121,24 @@ fn place_of(case: SpecialCase) -> usize
 }
 
 impl SpecialCase {
-    /// The name, by which documents and outputs call the case.
+    /// The name, by which documents, examples and outputs call it.
     pub fn name(self) -> &'static str
-        ensures { result.now ≡ special_name self }
+        ensures { result.now ≡ (special_row self).name }
     {
         text_at(names(), place_of(self))
     }
 
-    /// The section that has the rule, as `RFC 9113 6.10`.
-    pub fn section(self) -> &'static str
-        ensures { result.now ≡ special_section self }
+    /// Its row of the table of rules.
+    pub fn row(self) -> Row
+        ensures { row_shown result ≡ special_row self }
     {
-        text_at(sections(), place_of(self))
-    }
-
-    /// What the client did, by the RFC.
-    pub fn client_duty(self) -> ClientDuty
-        ensures { result ≡ special_client_duty self }
-    {
-        client_duty_at(client_duties(), place_of(self))
-    }
-
-    /// The section that says what the client had to do, or that it was free to do what it did.
-    pub fn client_section(self) -> &'static str
-        ensures { result.now ≡ special_client_section self }
-    {
-        text_at(client_sections(), place_of(self))
-    }
-
-    /// Whether the RFC demands this reaction of whoever receives, allows it, or leaves it to this server.
-    pub fn server_duty(self) -> ServerDuty
-        ensures { result ≡ special_server_duty self }
-    {
-        server_duty_at(server_duties(), place_of(self))
-    }
-
-    /// The rule, in a sentence.
-    pub fn sentence(self) -> &'static str
-        ensures { result.now ≡ special_sentence self }
-    {
-        text_at(sentences(), place_of(self))
+        let place = place_of(self);
+        Row {
+            name: text_at(names(), place),
+            section: text_at(sections(), place),
+            client_section: text_at(client_sections(), place),
+            sentence: text_at(sentences(), place),
+            duties: duties_at(duties(), place),
+        }
     }
 }

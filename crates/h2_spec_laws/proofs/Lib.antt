@@ -1,5 +1,6 @@
 mod BeginningLaws
 mod CauseLaws
+mod ConformanceLaws
 mod CuttingLaws
 mod DecodingLaws
 mod FlowLaws

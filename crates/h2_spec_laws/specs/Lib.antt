@@ -1,4 +1,5 @@
 pub mod Blocks
+pub mod Conformance
 pub mod Cutting
 pub mod ErrorCodes
 pub mod Forms

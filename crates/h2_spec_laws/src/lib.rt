@@ -5,6 +5,7 @@
 
 pub mod block_laws;
 pub mod cause_laws;
+pub mod conformance_laws;
 pub mod flow_laws;
 pub mod frame_laws;
 pub mod grants_laws;

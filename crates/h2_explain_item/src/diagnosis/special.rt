@@ -1,16 +1,15 @@
-//! Which special case an error or an ignored frame is, and what of its rule is printed. Definitions:
-//! `specs/Special.antt`.
+//! Which special case an error or an ignored frame is, and its rule. Definitions: `specs/Special.antt`.
 
 ghost use Rattle.std.specs.Prelude.{◌≡◌, ◌%◌, ◌==◌};
 ghost use Rattle.h2_explain_item.specs.Item.{head_in};
 ghost use Rattle.h2_explain_item.specs.Special.{case_by, case_if, case_of_cause, case_of_error, case_of_reason, interrupted_case, is_half_local, is_unknown, is_unknown_frame, lacking_case, length_case, rule_of_cause, rule_of_reason, seen_of, special_reason};
-ghost use Rattle.h2_spec.specs.Causes.Rules.{client_words, server_words};
-ghost use Rattle.h2_spec.specs.Causes.SpecialCases.{special_row};
+ghost use Rattle.h2_spec.specs.Causes.Rules.{row_shown};
 
 use crate::item::Explained;
 use h2_spec::causes::Cause;
 use h2_spec::frames::FrameType;
 use h2_spec::ignored::Ignored;
+use h2_spec::rules::Row;
 use h2_spec::special_cases::SpecialCase;
 use h2_spec::streams::StreamState;
 
@@ -229,74 +228,22 @@ pub fn case_of_reason(item: &Explained<'_>, facts: CaseFacts) -> Option<SpecialC
     }
 }
 
-/// What is printed of a rule, beside its name.
-#[derive(Clone, Copy)]
-pub struct Rule {
-    /// The section that has it.
-    pub section: &'static str,
-    /// How far the RFC decides what the server does, in words.
-    pub server: &'static str,
-    /// What the client broke, in words.
-    pub client: &'static str,
-    /// The section that says so.
-    pub client_section: &'static str,
-    /// The rule in a sentence.
-    pub sentence: &'static str,
-}
-
-/// The rule of a special case.
-fn rule_of_case(case: SpecialCase) -> Rule
-    ensures section { result.section.now ≡ (special_row case).section }
-    ensures server { result.server.now ≡ server_words (special_row case).server }
-    ensures client { result.client.now ≡ client_words (special_row case).client }
-    ensures client_section { result.client_section.now ≡ (special_row case).client_section }
-    ensures sentence { result.sentence.now ≡ (special_row case).sentence }
-{
-    Rule {
-        section: case.section(),
-        server: case.server_duty().words(),
-        client: case.client_duty().words(),
-        client_section: case.client_section(),
-        sentence: case.sentence(),
-    }
-}
-
 /// The rule of a cause, or that of its special case.
-pub fn rule_of_cause(cause: Cause, case: Option<SpecialCase>) -> Rule
-    ensures section { result.section.now ≡ (rule_of_cause cause case).section }
-    ensures server { result.server.now ≡ server_words (rule_of_cause cause case).server }
-    ensures client { result.client.now ≡ client_words (rule_of_cause cause case).client }
-    ensures client_section { result.client_section.now ≡ (rule_of_cause cause case).client_section }
-    ensures sentence { result.sentence.now ≡ (rule_of_cause cause case).sentence }
+pub fn rule_of_cause(cause: Cause, case: Option<SpecialCase>) -> Row
+    ensures { row_shown result ≡ rule_of_cause cause case }
 {
     match case {
-        Some(case) => rule_of_case(case),
-        None => Rule {
-            section: cause.section(),
-            server: cause.server_duty().words(),
-            client: cause.client_duty().words(),
-            client_section: cause.client_section(),
-            sentence: cause.sentence(),
-        },
+        Some(case) => case.row(),
+        None => cause.row(),
     }
 }
 
 /// The rule of a reason to ignore a frame, or that of its special case.
-pub fn rule_of_reason(reason: Ignored, case: Option<SpecialCase>) -> Rule
-    ensures section { result.section.now ≡ (rule_of_reason reason case).section }
-    ensures server { result.server.now ≡ server_words (rule_of_reason reason case).server }
-    ensures client { result.client.now ≡ client_words (rule_of_reason reason case).client }
-    ensures client_section { result.client_section.now ≡ (rule_of_reason reason case).client_section }
-    ensures sentence { result.sentence.now ≡ (rule_of_reason reason case).sentence }
+pub fn rule_of_reason(reason: Ignored, case: Option<SpecialCase>) -> Row
+    ensures { row_shown result ≡ rule_of_reason reason case }
 {
     match case {
-        Some(case) => rule_of_case(case),
-        None => Rule {
-            section: reason.section(),
-            server: reason.server_duty().words(),
-            client: reason.client_duty().words(),
-            client_section: reason.client_section(),
-            sentence: reason.sentence(),
-        },
+        Some(case) => case.row(),
+        None => reason.row(),
     }
 }

@@ -279,7 +279,7 @@ pub fn is_breach(duty: ClientDuty) -> bool
     ensures { result ≡ is_breach duty }
 {
     match duty {
-        ClientDuty::MustNot | ClientDuty::Must => true,
+        ClientDuty::MustNot | ClientDuty::Must | ClientDuty::Breach => true,
         ClientDuty::Limit | ClientDuty::Nothing => false,
     }
 }
@@ -289,8 +289,8 @@ fn duty_of_cause(cause: Cause, case: Option<SpecialCase>) -> ClientDuty
     ensures { result ≡ (rule_of_cause cause case).client }
 {
     match case {
-        Some(case) => case.client_duty(),
-        None => cause.client_duty(),
+        Some(case) => case.row().duties.client,
+        None => cause.row().duties.client,
     }
 }
 
@@ -309,8 +309,8 @@ fn duty_of_ignored(reason: Ignored, case: Option<SpecialCase>) -> ClientDuty
     ensures { result ≡ (rule_of_reason reason case).client }
 {
     match case {
-        Some(case) => case.client_duty(),
-        None => reason.client_duty(),
+        Some(case) => case.row().duties.client,
+        None => reason.row().duties.client,
     }
 }
 

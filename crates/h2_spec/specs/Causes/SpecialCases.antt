@@ -1,45 +1,28 @@
 -- What is said about the special cases of a cause or of a reason: their rows of the table of rules.
-use Rattle.std.specs.Prelude.{ℕ, List, [], ◌∷◌, codes}
+use Rattle.std.specs.Prelude.{ℕ, List, [], ◌∷◌, true, codes}
 use Rattle.h2_spec.specs.declared.special_cases.SpecialCase.{SpecialCase}
 use Rattle.h2_spec.specs.declared.special_cases.SpecialCase.TheVariants.{LimitNotAcknowledged, BehindContinuation, UnknownTypeInBlock, EmptyName, ConnectPseudoFields, EmptyPathOfOtherScheme, ContentLengthsDiffer, ContentLengthTooLong, UnfollowedWindow, EvenStream, DataAfterEnd, BlockAfterEnd}
-use Rattle.h2_spec.specs.declared.rules.ClientDuty.{ClientDuty}
+use Rattle.h2_spec.specs.declared.conforming.Codes.TheVariants as code
+use Rattle.h2_spec.specs.declared.conforming.Least.TheVariants as least
 use Rattle.h2_spec.specs.declared.rules.ClientDuty.TheVariants as client_duty
-use Rattle.h2_spec.specs.declared.rules.ServerDuty.{ServerDuty}
 use Rattle.h2_spec.specs.declared.rules.ServerDuty.TheVariants as server_duty
+use Rattle.h2_spec.specs.Causes.Conforming.{besides, errors, no_reaction, only}
 use Rattle.h2_spec.specs.Causes.Rules.{Row}
 
 -- the row of a special case
 unfoldable pub special_row : SpecialCase → Row
-special_row LimitNotAcknowledged = record { name = codes "limit-not-acknowledged"; section = codes "RFC 9113 5.1.2"; client = client_duty.Limit; client_section = codes "RFC 9113 6.5.3"; server = server_duty.Own; sentence = codes "as many streams are open as this server allows; the client has not acknowledged that limit yet" }
-special_row BehindContinuation = record { name = codes "behind-continuation"; section = codes "RFC 9113 6.10"; client = client_duty.Must; client_section = codes "RFC 9113 6.10"; server = server_duty.Must; sentence = codes "after a CONTINUATION without END_HEADERS only CONTINUATION on its stream may follow" }
-special_row UnknownTypeInBlock = record { name = codes "unknown-type-in-block"; section = codes "RFC 9113 5.5"; client = client_duty.MustNot; client_section = codes "RFC 9113 5.5"; server = server_duty.Must; sentence = codes "while a field block is open, frames of unknown types may not come either" }
-special_row EmptyName = record { name = codes "empty-name"; section = codes "RFC 9113 8.2.1"; client = client_duty.MustNot; client_section = codes "RFC 9110 5.1"; server = server_duty.Own; sentence = codes "the name of a field is empty" }
-special_row ConnectPseudoFields = record { name = codes "connect-pseudo-fields"; section = codes "RFC 9113 8.5"; client = client_duty.Must; client_section = codes "RFC 9113 8.5"; server = server_duty.Must; sentence = codes "CONNECT has to have :method and :authority, and neither :scheme nor :path" }
-special_row EmptyPathOfOtherScheme = record { name = codes "empty-path-of-other-scheme"; section = codes "RFC 9113 8.3.1"; client = client_duty.Nothing; client_section = codes "RFC 9113 8.3.1"; server = server_duty.Own; sentence = codes ":path is empty, which is forbidden for http and https alone" }
-special_row ContentLengthsDiffer = record { name = codes "content-lengths-differ"; section = codes "RFC 9113 8.1.1"; client = client_duty.MustNot; client_section = codes "RFC 9113 8.1.1"; server = server_duty.Must; sentence = codes "content-length is there twice with different numbers" }
-special_row ContentLengthTooLong = record { name = codes "content-length-too-long"; section = codes "RFC 9113 8.1.1"; client = client_duty.Limit; client_section = codes "RFC 9110 8.6"; server = server_duty.Own; sentence = codes "content-length has more than 18 digits" }
-special_row UnfollowedWindow = record { name = codes "unfollowed-window"; section = codes "RFC 9113 6.9.1"; client = client_duty.Nothing; client_section = codes "RFC 9113 6.9.2"; server = server_duty.Own; sentence = codes "on a half-closed (local) stream this server's send window does not follow SETTINGS_INITIAL_WINDOW_SIZE: the client's own count may allow the increment" }
-special_row EvenStream = record { name = codes "even-stream"; section = codes "RFC 9113 5.1"; client = client_duty.Must; client_section = codes "RFC 9113 5.1.1"; server = server_duty.Must; sentence = codes "the streams of a client have odd identifiers: an even one is always idle" }
-special_row DataAfterEnd = record { name = codes "data-after-end"; section = codes "RFC 9113 5.1"; client = client_duty.MustNot; client_section = codes "RFC 9113 5.1"; server = server_duty.Own; sentence = codes "the client had ended the stream before the server reset it: DATA counts for the connection's window and no more" }
-special_row BlockAfterEnd = record { name = codes "block-after-end"; section = codes "RFC 9113 5.1"; client = client_duty.MustNot; client_section = codes "RFC 9113 5.1"; server = server_duty.Own; sentence = codes "the client had ended the stream before the server reset it: the block changes the header table and no more" }
-
-abbrev pub special_name : SpecialCase → List ℕ
-special_name case = (special_row case).name
-
-abbrev pub special_section : SpecialCase → List ℕ
-special_section case = (special_row case).section
-
-abbrev pub special_client_duty : SpecialCase → ClientDuty
-special_client_duty case = (special_row case).client
-
-abbrev pub special_client_section : SpecialCase → List ℕ
-special_client_section case = (special_row case).client_section
-
-abbrev pub special_server_duty : SpecialCase → ServerDuty
-special_server_duty case = (special_row case).server
-
-abbrev pub special_sentence : SpecialCase → List ℕ
-special_sentence case = (special_row case).sentence
+special_row LimitNotAcknowledged = record { name = codes "limit-not-acknowledged"; section = codes "RFC 9113 5.1.2"; client = client_duty.Limit; client_section = codes "RFC 9113 6.5.3"; server = server_duty.Own; conforming = only least.None (record (errors code.None (code.One 7)) { accept = true }); sentence = codes "as many streams are open as this server allows; the client has not acknowledged that limit yet" }
+special_row BehindContinuation = record { name = codes "behind-continuation"; section = codes "RFC 9113 6.10"; client = client_duty.Must; client_section = codes "RFC 9113 6.10"; server = server_duty.Must; conforming = besides least.Connection (errors (code.One 1) code.None) (errors (code.One 9) code.None); sentence = codes "after a CONTINUATION without END_HEADERS only CONTINUATION on its stream may follow" }
+special_row UnknownTypeInBlock = record { name = codes "unknown-type-in-block"; section = codes "RFC 9113 5.5"; client = client_duty.Breach; client_section = codes "RFC 9113 5.5"; server = server_duty.Must; conforming = only least.Connection (errors (code.One 1) code.None); sentence = codes "while a field block is open, frames of unknown types may not come either" }
+special_row EmptyName = record { name = codes "empty-name"; section = codes "RFC 9113 8.2.1"; client = client_duty.Breach; client_section = codes "RFC 9110 5.1"; server = server_duty.Should; conforming = only least.None (record (errors code.None (code.One 1)) { answer = true; accept = true }); sentence = codes "the name of a field is empty" }
+special_row ConnectPseudoFields = record { name = codes "connect-pseudo-fields"; section = codes "RFC 9113 8.5"; client = client_duty.Must; client_section = codes "RFC 9113 8.5"; server = server_duty.Must; conforming = only least.Malformed (record (errors code.None (code.One 1)) { answer = true }); sentence = codes "CONNECT has to have :method and :authority, and neither :scheme nor :path" }
+special_row EmptyPathOfOtherScheme = record { name = codes "empty-path-of-other-scheme"; section = codes "RFC 9113 8.3.1"; client = client_duty.Nothing; client_section = codes "RFC 9113 8.3.1"; server = server_duty.Own; conforming = only least.None (record (errors code.None (code.One 1)) { answer = true; accept = true }); sentence = codes ":path is empty, which is forbidden for http and https alone" }
+special_row ContentLengthsDiffer = record { name = codes "content-lengths-differ"; section = codes "RFC 9113 8.1.1"; client = client_duty.MustNot; client_section = codes "RFC 9110 5.3"; server = server_duty.Must; conforming = besides least.Malformed (record (errors code.None (code.One 1)) { answer = true; wait = true }) (record no_reaction { accept = true }); sentence = codes "content-length is there twice with different numbers" }
+special_row ContentLengthTooLong = record { name = codes "content-length-too-long"; section = codes "RFC 9110 8.6"; client = client_duty.Limit; client_section = codes "RFC 9110 8.6"; server = server_duty.Own; conforming = only least.None (record (errors code.None (code.One 1)) { answer = true; accept = true; wait = true }); sentence = codes "content-length has more than 18 digits" }
+special_row UnfollowedWindow = record { name = codes "unfollowed-window"; section = codes "RFC 9113 6.9.2"; client = client_duty.Nothing; client_section = codes "RFC 9113 6.9.2"; server = server_duty.Must; conforming = only least.Accept (record no_reaction { accept = true }); sentence = codes "on a half-closed (local) stream this server's send window does not follow SETTINGS_INITIAL_WINDOW_SIZE: the client's own count may allow the increment" }
+special_row EvenStream = record { name = codes "even-stream"; section = codes "RFC 9113 5.1"; client = client_duty.Must; client_section = codes "RFC 9113 5.1.1"; server = server_duty.Must; conforming = besides least.Connection (errors (code.One 1) code.None) (errors (code.One 5) (code.One 5)); sentence = codes "the streams of a client have odd identifiers: an even one is always idle" }
+special_row DataAfterEnd = record { name = codes "data-after-end"; section = codes "RFC 9113 5.1"; client = client_duty.Breach; client_section = codes "RFC 9113 5.1"; server = server_duty.Own; conforming = only least.None (record (errors (code.One 5) (code.One 5)) { ignore = true }); sentence = codes "the client had ended the stream before the server reset it: DATA counts for the connection's window and no more" }
+special_row BlockAfterEnd = record { name = codes "block-after-end"; section = codes "RFC 9113 5.1"; client = client_duty.Breach; client_section = codes "RFC 9113 5.1"; server = server_duty.Own; conforming = only least.None (record (errors (code.One 5) (code.One 5)) { ignore = true }); sentence = codes "the client had ended the stream before the server reset it: the block changes the header table and no more" }
 
 -- all special cases, in the order of the code
 unfoldable pub all_special_cases : List SpecialCase

@@ -1,0 +1,5 @@
+use Rattle.h2_spec_laws.proofs.ConformanceLaws.{ignored-conforms}
+use Rattle.h2_spec_laws.proofs.conformance_laws.what_is_ignored_conforms.Goals as goal
+
+pub returns : goal.returns
+returns c = ignored-conforms
