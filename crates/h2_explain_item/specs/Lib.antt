@@ -6,3 +6,4 @@ pub mod Changes
 pub mod Counts
 pub mod Special
 pub mod Warnings
+pub mod Others

@@ -1,8 +1,10 @@
 //! What is wrong with an item, and which special case or warning that is.
 
+pub mod accepted;
 pub mod error_context;
 pub mod facts;
 pub mod fields;
+pub mod others;
 pub mod request_facts;
 pub mod special;
 pub mod warning;

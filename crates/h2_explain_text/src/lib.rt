@@ -5,6 +5,7 @@
 
 pub mod account;
 pub mod lines;
+pub mod others;
 pub mod paint;
 pub mod rest;
 pub mod text;

@@ -8,6 +8,7 @@ ghost use Rattle.h2_explain_item.specs.Special.{rule_of_cause, rule_of_reason};
 ghost use Rattle.h2_spec.specs.Causes.Rules.{client_words, server_words};
 
 use crate::account::Account;
+use crate::others::{say_accepted, say_beside_error, say_beside_reason};
 use crate::paint::{Paint, Role};
 use crate::text::{
     answer_reader, say_all_moved, say_also, say_changes, say_entries, say_fields, say_item,
@@ -345,8 +346,11 @@ fn say_words<A: Allocator + Copy>(
     let item_end = out.len();
     say_shown_fields(account, reader, paint, out);
     let fields = out.len();
+    say_beside_error(item, account, paint, out);
     say_also(account.also.as_slice(), paint, out);
     let also = out.len();
+    say_beside_reason(item, account, paint, out);
+    say_accepted(item, account, reader, paint, out);
     say_warnings(account.warnings, paint, out);
     say_sent(alloc, item.sent, paint, account.is_brief, answers, out);
     let sent = out.len();
