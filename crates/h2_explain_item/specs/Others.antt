@@ -66,8 +66,8 @@ is_known Wait other = false
 is_known Http1 other = false
 
 -- whether a reaction is named among these, and is not known from this server's own
-abbrev pub is_told : Observed → Reactions → Observed → Bool
-is_told ours these other = is_named these other && not (is_known ours other)
+abbrev pub is_listed : Observed → Reactions → Observed → Bool
+is_listed ours these other = is_named these other && not (is_known ours other)
 
 -- an error of the connection, which has ended, or of a stream
 abbrev pub error_of : Bool → ℕ → Observed

@@ -2,7 +2,7 @@
 
 use crate::json_words::JsonWords;
 use crate::member;
-use h2_explain_item::diagnosis::accepted::{all_told, is_accepted};
+use h2_explain_item::diagnosis::accepted::{all_listed, is_accepted};
 use h2_explain_item::item::Explained;
 use h2_explain_text::account::Account;
 use h2_explain_text::others::{ended_fields, no_errors};
@@ -89,7 +89,7 @@ pub(crate) fn put_accepted<A: Allocator + Copy>(
 ) {
     let fields = ended_fields(account, reader);
     let mut is_begun = false;
-    for accepted in all_told() {
+    for accepted in all_listed() {
         if is_accepted(*accepted, item, account.warnings, fields) {
             if !is_begun {
                 out.open_list(member!("accepted"));

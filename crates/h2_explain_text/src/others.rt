@@ -1,11 +1,11 @@
 //! What a server may do, in words: a line below those of an error, or of why an item is ignored, and lines of what is
-//! accepted. Which reactions are told has a definition, h2_explain_item's `specs/Others.antt`; the words have none. The form:
+//! accepted. Which reactions are listed has a definition, h2_explain_item's `specs/Others.antt`; the words have none. The form:
 //! docs/EXPLAIN.md.
 
 use crate::account::Account;
 use crate::paint::{Paint, Role};
-use h2_explain_item::diagnosis::accepted::{all_told, is_accepted};
-use h2_explain_item::diagnosis::others::{error_of, is_told};
+use h2_explain_item::diagnosis::accepted::{all_listed, is_accepted};
+use h2_explain_item::diagnosis::others::{error_of, is_listed};
 use h2_explain_item::diagnosis::special::{
     case_of_error, case_of_reason, rule_of_cause, rule_of_reason,
 };
@@ -63,14 +63,14 @@ impl List {
         }
     }
 
-    /// Puts a reaction last, where it is told.
+    /// Puts a reaction last, where it is listed.
     fn put<A: Allocator>(
         self,
         these: Reactions,
         other: Observed,
         out: &mut TextBuilder<A>,
     ) -> List {
-        if !is_told(self.ours, these, other) {
+        if !is_listed(self.ours, these, other) {
             return self;
         }
         let next = self.begin(out);
@@ -78,7 +78,7 @@ impl List {
         next
     }
 
-    /// Puts errors last whose scope this is, where they are told.
+    /// Puts errors last whose scope this is, where they are listed.
     fn put_errors<A: Allocator>(
         self,
         these: Reactions,
@@ -92,7 +92,7 @@ impl List {
         list
     }
 
-    /// Puts reactions last, where they are told; where any code is allowed, that there may be an error.
+    /// Puts reactions last, where they are listed; where any code is allowed, that there may be an error.
     fn put_all<A: Allocator>(self, these: Reactions, out: &mut TextBuilder<A>) -> List {
         let mut list = self;
         if let Codes::Any = these.stream {
@@ -108,7 +108,7 @@ impl List {
         list
     }
 
-    /// Puts reactions last that are open, where they are told.
+    /// Puts reactions last that are open, where they are listed.
     fn put_open<A: Allocator>(self, these: Reactions, out: &mut TextBuilder<A>) -> List {
         let lead = if self.is_begun { "; open: " } else { "open: " };
         List { lead, ..self }.put_all(these, out)
@@ -231,7 +231,7 @@ pub(crate) fn say_accepted<A: Allocator + Copy>(
         return;
     }
     let fields = ended_fields(account, reader);
-    for accepted in all_told() {
+    for accepted in all_listed() {
         if is_accepted(*accepted, item, account.warnings, fields) {
             say_one_accepted(*accepted, paint, out);
         }

@@ -11,7 +11,7 @@ use h2_spec::frames::{END_STREAM, FrameType};
 use h2_spec::streams::is_live;
 use std::alloc::Allocator;
 
-/// What can be told from one item, in their order: all but what no section lets a server refuse, and what is told by
+/// What can be seen of one item, in their order: all but what no section lets a server refuse, and what is seen of
 /// several items, by the spelling of an integer, or by a limit that no document has.
 static ALL: [Accepted; 29] = [
     Accepted::UnknownSetting,
@@ -45,8 +45,8 @@ static ALL: [Accepted; 29] = [
     Accepted::EmptyDataBelowZero,
 ];
 
-/// What can be told from one item.
-pub fn all_told() -> &'static [Accepted] {
+/// What can be seen of one item.
+pub fn all_listed() -> &'static [Accepted] {
     &ALL
 }
 

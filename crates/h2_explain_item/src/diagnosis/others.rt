@@ -2,7 +2,7 @@
 //! `specs/Others.antt`.
 
 ghost use Rattle.std.specs.Prelude.{◌≡◌};
-ghost use Rattle.h2_explain_item.specs.Others.{error_of, is_error_beside, is_generic, is_known, is_told};
+ghost use Rattle.h2_explain_item.specs.Others.{error_of, is_error_beside, is_generic, is_known, is_listed};
 
 use h2_spec::conforming::{Observed, Reactions};
 
@@ -40,8 +40,8 @@ fn is_known(ours: Observed, other: Observed) -> bool
 }
 
 /// Whether a reaction is named among these, and is not known from this server's own.
-pub fn is_told(ours: Observed, these: Reactions, other: Observed) -> bool
-    ensures { result ≡ is_told ours these other }
+pub fn is_listed(ours: Observed, these: Reactions, other: Observed) -> bool
+    ensures { result ≡ is_listed ours these other }
 {
     these.is_named(other) && !is_known(ours, other)
 }
