@@ -136,7 +136,7 @@ impl<'b, A: Allocator + Copy> CaseFinder<'b, A> {
         octets: &[u8],
         number: u64,
     ) -> Result<Option<Grounds>, AllocError> {
-        while self.items < number {
+        for _item in self.items..number {
             let rest = octets.get(self.used..).unwrap_or(&[]);
             if !self.take(alloc, rest)? {
                 return Ok(None);

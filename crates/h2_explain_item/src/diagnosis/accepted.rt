@@ -7,7 +7,7 @@ use crate::item::Explained;
 use h2_explain_words::spelled::SpelledField;
 use h2_frame::{Part, SettingsPart};
 use h2_spec::accepted::Accepted;
-use h2_spec::frames::{END_STREAM, FrameType};
+use h2_spec::frames::END_STREAM;
 use h2_spec::streams::is_live;
 use std::alloc::Allocator;
 
