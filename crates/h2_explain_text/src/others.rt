@@ -39,7 +39,7 @@ pub fn no_errors() -> &'static [Observed] {
 
 /// A list of reactions that is being put.
 #[derive(Clone, Copy)]
-struct List {
+struct Listing {
     ours: Observed,
     paint: Paint,
     role: Role,
@@ -48,15 +48,15 @@ struct List {
     is_begun: bool,
 }
 
-impl List {
+impl Listing {
     /// Puts what comes before a reaction last.
-    fn begin<A: Allocator>(self, out: &mut TextBuilder<A>) -> List {
+    fn begin<A: Allocator>(self, out: &mut TextBuilder<A>) -> Listing {
         if !self.is_begun {
             self.paint.begin(self.role, out);
             say_all!(out; "others may: ");
         }
         say_all!(out; self.lead);
-        List {
+        Listing {
             lead: "; ",
             is_begun: true,
             ..self
@@ -69,7 +69,7 @@ impl List {
         these: Reactions,
         other: Observed,
         out: &mut TextBuilder<A>,
-    ) -> List {
+    ) -> Listing {
         if !is_listed(self.ours, these, other) {
             return self;
         }
@@ -84,7 +84,7 @@ impl List {
         these: Reactions,
         is_connection: bool,
         out: &mut TextBuilder<A>,
-    ) -> List {
+    ) -> Listing {
         let mut list = self;
         for code in 0..CODES {
             list = list.put(these, error_of(is_connection, code), out);
@@ -93,7 +93,7 @@ impl List {
     }
 
     /// Puts reactions last, where they are listed; where any code is allowed, that there may be an error.
-    fn put_all<A: Allocator>(self, these: Reactions, out: &mut TextBuilder<A>) -> List {
+    fn put_all<A: Allocator>(self, these: Reactions, out: &mut TextBuilder<A>) -> Listing {
         let mut list = self;
         if let Codes::Any = these.stream {
             list = list.begin(out);
@@ -109,9 +109,9 @@ impl List {
     }
 
     /// Puts reactions last that are open, where they are listed.
-    fn put_open<A: Allocator>(self, these: Reactions, out: &mut TextBuilder<A>) -> List {
+    fn put_open<A: Allocator>(self, these: Reactions, out: &mut TextBuilder<A>) -> Listing {
         let lead = if self.is_begun { "; open: " } else { "open: " };
-        List { lead, ..self }.put_all(these, out)
+        Listing { lead, ..self }.put_all(these, out)
     }
 }
 
@@ -137,7 +137,7 @@ fn say_others<A: Allocator>(
     role: Role,
     out: &mut TextBuilder<A>,
 ) {
-    let list = List {
+    let list = Listing {
         ours,
         paint,
         role,
