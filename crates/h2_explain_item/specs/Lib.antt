@@ -8,3 +8,4 @@ pub mod Special
 pub mod FrameFacts
 pub mod RunFacts
 pub mod Warnings
+pub mod Others

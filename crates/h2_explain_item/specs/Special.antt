@@ -1,6 +1,6 @@
 -- Which special case an error or an ignored frame is, and what is printed of its rule: the row of the special case, or
 -- that of the cause or the reason (h2_spec's CauseWords, IgnoredWords and SpecialCases).
-use Rattle.std.specs.Prelude.{Bool, true, false, ◌%◌, ◌==◌, if◌then◌else◌, Option, Some, None}
+use Rattle.std.specs.Prelude.{◌≡◌, Bool, true, false, ◌%◌, ◌==◌, if◌then◌else◌, Option, Some, None}
 use Rattle.h2_spec.specs.declared.causes.Cause.{Cause}
 use Rattle.h2_spec.specs.declared.causes.Cause.TheVariants.{BlockInterrupted, DataOnIdle, RstStreamOnIdle, WindowUpdateOnIdle, StreamWindowOverflow, TooManyStreams, BadName, LackingPseudoField, BadContentLength, TrailersBadName}
 use Rattle.h2_spec.specs.declared.frames.FrameType.{FrameType}
@@ -20,6 +20,7 @@ use Rattle.h2_spec.specs.Causes.SpecialCases.{special_row}
 use Rattle.h2_explain_item.specs.Item.{head_in}
 use Rattle.h2_explain_item.specs.declared.item.Explained.{Explained}
 use Rattle.h2_explain_item.specs.declared.diagnosis.special.CaseFacts.{CaseFacts}
+use Rattle.h2_explain_item.specs.declared.diagnosis.special.Seen.{Seen}
 
 -- this case, where it is so
 abbrev pub case_if : Bool → SpecialCase → Option SpecialCase
@@ -71,19 +72,31 @@ abbrev pub length_case : (differ long : Bool) → Option SpecialCase
 length_case true long = Some ContentLengthsDiffer
 length_case false long = case_if long ContentLengthTooLong
 
+-- what an item shows of whether its rule is a special case
+abbrev pub seen_of : Explained → Seen
+seen_of x = record {
+  unknown_type = is_unknown_frame (head_in x.what);
+  even_stream = x.before.stream.id % 2 == 0;
+  half_local = is_half_local x.before.stream.kind;
+  acked = x.before.counts.acked;
+}
+
 -- the special case of a cause, if it is one
+abbrev pub case_of_cause : Cause → Seen → CaseFacts → Option SpecialCase
+case_of_cause BlockInterrupted s f = interrupted_case s.unknown_type f.continued
+case_of_cause DataOnIdle s f = case_if s.even_stream EvenStream
+case_of_cause RstStreamOnIdle s f = case_if s.even_stream EvenStream
+case_of_cause WindowUpdateOnIdle s f = case_if s.even_stream EvenStream
+case_of_cause StreamWindowOverflow s f = case_if s.half_local UnfollowedWindow
+case_of_cause TooManyStreams s f = if s.acked then None else Some LimitNotAcknowledged
+case_of_cause BadName s f = case_if f.empty_name EmptyName
+case_of_cause TrailersBadName s f = case_if f.empty_name EmptyName
+case_of_cause LackingPseudoField s f = lacking_case f.connect f.other_scheme
+case_of_cause BadContentLength s f = length_case f.lengths_differ f.length_is_long
+case_of_cause _ s f = None
+
 abbrev pub special_cause : Cause → Explained → CaseFacts → Option SpecialCase
-special_cause BlockInterrupted x f = interrupted_case (is_unknown_frame (head_in x.what)) f.continued
-special_cause DataOnIdle x f = case_if (x.before.stream.id % 2 == 0) EvenStream
-special_cause RstStreamOnIdle x f = case_if (x.before.stream.id % 2 == 0) EvenStream
-special_cause WindowUpdateOnIdle x f = case_if (x.before.stream.id % 2 == 0) EvenStream
-special_cause StreamWindowOverflow x f = case_if (is_half_local x.before.stream.kind) UnfollowedWindow
-special_cause TooManyStreams x f = if x.before.counts.acked then None else Some LimitNotAcknowledged
-special_cause BadName x f = case_if f.empty_name EmptyName
-special_cause TrailersBadName x f = case_if f.empty_name EmptyName
-special_cause LackingPseudoField x f = lacking_case f.connect f.other_scheme
-special_cause BadContentLength x f = length_case f.lengths_differ f.length_is_long
-special_cause _ x f = None
+special_cause cause x f = case_of_cause cause (seen_of x) f
 
 -- the special case of a reason to ignore a frame, if it is one
 abbrev pub special_reason : Ignored → CaseFacts → Option SpecialCase
@@ -106,6 +119,15 @@ ignored_case (Some reason) f = special_reason reason f
 
 abbrev pub case_of_reason : Explained → CaseFacts → Option SpecialCase
 case_of_reason x f = ignored_case x.ignored f
+
+-- that of an error with this cause, else of a frame that is ignored for this reason, by what the item shows
+abbrev pub case_by : Option Cause → Option Ignored → Seen → CaseFacts → Option SpecialCase
+case_by (Some cause) ignored s f = case_of_cause cause s f
+case_by None ignored s f = ignored_case ignored f
+
+-- one that an error with this cause, or a frame that is ignored for this reason, can be; none where it is no special case
+abbrev pub IsCaseOf : Option Cause → Option Ignored → Option SpecialCase → Type 0
+IsCaseOf cause ignored case = (s : Seen) × (f : CaseFacts) × (case ≡ case_by cause ignored s f)
 
 -- the row of the special case, or this one
 abbrev pub row_or : Row → Option SpecialCase → Row

@@ -6,6 +6,7 @@ ghost use Rattle.std.specs.Prelude.{◌≡◌, false, IfOk};
 ghost use Rattle.std.specs.String.{string_bytes};
 ghost use Rattle.h2_explain_text.specs.Lines.{EndsLine};
 
+use crate::allowed::{put_accepted, put_allowed};
 use crate::json_words::{JsonWords, Member};
 use crate::warnings::put_warnings;
 use crate::{element, member};
@@ -31,6 +32,7 @@ use h2_io::say_all;
 use h2_spec::causes::Cause;
 use h2_spec::ignored::Ignored;
 use h2_spec::octets::{first_octets, octets_from};
+use h2_spec::rules::Row;
 use h2_spec::special_cases::SpecialCase;
 use std::alloc::{AllocError, Allocator};
 
@@ -333,6 +335,13 @@ fn put_also<A: Allocator>(also: &[Cause], out: &mut JsonWords<A>) {
     out.close_list();
 }
 
+/// Puts what a server may do by a rule, unless it is left out.
+fn put_conforming<A: Allocator>(rule: Row, account: &Account<A>, out: &mut JsonWords<A>) {
+    if !account.is_brief {
+        put_allowed(rule.duties.conforming, out);
+    }
+}
+
 /// An error: its scope, its code, its cause, what the RFC says of both sides, and the sentence.
 fn put_error<A: Allocator + Copy>(
     cause: Cause,
@@ -343,6 +352,7 @@ fn put_error<A: Allocator + Copy>(
 ) {
     let rule = rule_of_cause(cause, case);
     out.open(member!("error"));
+    put_conforming(rule, account, out);
     put_also(account.also.as_slice(), out);
     put_case(case, out);
     out.plain(member!("cause"), cause.name());
@@ -364,9 +374,15 @@ fn put_error<A: Allocator + Copy>(
 }
 
 /// Why a frame is ignored.
-fn put_ignored<A: Allocator>(why: Ignored, case: Option<SpecialCase>, out: &mut JsonWords<A>) {
+fn put_ignored<A: Allocator>(
+    why: Ignored,
+    case: Option<SpecialCase>,
+    account: &Account<A>,
+    out: &mut JsonWords<A>,
+) {
     let rule = rule_of_reason(why, case);
     out.open(member!("ignored"));
+    put_conforming(rule, account, out);
     put_case(case, out);
     out.plain(member!("client"), rule.duties.client.words());
     out.plain(member!("client_section"), rule.client_section);
@@ -559,7 +575,7 @@ fn put_why<A: Allocator + Copy>(
         put_head(&head, out);
     }
     if let Some(why) = item.ignored {
-        put_ignored(why, case_of_reason(item, account.facts), out);
+        put_ignored(why, case_of_reason(item, account.facts), account, out);
     }
 }
 
@@ -640,6 +656,9 @@ pub fn json_of<A: Allocator + Copy>(
         &mut out,
     );
     out.open_element();
+    if !account.is_brief {
+        put_accepted(item, account, reader, &mut out);
+    }
     put_why(item, account, reader, &mut out);
     put_item(alloc, item, account.is_brief, &mut out);
     put_entries(account, &mut out);

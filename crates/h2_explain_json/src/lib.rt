@@ -2,6 +2,7 @@
 //! (`warnings`), and what is after the last item (`end`). The values are those of h2_explain_text.
 #![tactic(auto)]
 
+mod allowed;
 pub mod end;
 pub mod json;
 pub mod json_words;

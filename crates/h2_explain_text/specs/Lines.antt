@@ -73,26 +73,30 @@ scope Settings = scope_word false
 scope Running = scope_word false
 scope (Ended code) = scope_word true
 
--- what follows the name of a cause, or of a reason, in its two lines: its rule in words, and a sentence
-abbrev pub rule_lines : Bool → Role → (section server client client_section sentence : List ℕ) → List ℕ
-rule_lines color role section server client client_section sentence =
+-- what follows the name of a cause, or of a reason, in its two lines: its rule in words, and a sentence, which begins with
+-- these blanks
+abbrev pub rule_lines : (blanks : List ℕ) → Bool → Role → (section server client client_section sentence : List ℕ) → List ℕ
+rule_lines blanks color role section server client client_section sentence =
     joined (codes ", " ∷ section ∷ codes ", " ∷ server ∷ codes "; broken: " ∷ client ∷ codes ", " ∷ client_section ∷ ended color
-    ∷ indent ∷ started color role ∷ sentence ∷ ended color ∷ [])
+    ∷ blanks ∷ started color role ∷ sentence ∷ ended color ∷ [])
+
+-- the same of a row
+abbrev pub row_lines : (blanks : List ℕ) → Bool → Role → Row → (sentence : List ℕ) → List ℕ
+row_lines blanks color role row sentence =
+    rule_lines blanks color role row.section (server_words row.server) (client_words row.client) row.client_section sentence
 
 -- the two lines of an error: its code, its cause, the section of its rule, how far the RFC decides what the server does,
 -- what the client broke, with the section that says so, and a sentence
 unfoldable pub error_lines : Bool → Phase → Cause → Row → (sentence : List ℕ) → List ℕ
 error_lines color phase cause row sentence =
     joined (indent ∷ started color role.Error ∷ scope phase ∷ error_name (code_of cause) ∷ codes ": " ∷ cause_name cause
-    ∷ codes ", " ∷ row.section ∷ codes ", " ∷ server_words row.server ∷ codes "; broken: " ∷ client_words row.client ∷ codes ", " ∷ row.client_section ∷ ended color
-    ∷ indent ∷ started color role.Error ∷ sentence ∷ ended color ∷ [])
+    ∷ row_lines indent color role.Error row sentence ∷ [])
 
 -- the two lines of an item that is ignored: the reason, the same of its rule, and why in a sentence
 unfoldable pub ignored_lines : Bool → Ignored → Row → List ℕ
 ignored_lines color reason row =
     joined (indent ∷ started color role.Ignored ∷ codes "ignored: " ∷ ignored_name reason
-    ∷ codes ", " ∷ row.section ∷ codes ", " ∷ server_words row.server ∷ codes "; broken: " ∷ client_words row.client ∷ codes ", " ∷ row.client_section ∷ ended color
-    ∷ indent ∷ started color role.Ignored ∷ row.sentence ∷ ended color ∷ [])
+    ∷ row_lines indent color role.Ignored row row.sentence ∷ [])
 
 -- ---- an item
 

@@ -5,8 +5,10 @@
 
 pub mod account;
 pub mod lines;
+pub mod others;
 pub mod paint;
 pub mod rest;
 pub mod text;
 pub mod waits;
 mod warning_words;
+pub mod why;

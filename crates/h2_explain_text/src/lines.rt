@@ -8,6 +8,7 @@ ghost use Rattle.h2_explain_item.specs.Special.{rule_of_cause, rule_of_reason};
 ghost use Rattle.h2_spec.specs.Causes.Rules.{client_words, server_words};
 
 use crate::account::Account;
+use crate::others::{say_accepted, say_beside_error, say_beside_reason};
 use crate::paint::{Paint, Role};
 use crate::text::{
     answer_reader, say_all_moved, say_also, say_changes, say_entries, say_fields, say_item,
@@ -124,7 +125,7 @@ impl Text for FirstLine<'_> {
 }
 
 /// An error of the connection, which has ended, or of a stream.
-fn scope(phase: Phase) -> &'static str
+pub(crate) fn scope(phase: Phase) -> &'static str
     ensures { result.now ≡ scope phase }
 {
     match phase {
@@ -135,15 +136,17 @@ fn scope(phase: Phase) -> &'static str
 
 /// What follows the name of a cause, or of a reason, in its two lines: its rule, and a sentence on a line of its own.
 #[derive(Clone, Copy)]
-struct RuleLines<'w> {
-    paint: Paint,
-    role: Role,
-    rule: Row,
-    sentence: &'w str,
+pub(crate) struct RuleLines<'w> {
+    pub paint: Paint,
+    /// The blanks before the sentence.
+    pub indent: &'w str,
+    pub role: Role,
+    pub rule: Row,
+    pub sentence: &'w str,
 }
 
 impl Text for RuleLines<'_> {
-    ghost text = { λ l. rule_lines l.paint.0 l.role l.rule.section.now (server_words l.rule.duties.server) (client_words l.rule.duties.client) l.rule.client_section.now l.sentence.now };
+    ghost text = { λ l. rule_lines l.indent.now l.paint.0 l.role l.rule.section.now (server_words l.rule.duties.server) (client_words l.rule.duties.client) l.rule.client_section.now l.sentence.now };
 
     fn write_to<O: Output>(&self, output: &mut O) -> Result<(), DeviceFault> {
         let start = self.paint.started(self.role);
@@ -164,7 +167,7 @@ impl Text for RuleLines<'_> {
             ", ",
             client_section,
             end,
-            INDENT,
+            self.indent,
             start,
             self.sentence,
             end
@@ -195,6 +198,7 @@ impl Text for ErrorLines<'_> {
         let rule = rule_of_cause(cause, self.case);
         let rest = RuleLines {
             paint: self.paint,
+            indent: INDENT,
             role: Role::Error,
             rule,
             sentence: self.sentence,
@@ -221,6 +225,7 @@ impl Text for IgnoredLines {
         let rule = rule_of_reason(reason, self.case);
         let rest = RuleLines {
             paint: self.paint,
+            indent: INDENT,
             role: Role::Ignored,
             rule,
             sentence: rule.sentence,
@@ -341,8 +346,11 @@ fn say_words<A: Allocator + Copy>(
     let item_end = out.len();
     say_shown_fields(account, reader, paint, out);
     let fields = out.len();
+    say_beside_error(item, account, paint, out);
     say_also(account.also.as_slice(), paint, out);
     let also = out.len();
+    say_beside_reason(item, account, paint, out);
+    say_accepted(item, account, reader, paint, out);
     say_warnings(account.warnings, paint, out);
     say_sent(alloc, item.sent, paint, account.is_brief, answers, out);
     let sent = out.len();

@@ -1,4 +1,3 @@
 pub mod Names
 pub mod Sent
 pub mod Spelled
-pub mod Why

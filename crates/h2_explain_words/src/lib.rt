@@ -1,6 +1,5 @@
 //! Frames, settings, error codes and fields in words.
-//! `frame_words` has a frame in words, `spelled` the fields of field blocks, each with how it was spelled, `why` why an item
-//! was an error or was ignored.
+//! `frame_words` has a frame in words, `spelled` the fields of field blocks, each with how it was spelled.
 #![tactic(auto)]
 
 pub mod frame_words;
@@ -9,4 +8,3 @@ pub mod names;
 mod reading;
 pub mod sent;
 pub mod spelled;
-pub mod why;

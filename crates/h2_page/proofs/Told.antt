@@ -1,13 +1,14 @@
 -- A run of which each item is reported why it was an error, or was ignored.
-use Rattle.std.proofs.Common.{◌≡◌, ◌∙◌, ◌+◌, ◌<◌, ◌≤◌, ℕ, List, [], ◌∷◌, Bool, Option, Some, None, is_some, option_map, length, drop, refl, sym, ap, ap₂, subst, arith, length-drop}
+use Rattle.std.proofs.Common.{◌≡◌, ◌∙◌, ◌+◌, ◌<◌, ◌≤◌, ℕ, List, [], ◌∷◌, Option, Some, None, length, drop, refl, sym, ap, ap₂, subst, arith, length-drop}
 use Rattle.std.proofs.lemmas.List.{drop-drop}
 use Rattle.h2_spec.specs.Effect.{cause_of}
 use Rattle.h2_spec.specs.Frames.Frame.{Item, Next, NoItem, Got}
 use Rattle.h2_spec.specs.Causes.Ignored.{ignored_of}
 use Rattle.h2_spec.specs.Frames.Parse.{Front, Stop, One}
-use Rattle.h2_spec.specs.State.{State, ended_code}
+use Rattle.h2_spec.specs.State.{State}
 use Rattle.h2_spec.specs.Trace.{Event, event_on, next_event, next_item}
 use Rattle.h2_spec.specs.declared.causes.Cause.{Cause}
+use Rattle.h2_spec.specs.declared.connection.Phase.{Phase}
 use Rattle.h2_spec.specs.declared.ignored.Ignored.{Ignored}
 use Rattle.h2_spec.proofs.ParseLaws.{Uses}
 use Rattle.h2_spec.proofs.TraceLaws.{event-uses}
@@ -17,10 +18,6 @@ use Rattle.h2_conn.specs.declared.report.TakenItem.{TakenItem}
 use Rattle.h2_cmd_play.proofs.Taken.{events, events-one, events-stop}
 use Rattle.h2_page.specs.Whys.{TakesWhy, event_why, why_text, why_texts}
 use Rattle.h2_page.specs.declared.items.TakenWhy.{TakenWhy}
-
-pub some-mapped : {X Y : Type 0} → (f : X → Y) (o : Option X) → is_some (option_map f o) ≡ is_some o
-some-mapped f None = refl
-some-mapped f (Some x) = refl
 
 abbrev item-in : Item → Front State Event → Item
 item-in other Stop = other
@@ -60,14 +57,14 @@ why-within s octets at c t h x =
 
 -- the next item of a run
 pub why-next : (s : State) (octets : List ℕ) (at place : ℕ) (c : Connection) (t : TakenWhy) → TakesWhy s (drop at octets) c t
-    → why_texts place s (events s (drop at octets)) ≡ why_text place t.has_ended t.cause t.ignored ∷ why_texts (place + 1) c.state (events c.state (drop (at + t.used) octets))
+    → why_texts place s (events s (drop at octets)) ≡ why_text place t.phase t.cause t.ignored ∷ why_texts (place + 1) c.state (events c.state (drop (at + t.used) octets))
 why-next s octets at place c t x =
     let later : List Event = events c.state (drop (at + t.used) octets) in
     let one : events s (drop at octets) ≡ x.event ∷ later =
     events-one s c.state (drop at octets) x.event t.used x.comes ∙ ap (λ (r : List ℕ). x.event ∷ events c.state r) (drop-drop t.used at octets) in
-    let ended : t.has_ended ≡ is_some (ended_code x.event.state.core.phase) = x.ended ∙ ap (λ (u : State). is_some (ended_code u.core.phase)) (sym x.state) in
-    let text : why_text place t.has_ended t.cause t.ignored ≡ event_why place s x.event =
-    ap (λ (b : Bool). why_text place b t.cause t.ignored) ended ∙ ap₂ (λ (c : Option Cause) (i : Option Ignored). why_text place (is_some (ended_code x.event.state.core.phase)) c i) x.cause x.ignored in
+    let phase : t.phase ≡ x.event.state.core.phase = x.phase ∙ ap (λ (u : State). u.core.phase) (sym x.state) in
+    let text : why_text place t.phase t.cause t.ignored ≡ event_why place s x.event =
+    ap (λ (p : Phase). why_text place p t.cause t.ignored) phase ∙ ap₂ (λ (c : Option Cause) (i : Option Ignored). why_text place x.event.state.core.phase c i) x.cause x.ignored in
     ap (why_texts place s) one ∙ whys-cons place s x.event later ∙ ap₂ (λ (w : List ℕ) (u : State). w ∷ why_texts (place + 1) u later) (sym text) x.state
 
 pub why-none : (s : State) (b : List ℕ) (place : ℕ) → next_event s b ≡ Stop → why_texts place s (events s b) ≡ []

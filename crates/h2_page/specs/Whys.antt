@@ -1,24 +1,25 @@
--- Why each item of a run was an error, or was ignored.
-use Rattle.std.specs.Prelude.{◌≡◌, ℕ, ◌+◌, ◌++◌, Bool, List, [], ◌∷◌, Option, Some, None, codes, decimal, is_some}
+-- Which error each item of a run was, and its cause, or why it was ignored.
+use Rattle.std.specs.Prelude.{◌≡◌, ℕ, ◌+◌, ◌++◌, List, [], ◌∷◌, Option, Some, None, codes, decimal}
 use Rattle.h2_spec.specs.Effect.{cause_of}
 use Rattle.h2_spec.specs.Causes.Ignored.{ignored_of}
 use Rattle.h2_spec.specs.Frames.Parse.{One, Stop}
 use Rattle.h2_spec.specs.Texts.Show.{joined}
-use Rattle.h2_spec.specs.State.{State, ended_code}
+use Rattle.h2_spec.specs.State.{State}
 use Rattle.h2_spec.specs.Trace.{Event, next_event}
 use Rattle.h2_spec.specs.declared.causes.Cause.{Cause}
+use Rattle.h2_spec.specs.declared.connection.Phase.{Phase}
 use Rattle.h2_spec.specs.declared.ignored.Ignored.{Ignored}
 use Rattle.h2_conn.specs.Connection.{Connection, going}
-use Rattle.h2_explain_words.specs.Why.{why_lines}
+use Rattle.h2_explain_text.specs.Why.{head_line}
 use Rattle.h2_page.specs.declared.items.TakenWhy.{TakenWhy}
 
--- the number of an item, and what `why` of `debug` says of it
-unfoldable pub why_text : ℕ → Bool → Option Cause → Option Ignored → List ℕ
-why_text place ended cause ignored = joined (codes "item " ∷ decimal place ∷ codes "\n" ∷ []) ++ why_lines ended cause ignored
+-- the number of an item, and the first words that `why` of `debug` says of it
+unfoldable pub why_text : ℕ → Phase → Option Cause → Option Ignored → List ℕ
+why_text place phase cause ignored = joined (codes "item " ∷ decimal place ∷ codes "\n" ∷ []) ++ head_line phase cause ignored
 
 -- an item that was taken in a state
 abbrev pub event_why : ℕ → State → Event → List ℕ
-event_why place s e = why_text place (is_some (ended_code e.state.core.phase)) (cause_of s e.item) (ignored_of s e.item)
+event_why place s e = why_text place e.state.core.phase (cause_of s e.item) (ignored_of s e.item)
 
 -- the items of a run, from this place and this state on
 unfoldable pub why_texts : ℕ → State → List Event → List (List ℕ)
@@ -31,7 +32,7 @@ pub record TakesWhy (s : State) (b : List ℕ) (c : Connection) (t : TakenWhy) :
   pub comes : next_event s b ≡ One event c.state t.used
   pub state : event.state ≡ c.state
   pub after : c ≡ going c.state []
-  pub ended : t.has_ended ≡ is_some (ended_code c.state.core.phase)
+  pub phase : t.phase ≡ c.state.core.phase
   pub cause : t.cause ≡ cause_of s event.item
   pub ignored : t.ignored ≡ ignored_of s event.item
 

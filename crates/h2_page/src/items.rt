@@ -1,4 +1,4 @@
-//! Why each item of a run was an error, or was ignored. Definitions: `specs/Whys.antt`.
+//! Which error each item of a run was, and its cause, or why it was ignored. Definitions: `specs/Whys.antt`.
 
 ghost use Rattle.std.specs.Prelude.{◌≡◌, ◌<◌, ◌^◌, ◌++◌, ℕ, List, [], Some, false, length, IfOk, IfErr, OnOk};
 ghost use Rattle.std.specs.Io.KnownBytes.{Appends};
@@ -11,24 +11,25 @@ ghost use Rattle.h2_page.specs.Whys.{TakesAnyWhy, why_text, why_texts};
 
 use h2_cmd_play::{PlacesFault, ShownPlaces, write_shown};
 use h2_conn::Conn;
-use h2_explain_words::why::WhyText;
+use h2_explain_text::why::WhyHead;
 use h2_io::{DeviceFault, Number, Output, Text, texts};
 use h2_spec::causes::Cause;
+use h2_spec::connection::Phase;
 use h2_spec::ignored::Ignored;
 use h2_spec::octets::octets_from;
 use std::alloc::{AllocError, Allocator};
 
-/// An item that was taken: how many octets it has, whether it ended the connection, and why it was an error or was
+/// An item that was taken: how many octets it has, the phase of the connection after it, and why it was an error or was
 /// ignored.
 #[derive(Clone, Copy)]
 pub struct TakenWhy {
     pub used: usize,
-    pub has_ended: bool,
+    pub phase: Phase,
     pub cause: Option<Cause>,
     pub ignored: Option<Ignored>,
 }
 
-/// The number of an item, and what `why` of `debug` says of it.
+/// The number of an item, and the first words that `why` of `debug` says of it.
 #[derive(Clone, Copy)]
 struct ItemWhy {
     place: usize,
@@ -37,13 +38,13 @@ struct ItemWhy {
 
 #[tactic(auto, using(h2_io::proofs::Appending::both), unfolding(crate::specs::Whys::why_text))]
 impl Text for ItemWhy {
-    ghost text = { λ w. why_text w.place w.taken.has_ended w.taken.cause w.taken.ignored };
+    ghost text = { λ w. why_text w.place w.taken.phase w.taken.cause w.taken.ignored };
 
     fn write_to<O: Output>(&self, output: &mut O) -> Result<(), DeviceFault> {
         let place = Number(self.place as u64);
         texts!("item ", place, "\n").write_to(output)?;
-        let why = WhyText {
-            has_ended: self.taken.has_ended,
+        let why = WhyHead {
+            phase: self.taken.phase,
             cause: self.taken.cause,
             ignored: self.taken.ignored,
         };
@@ -59,7 +60,7 @@ fn write_why<O: Output>(
     taken: TakenWhy,
 ) -> Result<(), PlacesFault>
     requires { O.has_failed output.old ≡ false }
-    ensures octets { OnOk result (Appends (O.written output.old) (O.written output.new) (text_shown shown.first place (why_text place taken.has_ended taken.cause taken.ignored))) }
+    ensures octets { OnOk result (Appends (O.written output.old) (O.written output.new) (text_shown shown.first place (why_text place taken.phase taken.cause taken.ignored))) }
     ensures err { IfErr result (λ why. why ≡ NotWritten) }
     ensures flag { O.has_failed output.new ≡ not_written result }
 {
@@ -79,7 +80,7 @@ fn take_why<A: Allocator + Copy>(
     match conn.take_and_report(octets, &mut sent) {
         Ok(Some(taken)) => Ok(Some(TakenWhy {
             used: taken.used,
-            has_ended: conn.ended().is_some(),
+            phase: conn.counts().phase,
             cause: taken.cause,
             ignored: taken.ignored,
         })),
@@ -89,7 +90,7 @@ fn take_why<A: Allocator + Copy>(
 }
 
 /// Takes each item of a connection over the octets, from place 1 on, until none is left that is shown, and writes why
-/// it was an error or was ignored.
+/// it was an error or was ignored, in its first words.
 ///
 /// `NoMemory` where memory is refused: those of some first items were written. `NotWritten` where a write failed.
 pub(crate) fn write_whys<A: Allocator + Copy, O: Output>(

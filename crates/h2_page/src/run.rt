@@ -25,7 +25,7 @@ use std::alloc::Allocator;
 pub enum What {
     /// Its places, as `play --each` prints them.
     Places,
-    /// Why each item was an error or was ignored.
+    /// Which error each item was, or why it was ignored.
     Whys,
 }
 
@@ -230,7 +230,7 @@ pub extern "C" fn places(
 }
 
 /// Why each item of the same run was an error, or was ignored: for those from FIRST to LAST a line with the number, and
-/// what `why` of `debug` says of it. All else is as with `places`.
+/// one with the first words that `why` of `debug` says of it, up to the name. All else is as with `places`.
 #[unsafe(no_mangle)]
 pub extern "C" fn whys(
     memory: Free,

@@ -141,7 +141,7 @@ impl Reactions {
     }
 
     /// Whether a reaction is one of these, by its name.
-    fn is_named(self, seen: Observed) -> bool
+    pub fn is_named(self, seen: Observed) -> bool
         ensures { result ≡ is_named self seen }
     {
         match seen {

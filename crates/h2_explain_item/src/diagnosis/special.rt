@@ -2,7 +2,7 @@
 
 ghost use Rattle.std.specs.Prelude.{◌≡◌, ◌%◌, ◌==◌};
 ghost use Rattle.h2_explain_item.specs.Item.{head_in};
-ghost use Rattle.h2_explain_item.specs.Special.{case_if, case_of_error, case_of_reason, interrupted_case, is_half_local, is_unknown, is_unknown_frame, lacking_case, length_case, rule_of_cause, rule_of_reason, special_cause, special_reason};
+ghost use Rattle.h2_explain_item.specs.Special.{case_by, case_if, case_of_cause, case_of_error, case_of_reason, interrupted_case, is_half_local, is_unknown, is_unknown_frame, lacking_case, length_case, rule_of_cause, rule_of_reason, seen_of, special_reason};
 ghost use Rattle.h2_spec.specs.Causes.Rules.{row_shown};
 
 use crate::item::Explained;
@@ -13,7 +13,32 @@ use h2_spec::rules::Row;
 use h2_spec::special_cases::SpecialCase;
 use h2_spec::streams::StreamState;
 
-/// What decides, beside the item itself, whether a rule is a special case.
+/// What an item and the connection before it show of whether its rule is a special case.
+#[derive(Clone, Copy)]
+pub struct Seen {
+    /// Whether it is a frame of a type that is not known.
+    pub unknown_type: bool,
+    /// Whether it is on an even stream.
+    pub even_stream: bool,
+    /// Whether its stream is half-closed (local).
+    pub half_local: bool,
+    /// Whether the client has acknowledged the server's SETTINGS.
+    pub acked: bool,
+}
+
+impl Seen {
+    /// Nothing of it is so, but that they are acknowledged.
+    pub fn none() -> Seen {
+        Seen {
+            unknown_type: false,
+            even_stream: false,
+            half_local: false,
+            acked: true,
+        }
+    }
+}
+
+/// What decides, beside what is seen of the item, whether its rule is a special case.
 #[derive(Clone, Copy)]
 pub struct CaseFacts {
     /// Whether a CONTINUATION has arrived in the open field block.
@@ -124,22 +149,29 @@ fn length_case(differ: bool, long: bool) -> Option<SpecialCase>
     }
 }
 
+/// What an item shows of whether its rule is a special case.
+pub fn seen_of(item: &Explained<'_>) -> Seen
+    ensures { result ≡ seen_of item.now }
+{
+    Seen {
+        unknown_type: is_unknown_frame(item),
+        even_stream: is_even(item),
+        half_local: is_half_local(item.before.stream.kind),
+        acked: item.before.counts.acked,
+    }
+}
+
 /// The special case of a cause, if it is one.
-fn special_cause(cause: Cause, item: &Explained<'_>, facts: CaseFacts) -> Option<SpecialCase>
-    ensures { result ≡ special_cause cause item.now facts }
+fn case_of_cause(cause: Cause, seen: Seen, facts: CaseFacts) -> Option<SpecialCase>
+    ensures { result ≡ case_of_cause cause seen facts }
 {
     match cause {
-        Cause::BlockInterrupted => interrupted_case(is_unknown_frame(item), facts.continued),
+        Cause::BlockInterrupted => interrupted_case(seen.unknown_type, facts.continued),
         Cause::DataOnIdle | Cause::RstStreamOnIdle | Cause::WindowUpdateOnIdle => {
-            case_if(is_even(item), SpecialCase::EvenStream)
+            case_if(seen.even_stream, SpecialCase::EvenStream)
         }
-        Cause::StreamWindowOverflow => case_if(
-            is_half_local(item.before.stream.kind),
-            SpecialCase::UnfollowedWindow,
-        ),
-        Cause::TooManyStreams => {
-            case_if(!item.before.counts.acked, SpecialCase::LimitNotAcknowledged)
-        }
+        Cause::StreamWindowOverflow => case_if(seen.half_local, SpecialCase::UnfollowedWindow),
+        Cause::TooManyStreams => case_if(!seen.acked, SpecialCase::LimitNotAcknowledged),
         Cause::BadName | Cause::TrailersBadName => {
             case_if(facts.empty_name, SpecialCase::EmptyName)
         }
@@ -160,12 +192,28 @@ fn special_reason(reason: Ignored, facts: CaseFacts) -> Option<SpecialCase>
     }
 }
 
+/// The special case of an error with this cause, else of a frame that is ignored for this reason, if it is one.
+pub fn case_by(
+    cause: Option<Cause>,
+    ignored: Option<Ignored>,
+    seen: Seen,
+    facts: CaseFacts,
+) -> Option<SpecialCase>
+    ensures { result ≡ case_by cause ignored seen facts }
+{
+    match (cause, ignored) {
+        (Some(cause), _) => case_of_cause(cause, seen, facts),
+        (None, Some(reason)) => special_reason(reason, facts),
+        (None, None) => None,
+    }
+}
+
 /// The special case of an item's error, if it has one.
 pub fn case_of_error(item: &Explained<'_>, facts: CaseFacts) -> Option<SpecialCase>
     ensures { result ≡ case_of_error item.now facts }
 {
     match item.cause {
-        Some(cause) => special_cause(cause, item, facts),
+        Some(cause) => case_of_cause(cause, seen_of(item), facts),
         None => None,
     }
 }

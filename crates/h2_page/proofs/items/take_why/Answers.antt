@@ -1,6 +1,7 @@
-use Rattle.std.proofs.Common.{◌∙◌, ap, is_some}
+use Rattle.std.proofs.Common.{ap}
 use Rattle.h2_cmd_play.proofs.Taken.{event-state}
-use Rattle.h2_page.proofs.Told.{reported-event, some-mapped}
+use Rattle.h2_page.proofs.Told.{reported-event}
+use Rattle.h2_spec.specs.declared.connection.ConnectionState.{ConnectionState}
 use Rattle.h2_page.proofs.items.take_why.Goals as goal
 
 pub returns-in-Ok-Some : goal.returns-in-Ok-Some
@@ -13,7 +14,7 @@ returns-in-Ok-Some g c =
       comes = first.comes;
       state = event-state _ _ _ first.event _ first.comes;
       after = c.take_and_report.ensures.ready;
-      ended = c.is_some.ensures ∙ ap is_some c.ended.ensures ∙ some-mapped _ _;
+      phase = ap (λ (k : ConnectionState). k.phase) c.counts.ensures;
       cause = told.0;
       ignored = told.1;
     }
