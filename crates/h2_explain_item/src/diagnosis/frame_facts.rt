@@ -101,10 +101,8 @@ fn defined_flags(head: Head) -> u8
         FrameType::Settings | FrameType::Ping => flag_in(head, ACK),
         FrameType::PushPromise => flag_in(head, END_HEADERS) + flag_in(head, PADDED),
         FrameType::Continuation => flag_in(head, END_HEADERS),
-        FrameType::Priority
-        | FrameType::RstStream
-        | FrameType::Goaway
-        | FrameType::WindowUpdate => 0,
+        FrameType::Priority | FrameType::RstStream | FrameType::Goaway | FrameType::WindowUpdate =>
+            0,
         FrameType::Unknown(_) => head.flags,
     }
 }
