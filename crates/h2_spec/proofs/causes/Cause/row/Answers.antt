@@ -6,7 +6,7 @@ use Rattle.h2_spec.proofs.causes.Cause.row.Goals as goal
 pub returns : goal.returns
 returns c =
     let place = c.place_of-place.result in
-    row-whole _ (row_of c.args.self)
+    row-whole (record { name = c.text_at.result; section = c.text_at-2.result; client_section = c.text_at-3.result; sentence = c.text_at-4.result; duties = c.duties_at.result }) (row_of c.args.self)
     (c.text_at.ensures _ (at_place all_causes (λ it. (row_of it).name) _ place c.args.self c.names.ensures c.place_of-place.ensures))
     (c.text_at-2.ensures _ (at_place all_causes (λ it. (row_of it).section) _ place c.args.self c.sections.ensures c.place_of-place.ensures))
     (c.text_at-3.ensures _ (at_place all_causes (λ it. (row_of it).client_section) _ place c.args.self c.client_sections.ensures c.place_of-place.ensures))
