@@ -254,7 +254,7 @@ def page(results, seen, kinds, dialogues):
         places[file] = places.get(file, 0) + 1
         named[dialogue.title] = f"{file} {places[file]}"
     yield from ["", "## Found", "", "`blocks 2` is the second dialogue of dialogues/blocks.h2; [All](#all) has its title, [Octets](#octets) what the client got. Go's first stream is 3",
-                "where 1 is written. *Takes it*: it answers the PING behind the octets, and its user gets the response as if nothing had been."]
+                "where 1 is written. *Takes it*: it answers the PING after the octets, and its user gets the response as if nothing had been."]
     for name, result in results.items():
         rows = [row for row in result["dialogues"] if (name, row["title"]) in seen and kinds[name, row["title"]] in ("broken", "user", "silent")]
         by_sentence = {}
