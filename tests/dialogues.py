@@ -679,7 +679,9 @@ def verdicts(dialogue, connections, status):
     if ended == "ended by the server":
         # Its error ends the dialogue: the script may have granted what the words of ;@ do not.
         return [Verdict("broken", dialogue.line, "a client that the server goes on with", f"{ended}: {connection.cause}"), *statuses]
-    found = [*verdicts_of_steps(dialogue, connection, status not in (None, "killed", 0)), *statuses]
+    # A command that waits until this runner ends the connection fails too late.
+    fails = status not in (None, "killed", 0) and ended == "closed"
+    found = [*verdicts_of_steps(dialogue, connection, fails), *statuses]
     if ended not in ("closed", "silent"):
         found.insert(0, Verdict("broken", dialogue.line, "frames of a client, and their end", ended))
     if ended == "silent" and any(frame.kind == GOAWAY and number_at(frame.payload, 4) for frame in of_client(connection.log)):

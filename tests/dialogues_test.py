@@ -349,6 +349,13 @@ def test_raw():
         expect(got and (got[0].kind, got[0].found) == (kind, wanted), f"{octets[24:60]} {then}: {got}")
 
 
+def test_waiting():
+    """A client that answers the PING and then waits, until the runner ends the connection: its command fails too late."""
+    octets = ASKS + octets_of(Frame(PING, ACK, 0, PROBE))
+    got = found(read(STREAM), octets, "waits", 1, options(patience=0.3), Raw)
+    expect([(one.kind, one.found) for one in got] == [("broken", "goes on")], f"a client that waits: {got}")
+
+
 def test_limits():
     for times, wanted in ((0, "2 SETTINGS frames are not acknowledged"), (2, "SETTINGS ACK without SETTINGS")):
         got = found(read(LAWFUL.replace(";< SETTINGS 01 0 -\n", "")), "get", obeys, 0, acknowledgements=times)
@@ -441,6 +448,7 @@ def main():
     test_command()
     test_reactions()
     test_raw()
+    test_waiting()
     test_limits()
     test_reset()
     test_all([(name, dialogue) for name, _, dialogues in all_files for dialogue in dialogues])

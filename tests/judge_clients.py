@@ -198,7 +198,7 @@ def octets_of(dialogue):
     frames = []
     for step in dialogue.steps:
         octets = [runner.octets_of(frame).hex() for frame in step.frames]
-        frames += [text if len(text) <= 64 else text[:40] + ".." for text in octets]
+        frames += [text if len(text) <= 48 else text[:32] + ".." for text in octets]
         if step.wanted:
             break
     return " ".join(frames[:4]) + (" .." if len(frames) > 4 else "")
@@ -207,6 +207,15 @@ def octets_of(dialogue):
 def short(title):
     """A title without the number of the RFC that most are of."""
     return title.replace("(RFC 9113, ", "(").replace("; RFC 9113, 6.7,", "; 6.7").replace("(RFC ", "(").replace("; RFC ", "; ")
+
+
+def together(places):
+    """Places `FILE N`, those of one file together: `blocks 2, 4; frames 1`."""
+    numbers = {}
+    for place in places:
+        file, number = place.rsplit(" ", 1)
+        numbers.setdefault(file, []).append(number)
+    return "; ".join(f"{file} {', '.join(found)}" for file, found in numbers.items())
 
 
 def wanted_of(dialogue):
@@ -254,7 +263,7 @@ def page(results, seen, kinds, dialogues):
         places[file] = places.get(file, 0) + 1
         named[dialogue.title] = f"{file} {places[file]}"
     yield from ["", "## Found", "", "`blocks 2` is the second dialogue of dialogues/blocks.h2; [All](#all) has its title, [Octets](#octets) what the client got. Go's first stream is 3",
-                "where 1 is written. *Takes it*: it answers the PING behind the octets, and its user gets the response as if nothing had been."]
+                "where 1 is written. *Takes it*: it answers the PING after the octets, and its user gets the response as if nothing had been."]
     for name, result in results.items():
         rows = [row for row in result["dialogues"] if (name, row["title"]) in seen and kinds[name, row["title"]] in ("broken", "user", "silent")]
         by_sentence = {}
@@ -262,18 +271,18 @@ def page(results, seen, kinds, dialogues):
             by_sentence.setdefault((kinds[name, row["title"]], seen[name, row["title"]]), []).append(named[row["title"]])
         lingers = [named[row["title"]] for row in result["dialogues"] if row["kind"] == "lingers"]
         if lingers and (name, "lingers") in seen:
-            by_sentence["lingers", seen[name, "lingers"]] = [f"{len(lingers)} dialogues"]
+            by_sentence["lingers", seen[name, "lingers"]] = lingers
         yield from ["", f"### {name}", ""] * bool(by_sentence)
-        yield from [f"- `{signs[kind]}` {', '.join(places)}: {sentence}." for (kind, sentence), places in by_sentence.items()]
+        yield from [f"- `{signs[kind]}` {together(found)}: {sentence}." for (kind, sentence), found in by_sentence.items()]
     yield from ["", "## All", "", "Wanted: `-` it goes on, `C` a connection error, `S1` an error of stream 1; all MUST where no other word is there. `ok`, `fails`: what its user has to see.", "",
                 "| | Dialogue | Wanted | " + " | ".join(names) + " |", "|---|---|---|" + "---|" * len(names)]
     for _, _, dialogue in dialogues:
         row = "|".join(signs[kinds[name, dialogue.title]] for name in names)
-        yield f"| {named[dialogue.title]} | {short(dialogue.title)} | {wanted_of(dialogue)} |{row}|"
+        yield f"|{named[dialogue.title]}|{short(dialogue.title)}|{wanted_of(dialogue)}|{row}|"
     yield from ["", "## Octets", "", "The frames to the client of each dialogue that one failed.", "", "| | Octets |", "|---|---|"]
     for _, _, dialogue in dialogues:
         if any(kinds[name, dialogue.title] in ("broken", "user", "silent", "unseen") for name in names):
-            yield f"| {named[dialogue.title]} | `{octets_of(dialogue)}` |"
+            yield f"|{named[dialogue.title]}|`{octets_of(dialogue)}`|"
 
 
 def main(word="", *more):
