@@ -18,16 +18,15 @@ use Rattle.h2_serve.specs.declared.fault.ServeFault.TheVariants.{NoMemory, BadCo
 use Rattle.h2_cmd_run.specs.ProgramEnd.{EndsInLine, EndsShown, IsReported}
 
 -- a fault ended it and its line was printed, or the output failed
-ends-refused : (IsBook : List Entry → Type 0) (form : Form) (config : Config) (port count : ℕ) (before after : Option (List ℕ)) (log log' : Option (List Event)) (status : ℕ)
-    → (status ≡ 1) ⊎ (status ≡ 3) → (status ≡ 1 → EndsInLine before after) → EndsShown IsBook form config port count before after log log' status
-ends-refused IsBook form config port count before after log log' status (inl one) line = inl (one, line one)
-ends-refused IsBook form config port count before after log log' status (inr three) line = inr (inl three)
+ended-in : (Shown : Type 0) (before after : Option (List ℕ)) (status : ℕ) → (status ≡ 1) ⊎ (status ≡ 3) → (status ≡ 1 → EndsInLine before after)
+    → ((status ≡ 1) × EndsInLine before after) ⊎ ((status ≡ 3) ⊎ Shown)
+ended-in Shown before after status (inl one) line = inl (one, line one)
+ended-in Shown before after status (inr three) line = inr (inl three)
 
 -- before the port is listened on
-pub refused-shown : (IsBook : List Entry → Type 0) (form : Form) (config : Config) (port count fault : ℕ) (before after : Option (List ℕ)) (log log' : Option (List Event)) (status : ℕ)
-    → (status ≡ 1) ⊎ (status ≡ 3) → (status ≡ 1 → Gains before after (fault_line fault)) → EndsShown IsBook form config port count before after log log' status
-refused-shown IsBook form config port count fault before after log log' status is line =
-    ends-refused IsBook form config port count before after log log' status is (λ one. ([], fault, line one))
+pub refused-shown : (Shown : Type 0) (fault : ℕ) (before after : Option (List ℕ)) (status : ℕ) → (status ≡ 1) ⊎ (status ≡ 3)
+    → (status ≡ 1 → Gains before after (fault_line fault)) → ((status ≡ 1) × EndsInLine before after) ⊎ ((status ≡ 3) ⊎ Shown)
+refused-shown Shown fault before after status is line = ended-in Shown before after status is (λ one. ([], fault, line one))
 
 -- the line of a fault, after what was printed before
 line-last : (fault : ℕ) (before now after : Option (List ℕ)) → Grew before now → Gains now after (fault_line fault) → EndsInLine before after
@@ -60,4 +59,4 @@ ends-shown IsBook form asked strict book config port count before now after log 
       ),
     ))
 ends-shown IsBook form asked strict book config port count before now after log log' status (Err fault) same is_strict is shows says refused grew line =
-    ends-refused IsBook asked config port count before after log log' status refused (λ one. reported-last fault before now after grew (line one))
+    ended-in _ before after status refused (λ one. reported-last fault before now after grew (line one))

@@ -13,10 +13,10 @@ pub returns-in_default-clause-refused : goal.returns-in_default-clause-refused
 returns-in_default-clause-refused g c = λ quiet one. ends-at-once _ _ _ _ _ (c.refuse-in_default.ensures.line one)
 
 pub returns-in-Err-clause-shown : goal.returns-in-Err-clause-shown
-returns-in-Err-clause-shown g c = λ explained. refused-shown _ _ _ _ _ _ _ _ _ _ _ c.refuse.ensures.status c.refuse.ensures.line
+returns-in-Err-clause-shown g c = λ explained. refused-shown _ _ _ _ _ c.refuse.ensures.status c.refuse.ensures.line
 
 pub returns-in_default-clause-shown : goal.returns-in_default-clause-shown
-returns-in_default-clause-shown g c = λ explained. refused-shown _ _ _ _ _ _ _ _ _ _ _ c.refuse-in_default.ensures.status c.refuse-in_default.ensures.line
+returns-in_default-clause-shown g c = λ explained. refused-shown _ _ _ _ _ c.refuse-in_default.ensures.status c.refuse-in_default.ensures.line
 
 pub returns-clause-refused : goal.returns-clause-refused
 returns-clause-refused g c = λ quiet one.
