@@ -40,6 +40,7 @@ fn push_number(number: u64, out: &mut String) -> Result<(), AllocError>
 }
 
 /// The summary of a frame, up to its sum.
+#[tactic(auto, unfolding(crate::specs::Frames::summary_front))]
 fn summary_front(alloc: Global, frame: FrameRef<'_>) -> Result<String, AllocError>
     ensures { IfOk result (λ text. string_bytes text ≡ summary_front frame.head frame.payload.now) }
 {
@@ -71,6 +72,7 @@ fn is_summary(alloc: Global, line: &[u8], frame: FrameRef<'_>) -> Result<bool, A
 /// How many octets the frame has that octets begin with, if a line is its summary.
 ///
 /// `AllocError` where memory is refused.
+#[tactic(auto, unfolding(crate::specs::Frames::summed))]
 pub fn summed(alloc: Global, line: &[u8], octets: &[u8]) -> Result<Option<usize>, AllocError>
     ensures value { IfOk result (λ count. count ≡ summed line.now octets.now) }
     ensures within { IfOk result (λ count. IfSome count (λ n. n ≤ length octets.now)) }
@@ -114,6 +116,7 @@ fn push_short(
 /// Appends a line that `dis` writes, or the summary of the DATA that it says, where that has more than 100 octets.
 ///
 /// `AllocError` where memory is refused; some of it may have been added.
+#[tactic(auto, unfolding(crate::specs::Frames::short_line))]
 pub fn push_short_line(alloc: Global, line: &[u8], out: &mut Vec<u8>) -> Result<(), AllocError>
     ensures { OnOk result (out.new.items ≡ out.old.items ++ short_line line.now) }
 {
@@ -150,6 +153,7 @@ fn push_told_lines(alloc: Global, lines: &[&[u8]], out: &mut Vec<u8>) -> Result<
 /// Appends a line `;<` for each frame of octets that were sent, as `dis` writes it; DATA of more than 100 octets as its summary.
 ///
 /// `AllocError` where memory is refused; some may have been added.
+#[tactic(auto, unfolding(crate::specs::Frames::told_lines))]
 pub fn push_told(alloc: Global, octets: &[u8], out: &mut Vec<u8>) -> Result<(), AllocError>
     ensures { OnOk result (out.new.items ≡ out.old.items ++ told_lines octets.now) }
 {
