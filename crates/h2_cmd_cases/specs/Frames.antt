@@ -26,7 +26,7 @@ octets_at line = octets_in (statement_at line)
 -- ---- DATA by the length and the sum of its payload
 
 -- what precedes the sum
-abbrev pub summary_front : Head → List ℕ → List ℕ
+unfoldable pub summary_front : Head → List ℕ → List ℕ
 summary_front head payload =
     (((((codes "DATA " ++ encode_lower (head.flags ∷ [])) ++ codes " ") ++ decimal head.stream) ++ codes " length ") ++ decimal (length payload)) ++ codes " sha256 "
 
@@ -57,7 +57,7 @@ summed_by line None = None
 summed_by line (Some f) = if is_summary line f.head f.payload then Some (9 + length f.payload) else None
 
 -- how many octets the frame has that octets begin with, if a line is its summary
-abbrev pub summed : List ℕ → List ℕ → Option ℕ
+unfoldable pub summed : List ℕ → List ℕ → Option ℕ
 summed line octets = summed_by line (first_frame octets)
 
 -- ---- the lines of octets that were sent
@@ -75,7 +75,7 @@ short_of_octets line None = line
 short_of_octets line (Some octets) = short_of_frame line (first_frame octets)
 
 -- a line that `dis` writes, or the summary of the DATA that it says
-abbrev pub short_line : List ℕ → List ℕ
+unfoldable pub short_line : List ℕ → List ℕ
 short_line line = short_of_octets line (octets_at line)
 
 -- it after the mark; none for the end of a text
@@ -84,5 +84,5 @@ told_line [] = []
 told_line (c ∷ cs) = codes ";< " ++ (short_line (c ∷ cs) ++ codes "\n")
 
 -- one for each frame of octets
-abbrev pub told_lines : List ℕ → List ℕ
+unfoldable pub told_lines : List ℕ → List ℕ
 told_lines octets = flat_map told_line (lines_of (written octets))

@@ -1,9 +1,9 @@
 //! What a line `;<` says of a frame that is sent: DATA of many octets by the length of its payload and the SHA-256 of that, so
 //! that a case of a large answer is short. Definitions: `specs/Frames.antt`.
 
-ghost use Rattle.std.specs.Prelude.{◌≡◌, ◌++◌, ◌≤◌, decimal, flat_map, length, map, IfOk, IfSome, OnOk};
+ghost use Rattle.std.specs.Prelude.{◌≡◌, ◌++◌, ◌≤◌, decimal, flat_map, length, map, if◌then◌else◌, IfOk, IfSome, OnOk};
 ghost use Rattle.std.specs.String.{string_bytes};
-ghost use Rattle.h2_cmd_cases.specs.Frames.{has_summary, is_summary, short_line, short_of_frame, sum_text, summary_front, summary_text, summed, told_line, told_lines};
+ghost use Rattle.h2_cmd_cases.specs.Frames.{has_summary, is_long, is_summary, short_line, short_of_frame, sum_text, summary_front, summary_text, summed, told_line, told_lines};
 ghost use Rattle.h2_explain_words.specs.Sent.{first_frame};
 
 use crate::cases::lines_in;
@@ -40,6 +40,7 @@ fn push_number(number: u64, out: &mut String) -> Result<(), AllocError>
 }
 
 /// The summary of a frame, up to its sum.
+#[tactic(auto, unfolding(crate::specs::Frames::summary_front))]
 fn summary_front(alloc: Global, frame: FrameRef<'_>) -> Result<String, AllocError>
     ensures { IfOk result (λ text. string_bytes text ≡ summary_front frame.head frame.payload.now) }
 {
@@ -71,6 +72,7 @@ fn is_summary(alloc: Global, line: &[u8], frame: FrameRef<'_>) -> Result<bool, A
 /// How many octets the frame has that octets begin with, if a line is its summary.
 ///
 /// `AllocError` where memory is refused.
+#[tactic(auto, unfolding(crate::specs::Frames::summed))]
 pub fn summed(alloc: Global, line: &[u8], octets: &[u8]) -> Result<Option<usize>, AllocError>
     ensures value { IfOk result (λ count. count ≡ summed line.now octets.now) }
     ensures within { IfOk result (λ count. IfSome count (λ n. n ≤ length octets.now)) }
@@ -94,6 +96,21 @@ fn push_summary(alloc: Global, frame: FrameRef<'_>, out: &mut Vec<u8>) -> Result
     out.extend_from_slice(sum.as_str().as_bytes())
 }
 
+/// Appends a line, or the summary of its frame, where that is long DATA.
+fn push_line_of(
+    alloc: Global,
+    line: &[u8],
+    frame: FrameRef<'_>,
+    out: &mut Vec<u8>,
+) -> Result<(), AllocError>
+    ensures { OnOk result (out.new.items ≡ out.old.items ++ (if is_long frame.head frame.payload.now then summary_text frame.head frame.payload.now else line.now)) }
+{
+    if has_summary(&frame.head) && frame.payload.len() > IN_FULL {
+        return push_summary(alloc, frame, out);
+    }
+    out.extend_from_slice(line)
+}
+
 /// Appends a line, or the summary of the frame that its octets begin with, where that is long DATA.
 fn push_short(
     alloc: Global,
@@ -104,16 +121,15 @@ fn push_short(
     ensures { OnOk result (out.new.items ≡ out.old.items ++ short_of_frame line.now (first_frame octets.now)) }
 {
     match next_frame(octets) {
-        Some((frame, _)) if has_summary(&frame.head) && frame.payload.len() > IN_FULL => {
-            push_summary(alloc, frame, out)
-        }
-        _ => out.extend_from_slice(line),
+        Some((frame, _)) => push_line_of(alloc, line, frame, out),
+        None => out.extend_from_slice(line),
     }
 }
 
 /// Appends a line that `dis` writes, or the summary of the DATA that it says, where that has more than 100 octets.
 ///
 /// `AllocError` where memory is refused; some of it may have been added.
+#[tactic(auto, unfolding(crate::specs::Frames::short_line))]
 pub fn push_short_line(alloc: Global, line: &[u8], out: &mut Vec<u8>) -> Result<(), AllocError>
     ensures { OnOk result (out.new.items ≡ out.old.items ++ short_line line.now) }
 {
@@ -150,6 +166,7 @@ fn push_told_lines(alloc: Global, lines: &[&[u8]], out: &mut Vec<u8>) -> Result<
 /// Appends a line `;<` for each frame of octets that were sent, as `dis` writes it; DATA of more than 100 octets as its summary.
 ///
 /// `AllocError` where memory is refused; some may have been added.
+#[tactic(auto, unfolding(crate::specs::Frames::told_lines))]
 pub fn push_told(alloc: Global, octets: &[u8], out: &mut Vec<u8>) -> Result<(), AllocError>
     ensures { OnOk result (out.new.items ≡ out.old.items ++ told_lines octets.now) }
 {

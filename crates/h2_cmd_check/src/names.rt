@@ -131,5 +131,7 @@ pub(crate) fn is_cause(word: &[u8]) -> bool
 pub(crate) fn is_reason(word: &[u8]) -> bool
     ensures { result ≡ list_any (λ r. bytes_eq word.now (ignored_name r)) all_reasons }
 {
-    reasons().iter().any(|reason| word == reason.name().as_bytes())
+    reasons()
+        .iter()
+        .any(|reason| word == reason.name().as_bytes())
 }

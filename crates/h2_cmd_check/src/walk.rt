@@ -615,6 +615,25 @@ impl<'t, 'b> Walk<'t, 'b> {
         self.refuse(number, text, found)
     }
 
+    /// Says that a line is not the summary of the next frame, which is passed over; or that it is none, and no line of a
+    /// script, of this kind.
+    fn refuse_summary(
+        &mut self,
+        alloc: Global,
+        number: usize,
+        text: &'t [u8],
+        kind: SyntaxKind,
+    ) -> Result<(), AllocError>
+        ensures { OnOk result (Compares None self.old self.new) }
+    {
+        if is_like_summary(text) {
+            let found = first_summary(alloc, self.unspoken());
+            return self.refuse_frame(alloc, number, text, found);
+        }
+        self.pass_frame();
+        self.fault(alloc, number, text, kind_words(kind))
+    }
+
     /// Compares DATA with the next frame that was sent, by its length and its sum. Any other line is no line of a script, of
     /// this kind; it counts as that frame.
     fn compare_summary(
@@ -631,14 +650,7 @@ impl<'t, 'b> Walk<'t, 'b> {
                 self.spoken += count;
                 Ok(())
             }
-            Ok(None) if is_like_summary(text) => {
-                let found = first_summary(alloc, self.unspoken());
-                self.refuse_frame(alloc, number, text, found)
-            }
-            Ok(None) => {
-                self.pass_frame();
-                self.fault(alloc, number, text, kind_words(kind))
-            }
+            Ok(None) => self.refuse_summary(alloc, number, text, kind),
             Err(error) => Err(error),
         }
     }
