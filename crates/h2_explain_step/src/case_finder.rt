@@ -116,7 +116,8 @@ impl<'b, A: Allocator + Copy> CaseFinder<'b, A> {
             before,
             after: moment_at(&self.conn, stream),
         };
-        self.explainer.account(alloc, &self.conn, &item, &mut self.account)?;
+        self.explainer
+            .account(alloc, &self.conn, &item, &mut self.account)?;
         self.items = item.number;
         self.used = self.used.saturating_add(taken.used);
         let (seen, facts) = (seen_of(&item), self.account.facts);

@@ -101,9 +101,7 @@ fn has_unknown_code(part: Part<'_>) -> bool {
 /// Whether DATA has no octet, and does not end the stream.
 fn is_empty_data(item: &Explained<'_>) -> bool {
     match (item.part, item.head()) {
-        (Some(Part::Data(data)), Some(head)) => {
-            data.content.is_empty() && !head.has(END_STREAM)
-        }
+        (Some(Part::Data(data)), Some(head)) => { data.content.is_empty() && !head.has(END_STREAM) }
         _ => false,
     }
 }
