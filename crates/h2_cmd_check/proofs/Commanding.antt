@@ -71,11 +71,11 @@ alike d after (Some Run) text x = (ap is_refusal x.0, x.1)
 alike d after (Some (BreakOn b)) text x = (ap is_refusal x.0, x.1)
 alike d after (Some Clear) text x = (ap is_refusal x.0, x.1)
 alike d after (Some Show) text x = (ap is_refusal x.0, x.1)
-alike d after (Some Why) text (case, of, x) =
+alike d after (Some Why) text x =
     let phase = (at d.run d.position).core.phase in
     let cause = cause_at d.run d.position in
     let ignored = ignored_at d.run d.position in
-    (ap is_refusal x.0 ∙ sym (no_refusal phase cause ignored case) ∙ no_refusal phase cause ignored None, x.1)
+    (ap is_refusal x.1.1.0 ∙ sym (no_refusal phase cause ignored x.0) ∙ no_refusal phase cause ignored None, x.1.1.1)
 
 -- a line was given to a debugger, and memory was not refused
 pub line_given : (d after : Debugging) (text : List ℕ) (command : Option Command) (reply : Reply) (fault : Option ℕ) → command ≡ command_of text → Obeys d command (reply_text after reply) after
