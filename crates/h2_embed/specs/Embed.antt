@@ -1,10 +1,12 @@
 -- What a command over memory gives to a caller, and how the call ended.
-use Rattle.std.specs.Prelude.{◌≡◌, ◌⊎◌, ◌++◌, ◌+◌, ◌<◌, ℕ, Bool, true, false, if◌then◌else◌, List, [], ◌∷◌, length, take, bytes_eq, Option, Some, None}
+use Rattle.std.specs.Prelude.{◌≡◌, ◌⊎◌, ◌+◌, ◌<◌, ℕ, Bool, false, if◌then◌else◌, List, [], ◌∷◌, length, take, bytes_eq, Option, Some, None}
+use Rattle.std.specs.Option.{option_and_then}
 use Rattle.std.specs.Str.{is_utf8}
 use Rattle.h2_spec.specs.Texts.Script.{lines_of}
 use Rattle.h2_spec.specs.declared.connection.Config.{Config}
 use Rattle.h2_cmd_args.specs.Grammar.{BatchAsked, BookAsked, FormAsked, asked_of, batch, check, debug, explain}
 use Rattle.h2_cmd_book_file.specs.Entries.{Directory}
+use Rattle.h2_cmd_cases.specs.Shell.{with_word}
 use Rattle.h2_cmd_batch.specs.Printed.{OrCutShort, Printed, places_within, printed_within}
 use Rattle.h2_cmd_run.specs.CheckProgram.{IsCheck}
 use Rattle.h2_cmd_run.specs.ExplainProgram.{IsExplained, form_of}
@@ -16,10 +18,10 @@ use Rattle.h2_embed.specs.declared.fault.RunFault.TheVariants.{NoMemory, NoRoom,
 
 -- ---- the words and the file
 
--- words with lines after them, if each is UTF-8
+-- words with lines after them, each of which has to be UTF-8
 abbrev pub words_from : List (List ℕ) → List (List ℕ) → Option (List (List ℕ))
 words_from words [] = Some words
-words_from words (line ∷ lines) = if is_utf8 line then words_from (words ++ line ∷ []) lines else None
+words_from words (line ∷ lines) = option_and_then (λ more. words_from more lines) (with_word words line)
 
 -- the words that a text says, a line for each
 abbrev pub words_said : List ℕ → Option (List (List ℕ))

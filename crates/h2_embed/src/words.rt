@@ -1,26 +1,20 @@
 //! The words of a call, a line for each. Definitions: `specs/Embed.antt`.
 
-ghost use Rattle.std.specs.Prelude.{◌≡◌, ◌⊎◌, [], ◌∷◌, Some, None, map, IfOk, IfErr, OnOk};
-ghost use Rattle.h2_spec.specs.Texts.Script.{lines_of};
+ghost use Rattle.std.specs.Prelude.{◌≡◌, ◌⊎◌, Some, None, map, IfOk, IfErr, OnOk};
+ghost use Rattle.h2_cmd_cases.specs.Shell.{with_word};
 ghost use Rattle.h2_embed.specs.Embed.{words_from, words_said};
 ghost use Rattle.h2_embed.specs.declared.fault.RunFault.TheVariants.{NoMemory};
 
 use crate::fault::RunFault;
 use h2_cmd_args::Words;
-use std::alloc::{AllocError, Global};
+use h2_cmd_cases::lines_in;
+use std::alloc::Global;
 use std::str;
-
-/// The lines of a text, between its line feeds.
-fn lines_in(alloc: Global, text: &[u8]) -> Result<Vec<&[u8]>, AllocError>
-    ensures { IfOk result (λ lines. map (λ l. l.now) lines.items ≡ lines_of text.now) }
-{
-    text.split(|octet| *octet == b'\n').collect(alloc)
-}
 
 /// Puts a line last among the words.
 fn add_line(words: &mut Words, line: &[u8]) -> Result<(), RunFault>
-    ensures ok { OnOk result (words_from words.old (line.now ∷ []) ≡ Some words.new) }
-    ensures err { IfErr result (λ fault. (fault ≡ NoMemory) ⊎ (words_from words.old (line.now ∷ []) ≡ None)) }
+    ensures ok { OnOk result (with_word words.old line.now ≡ Some words.new) }
+    ensures err { IfErr result (λ fault. (fault ≡ NoMemory) ⊎ (with_word words.old line.now ≡ None)) }
 {
     match str::from_utf8(line) {
         Ok(word) => match words.add(word) {
