@@ -357,6 +357,6 @@ def explain(octets: bytes, answers: Iterable[str] = (), *options: str) -> str:
     return _printed(["explain", *options, "--", *answers], bytes(octets).hex().encode()).decode()
 
 
-def check(case: str, answers: Iterable[str] = (), name: str = "case.h2") -> str:
-    """The results of the cases of a text as TAP (docs/CASES.md); `name` is what its file is called there."""
-    return _printed(["check", *answers, name], b"", name, case.encode("utf-8", "surrogatepass")).decode()
+def check(case: str, name: str = "case.h2") -> str:
+    """The results of the cases of a text as TAP (docs/CASES.md); `name` is what its file is called there. Their lines `;@` have limits and answers."""
+    return _printed(["check", name], b"", name, case.encode("utf-8", "surrogatepass")).decode()
