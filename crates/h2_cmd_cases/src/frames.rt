@@ -42,7 +42,7 @@ fn push_number(number: u64, out: &mut String) -> Result<(), AllocError>
 /// The summary of a frame, up to its sum.
 #[tactic(auto, unfolding(crate::specs::Frames::summary_front))]
 fn summary_front(alloc: Global, frame: FrameRef<'_>) -> Result<String, AllocError>
-    ensures { IfOk result (λ text. string_bytes text ≡ summary_front frame.head frame.payload.now) }
+    ensures { IfOk result (λ text. string_bytes text ≡ summary_front frame.entry.head frame.entry.payload.now) }
 {
     let flags = hex::encode(alloc, [frame.head.flags])?;
     let mut out = String::from_str(alloc, "DATA ")?;
@@ -57,7 +57,7 @@ fn summary_front(alloc: Global, frame: FrameRef<'_>) -> Result<String, AllocErro
 
 /// Whether a line is the summary of a frame.
 fn is_summary(alloc: Global, line: &[u8], frame: FrameRef<'_>) -> Result<bool, AllocError>
-    ensures { IfOk result (λ is. is ≡ is_summary line.now frame.head frame.payload.now) }
+    ensures { IfOk result (λ is. is ≡ is_summary line.now frame.entry.head frame.entry.payload.now) }
 {
     if !has_summary(&frame.head) {
         return Ok(false);
@@ -88,7 +88,7 @@ pub fn summed(alloc: Global, line: &[u8], octets: &[u8]) -> Result<Option<usize>
 
 /// Appends the summary of a frame.
 fn push_summary(alloc: Global, frame: FrameRef<'_>, out: &mut Vec<u8>) -> Result<(), AllocError>
-    ensures { OnOk result (out.new.items ≡ out.old.items ++ summary_text frame.head frame.payload.now) }
+    ensures { OnOk result (out.new.items ≡ out.old.items ++ summary_text frame.entry.head frame.entry.payload.now) }
 {
     let front = summary_front(alloc, frame)?;
     let sum = sum_text(alloc, frame.payload)?;
@@ -103,7 +103,7 @@ fn push_line_of(
     frame: FrameRef<'_>,
     out: &mut Vec<u8>,
 ) -> Result<(), AllocError>
-    ensures { OnOk result (out.new.items ≡ out.old.items ++ (if is_long frame.head frame.payload.now then summary_text frame.head frame.payload.now else line.now)) }
+    ensures { OnOk result (out.new.items ≡ out.old.items ++ (if is_long frame.entry.head frame.entry.payload.now then summary_text frame.entry.head frame.entry.payload.now else line.now)) }
 {
     if has_summary(&frame.head) && frame.payload.len() > IN_FULL {
         return push_summary(alloc, frame, out);
