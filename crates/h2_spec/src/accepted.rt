@@ -3,7 +3,7 @@
 
 ghost use Rattle.std.specs.Prelude.{◌≡◌, map, slice_get, Some};
 ghost use Rattle.h2_spec.specs.Causes.AcceptedWords.{accepted_row, all_accepted};
-ghost use Rattle.h2_spec.specs.Causes.Rules.{duties_of, row_shown, text_of};
+ghost use Rattle.h2_spec.specs.Causes.Rules.{duties_of, text_of};
 
 use crate::rules::{Duties, Row, column, duties_at, text_at};
 
@@ -233,7 +233,11 @@ impl Accepted {
 
     /// Its row of the table of rules.
     pub fn row(self) -> Row
-        ensures { row_shown result ≡ accepted_row self }
+        ensures name { result.name.now ≡ (accepted_row self).name }
+        ensures section { result.section.now ≡ (accepted_row self).section }
+        ensures client_section { result.client_section.now ≡ (accepted_row self).client_section }
+        ensures sentence { result.sentence.now ≡ (accepted_row self).sentence }
+        ensures duties { result.duties ≡ duties_of (accepted_row self) }
     {
         let place = place_of(self);
         Row {

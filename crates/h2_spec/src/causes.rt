@@ -4,7 +4,7 @@
 ghost use Rattle.std.specs.Prelude.{◌≡◌, map, slice_get, Some};
 ghost use Rattle.h2_spec.specs.Causes.Cause.{code_of};
 ghost use Rattle.h2_spec.specs.Causes.CauseWords.{all_causes, row_of};
-ghost use Rattle.h2_spec.specs.Causes.Rules.{duties_of, row_shown, text_of};
+ghost use Rattle.h2_spec.specs.Causes.Rules.{duties_of, text_of};
 
 use crate::errors::ErrorCode;
 use crate::rules::{Duties, Row, column, duties_at, text_at};
@@ -471,7 +471,11 @@ impl Cause {
 
     /// Its row of the table of rules.
     pub fn row(self) -> Row
-        ensures { row_shown result ≡ row_of self }
+        ensures name { result.name.now ≡ (row_of self).name }
+        ensures section { result.section.now ≡ (row_of self).section }
+        ensures client_section { result.client_section.now ≡ (row_of self).client_section }
+        ensures sentence { result.sentence.now ≡ (row_of self).sentence }
+        ensures duties { result.duties ≡ duties_of (row_of self) }
     {
         let place = place_of(self);
         Row {

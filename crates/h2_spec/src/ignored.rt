@@ -3,7 +3,7 @@
 
 ghost use Rattle.std.specs.Prelude.{◌≡◌, map, slice_get, Some};
 ghost use Rattle.h2_spec.specs.Causes.IgnoredWords.{all_reasons, reason_row};
-ghost use Rattle.h2_spec.specs.Causes.Rules.{duties_of, row_shown, text_of};
+ghost use Rattle.h2_spec.specs.Causes.Rules.{duties_of, text_of};
 
 use crate::rules::{Duties, Row, column, duties_at, text_at};
 use std::fmt;
@@ -142,7 +142,11 @@ impl Ignored {
 
     /// Its row of the table of rules.
     pub fn row(self) -> Row
-        ensures { row_shown result ≡ reason_row self }
+        ensures name { result.name.now ≡ (reason_row self).name }
+        ensures section { result.section.now ≡ (reason_row self).section }
+        ensures client_section { result.client_section.now ≡ (reason_row self).client_section }
+        ensures sentence { result.sentence.now ≡ (reason_row self).sentence }
+        ensures duties { result.duties ≡ duties_of (reason_row self) }
     {
         let place = place_of(self);
         Row {

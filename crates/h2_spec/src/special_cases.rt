@@ -4,7 +4,7 @@
 
 ghost use Rattle.std.specs.Prelude.{◌≡◌, map, slice_get, Some};
 ghost use Rattle.h2_spec.specs.Causes.SpecialCases.{all_special_cases, special_row};
-ghost use Rattle.h2_spec.specs.Causes.Rules.{duties_of, row_shown, text_of};
+ghost use Rattle.h2_spec.specs.Causes.Rules.{duties_of, text_of};
 
 use crate::rules::{Duties, Row, column, duties_at, text_at};
 
@@ -130,7 +130,11 @@ impl SpecialCase {
 
     /// Its row of the table of rules.
     pub fn row(self) -> Row
-        ensures { row_shown result ≡ special_row self }
+        ensures name { result.name.now ≡ (special_row self).name }
+        ensures section { result.section.now ≡ (special_row self).section }
+        ensures client_section { result.client_section.now ≡ (special_row self).client_section }
+        ensures sentence { result.sentence.now ≡ (special_row self).sentence }
+        ensures duties { result.duties ≡ duties_of (special_row self) }
     {
         let place = place_of(self);
         Row {

@@ -3,7 +3,7 @@
 ghost use Rattle.std.specs.Prelude.{◌≡◌, ◌%◌, ◌==◌};
 ghost use Rattle.h2_explain_item.specs.Item.{head_in};
 ghost use Rattle.h2_explain_item.specs.Special.{case_if, case_of_error, case_of_reason, interrupted_case, is_half_local, is_unknown, is_unknown_frame, lacking_case, length_case, rule_of_cause, rule_of_reason, special_cause, special_reason};
-ghost use Rattle.h2_spec.specs.Causes.Rules.{row_shown};
+ghost use Rattle.h2_spec.specs.Causes.Rules.{duties_of};
 
 use crate::item::Explained;
 use h2_spec::causes::Cause;
@@ -182,7 +182,11 @@ pub fn case_of_reason(item: &Explained<'_>, facts: CaseFacts) -> Option<SpecialC
 
 /// The rule of a cause, or that of its special case.
 pub fn rule_of_cause(cause: Cause, case: Option<SpecialCase>) -> Row
-    ensures { row_shown result ≡ rule_of_cause cause case }
+    ensures name { result.name.now ≡ (rule_of_cause cause case).name }
+    ensures section { result.section.now ≡ (rule_of_cause cause case).section }
+    ensures client_section { result.client_section.now ≡ (rule_of_cause cause case).client_section }
+    ensures sentence { result.sentence.now ≡ (rule_of_cause cause case).sentence }
+    ensures duties { result.duties ≡ duties_of (rule_of_cause cause case) }
 {
     match case {
         Some(case) => case.row(),
@@ -192,7 +196,11 @@ pub fn rule_of_cause(cause: Cause, case: Option<SpecialCase>) -> Row
 
 /// The rule of a reason to ignore a frame, or that of its special case.
 pub fn rule_of_reason(reason: Ignored, case: Option<SpecialCase>) -> Row
-    ensures { row_shown result ≡ rule_of_reason reason case }
+    ensures name { result.name.now ≡ (rule_of_reason reason case).name }
+    ensures section { result.section.now ≡ (rule_of_reason reason case).section }
+    ensures client_section { result.client_section.now ≡ (rule_of_reason reason case).client_section }
+    ensures sentence { result.sentence.now ≡ (rule_of_reason reason case).sentence }
+    ensures duties { result.duties ≡ duties_of (rule_of_reason reason case) }
 {
     match case {
         Some(case) => case.row(),

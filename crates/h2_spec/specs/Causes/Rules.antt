@@ -8,7 +8,6 @@ use Rattle.h2_spec.specs.declared.rules.ClientDuty.TheVariants as client_duty
 use Rattle.h2_spec.specs.declared.rules.ServerDuty.{ServerDuty}
 use Rattle.h2_spec.specs.declared.rules.ServerDuty.TheVariants as server_duty
 use Rattle.h2_spec.specs.declared.rules.Duties.{Duties}
-use Rattle.h2_spec.specs.declared.rules.Row as lent
 
 -- its name, by which documents, examples and outputs call it; the section of the RFC that has the rule; what the client
 -- did, with the section that says so; how far the RFC decides what a server does, and what a server may do; the rule in a
@@ -44,7 +43,3 @@ text_of t = t.now
 -- what a row says beside its texts
 abbrev pub duties_of : Row → Duties
 duties_of row = record { client = row.client; server = row.server; conforming = row.conforming }
-
--- a row whose texts are lent
-abbrev pub row_shown : lent.Row → Row
-row_shown row = record { name = row.name.now; section = row.section.now; client = row.duties.client; client_section = row.client_section.now; server = row.duties.server; conforming = row.duties.conforming; sentence = row.sentence.now }
