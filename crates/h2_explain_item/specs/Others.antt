@@ -1,6 +1,6 @@
 -- What other servers may do where this one did something, as far as a reader does not know it from that.
 use Rattle.std.specs.Prelude.{ℕ, Bool, true, false, not, ◌==◌, ◌||◌, ◌&&◌, if◌then◌else◌}
-use Rattle.h2_spec.specs.Causes.Conforming.{is_named}
+use Rattle.h2_spec.specs.Causes.Conforming.{has_code, is_named}
 use Rattle.h2_spec.specs.declared.conforming.Observed.{Observed}
 use Rattle.h2_spec.specs.declared.conforming.Observed.TheVariants.{ConnectionError, StreamError, Close, Answer, Ignore, Accept, Wait, Http1}
 use Rattle.h2_spec.specs.declared.conforming.Reactions.{Reactions}
@@ -65,9 +65,20 @@ is_known Answer other = false
 is_known Wait other = false
 is_known Http1 other = false
 
--- whether a reaction is named among these, and is not known from this server's own
+-- whether a reaction is a connection error with a code that a stream error may have (5.4.1)
+abbrev pub is_implied : Reactions → Observed → Bool
+is_implied these (ConnectionError code) = has_code these.stream code
+is_implied these (StreamError code) = false
+is_implied these Close = false
+is_implied these Answer = false
+is_implied these Ignore = false
+is_implied these Accept = false
+is_implied these Wait = false
+is_implied these Http1 = false
+
+-- whether a reaction is named among these, and is known neither from the others nor from this server's own
 abbrev pub is_listed : Observed → Reactions → Observed → Bool
-is_listed ours these other = is_named these other && not (is_known ours other)
+is_listed ours these other = (is_named these other && not (is_implied these other)) && not (is_known ours other)
 
 -- an error of the connection, which has ended, or of a stream
 abbrev pub error_of : Bool → ℕ → Observed

@@ -11,9 +11,9 @@ use h2_spec::frames::END_STREAM;
 use h2_spec::streams::is_live;
 use std::alloc::Allocator;
 
-/// What can be seen of one item, in their order: all but what no section lets a server refuse, and what is seen of
+/// What can be seen of one item, in their order: all but what no section lets a server refuse, GOAWAY, and what is seen of
 /// several items, by the spelling of an integer, or by a limit that no document has.
-static ALL: [Accepted; 29] = [
+static ALL: [Accepted; 28] = [
     Accepted::UnknownSetting,
     Accepted::SettingTwice,
     Accepted::UndefinedFlags,
@@ -35,7 +35,6 @@ static ALL: [Accepted; 29] = [
     Accepted::TrailersEmpty,
     Accepted::PriorityFlag,
     Accepted::DependsOnItself,
-    Accepted::Goaway,
     Accepted::GoawayOddStream,
     Accepted::RequestAfterGoaway,
     Accepted::UnknownCode,
@@ -128,7 +127,6 @@ fn is_in_frame(accepted: Accepted, item: &Explained<'_>) -> bool {
         (Accepted::DependsOnItself, Some(Part::Headers(_))) => {
             dependency_of(item) == Some(item.before.stream.id)
         }
-        (Accepted::Goaway, Some(Part::Goaway(_, _))) => true,
         (Accepted::UnknownCode, Some(part)) => has_unknown_code(part),
         (Accepted::RequestAfterGoaway, Some(_)) => {
             opens_stream(item) && item.before.counts.goaway.is_some()

@@ -2,7 +2,7 @@
 //! `specs/Others.antt`.
 
 ghost use Rattle.std.specs.Prelude.{◌≡◌};
-ghost use Rattle.h2_explain_item.specs.Others.{error_of, is_error_beside, is_generic, is_known, is_listed};
+ghost use Rattle.h2_explain_item.specs.Others.{error_of, is_error_beside, is_generic, is_implied, is_known, is_listed};
 
 use h2_spec::conforming::{Observed, Reactions};
 
@@ -39,11 +39,21 @@ fn is_known(ours: Observed, other: Observed) -> bool
     }
 }
 
-/// Whether a reaction is named among these, and is not known from this server's own.
+/// Whether a reaction is a connection error with a code that a stream error may have (RFC 9113, 5.4.1).
+fn is_implied(these: Reactions, other: Observed) -> bool
+    ensures { result ≡ is_implied these other }
+{
+    match other {
+        Observed::ConnectionError(code) => these.stream.has(code),
+        _ => false,
+    }
+}
+
+/// Whether a reaction is named among these, and is known neither from the others nor from this server's own.
 pub fn is_listed(ours: Observed, these: Reactions, other: Observed) -> bool
     ensures { result ≡ is_listed ours these other }
 {
-    these.is_named(other) && !is_known(ours, other)
+    these.is_named(other) && !is_implied(these, other) && !is_known(ours, other)
 }
 
 /// The error of an item: of the connection, which has ended, or of a stream.
