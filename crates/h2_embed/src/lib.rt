@@ -10,6 +10,3 @@ mod sentence;
 mod words;
 
 pub use run::h2_bench_run;
-
-#[cfg(test)]
-mod tests;
