@@ -587,7 +587,11 @@ pub fn warnings_of(
     let last = item.after.counts.goaway;
     Warnings {
         request: if opens { request } else { RequestFacts::none() },
-        block: if item.cause.is_none() { block } else { BlockFacts::none() },
+        block: if item.cause.is_none() {
+            block
+        } else {
+            BlockFacts::none()
+        },
         frame: frame_facts(item),
         run,
         after_goaway: opens && goaway.is_some(),
