@@ -6,9 +6,7 @@ ghost use Rattle.h2_explain.specs.Verdicts.{is_answer_unfinished, is_limit, no_t
 
 use h2_conn::{Conn, is_ended};
 use h2_explain_item::diagnosis::special::CaseFacts;
-use h2_explain_item::diagnosis::warning::{
-    Warnings, duty_of_error, duty_of_reason, is_breach,
-};
+use h2_explain_item::diagnosis::warning::{Warnings, duty_of_error, duty_of_reason, is_breach};
 use h2_explain_item::item::Explained;
 use h2_spec::causes::Cause;
 use h2_spec::rules::ClientDuty;

@@ -51,7 +51,7 @@ fn has_not_zero(octets: &[u8]) -> bool
 
 /// Whether padding has an octet that is not 0 (RFC 9113, 6.1).
 fn has_bad_padding(part: Option<Part<'_>>) -> bool
-    ensures { result ≡ has_bad_padding (option_map part_seen part) }
+    ensures { result ≡ has_bad_padding (option_map part_seen part.entry) }
 {
     match part {
         Some(Part::Data(part)) => has_not_zero(part.padding),
@@ -117,21 +117,28 @@ fn has_undefined_flags(head: Option<Head>) -> bool
     }
 }
 
+/// Whether a setting is ENABLE_CONNECT_PROTOCOL above 1 (RFC 8441, 3).
+fn is_bad_connect(number: u16, value: u32) -> bool
+    ensures { result ≡ is_bad_connect (number, value) }
+{
+    number == 8 && value > 1
+}
+
 /// Whether one of the settings is ENABLE_CONNECT_PROTOCOL above 1 (RFC 8441, 3).
 fn has_connect_above_one(settings: SettingsPart<'_>) -> bool
-    ensures { result ≡ list_any is_bad_connect (settings_in settings) }
+    ensures { result ≡ list_any is_bad_connect (settings_in settings.entry) }
 {
     let mut found = false;
     for place in 0..settings.count() {
         let (number, value) = settings.pair_at(place);
-        found |= number == 8 && value > 1;
+        found |= is_bad_connect(number, value);
     }
     found
 }
 
 /// Whether a payload has such a setting.
 fn has_bad_connect(part: Option<Part<'_>>) -> bool
-    ensures { result ≡ has_bad_connect (option_map part_seen part) }
+    ensures { result ≡ has_bad_connect (option_map part_seen part.entry) }
 {
     match part {
         Some(Part::Settings(settings)) => has_connect_above_one(settings),
