@@ -296,7 +296,7 @@ HEADERS 05 1 hi2,i6,i4
 CASE
 : > "$made/input"
 refuse_each lines 'explain of a case' explain "$made/case.h2"
-printf 'step 2\nshow\nback 1\n' > "$made/input"
+printf 'step 2\nshow\ngo 1\n' > "$made/input"
 refuse_each session 'debug over a case' debug --in "$made/case.h2"
 cp examples/get.hex "$made/input"
 refuse_each_served serves_well 'serve' 'GET|/|200|6869'

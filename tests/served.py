@@ -7,6 +7,7 @@ It needs nothing but Python. The last line is `N passed, M failed`; the status i
 """
 
 import errno
+import hashlib
 import json
 import os
 import re
@@ -351,7 +352,8 @@ def a_verdict_is_the_status(program):
             yield [line for line in ended.splitlines() if not line.startswith("connection")], wanted_lines
 
 
-UPLOAD = START + script.octets("SETTINGS 01 0 -") + script.octets('HEADERS 04 1 hi3,i6,i4')
+ACK, POST = script.octets("SETTINGS 01 0 -"), script.octets('HEADERS 04 1 hi3,i6,i4,n1="a"')
+UPLOAD = START + ACK + POST
 EARLY = "warning: sent-before-granted, RFC 9113 6.9"
 
 
@@ -397,6 +399,25 @@ def data_before_its_credit_is_warned_of(program):
             one.sendall(more)
 
         yield told_of_upload(program, words, pads)[0], warned
+
+
+def data_shows_that_settings_were_read(program):
+    """Every client may send 65,535 octets of DATA. One more needs a WINDOW_UPDATE, and SETTINGS came before it: they have to be acknowledged (RFC 9113, 6.5.3). Where
+    the octets end before that, it is a note."""
+    window = b"".join(script.octets("DATA 00 1 x" + length * "61") for length in (16384, 16384, 16384, 16383))
+    last, late = script.octets("DATA 01 1 x61"), "warning: sent-before-acknowledged, RFC 9113 6.5.3"
+
+    def note(at):
+        return f"@{at}  warning: settings-not-acknowledged, RFC 9113 6.5.3"
+
+    def goes_on(one, rest):
+        one.sendall(START + POST + window)
+        read_to(one, script.octets("WINDOW_UPDATE 00 1 w32768"))
+        one.sendall(rest)
+
+    yield told_of_upload(program, (), lambda one: goes_on(one, last)), ([late, note(65629)], "8 items, no error, 2 warnings", 5)
+    yield told_of_upload(program, (), lambda one: goes_on(one, ACK + last)), ([], "9 items, no error, no warning", 0)
+    yield told_of_upload(program, (), lambda one: one.sendall(START + POST + window)), ([note(65619)], "7 items, no error, 1 warning", 0)
 
 
 def an_upload_that_reads_nothing_is_warned_of(program):
@@ -461,6 +482,21 @@ def a_record_is_a_case(program):
             "RAW 0000080600",
         ]
         yield text_of(f"{directory}/connection-2.h2").splitlines(), wanted
+
+
+def a_long_body_is_recorded_by_its_sum(program):
+    """DATA of more than 100 octets is written by the length of its payload and the SHA-256 of that; the case is short, and holds."""
+    with tempfile.TemporaryDirectory() as directory:
+        octets = START + script.octets("HEADERS 05 1 hi2,i6,i4") + script.octets('HEADERS 05 3 hi2,i6,n4="/short"')
+        with Server(program, 1, "--record", directory, "GET|/|200|" + 16484 * "61", "GET|/short|200|" + 100 * "62") as server:
+            server.line()
+            read_all(client(server.port, octets, ends=True))
+            yield server.ended()[1], 0
+        case = f"{directory}/connection-1.h2"
+        data = [line for line in text_of(case).splitlines() if line.startswith(";< DATA")]
+        summary = ";< DATA 00 1 length 16384 sha256 " + hashlib.sha256(16384 * b"a").hexdigest()
+        yield data, [summary, ";< DATA 01 1 x" + 100 * "61", ";< DATA 01 3 x" + 100 * "62"]
+        yield checked(program, case), [f"ok 1 - {case}: connection 1", "1..1"]
 
 
 def a_server_that_is_killed_leaves_a_record(program):
@@ -549,9 +585,11 @@ TESTS = [
     times_are_in_front,
     a_verdict_is_the_status,
     data_before_its_credit_is_warned_of,
+    data_shows_that_settings_were_read,
     an_upload_that_reads_nothing_is_warned_of,
     a_book_is_named_from_the_record,
     a_record_is_a_case,
+    a_long_body_is_recorded_by_its_sum,
     a_server_that_is_killed_leaves_a_record,
     a_full_disk_ends_the_record_only,
     a_directory_that_is_not_there_is_refused,

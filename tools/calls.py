@@ -1,7 +1,8 @@
 #!/usr/bin/env python3
 """Prints, for each public function of a library crate, what it does, the clauses of its contract, and its errors, as the sources have them, as Markdown.
 
-    tools/calls.py [CRATE..]     of these crates, or of all that the program uses
+    tools/calls.py [CRATE..]                of these crates, or of all that the program uses
+    tools/calls.py --without [CRATE..]      instead, how many functions of each have no clause `ensures`, and their lines of code
 """
 
 import glob
@@ -168,14 +169,46 @@ def page(asked):
     return "\n".join(out).replace("\n\n\n", "\n\n") + "\n"
 
 
+def written(path):
+    """The functions of a file that have a body, and those that a trait declares: (the trait, name, whether it has a clause `ensures`, lines of code, or 0)."""
+    lines, trait, declares = read(path).split("\n"), "", False
+    for at, line in enumerate(lines):
+        of_trait = re.match(r"(?:pub )?trait (\w+)|(?:unsafe )?impl\b.*?(\w+)(?:<.*>)? for ", line)
+        if of_trait:
+            trait, declares = of_trait.group(1) or of_trait.group(2), bool(of_trait.group(1))
+        elif re.match(r"impl|unsafe impl|\}", line):
+            trait, declares = "", False
+        found = re.match(r"( *)(?:pub(?:\(\w+\))? )?(?:const )?fn (\w+)", line)
+        if found:
+            end = at if line.endswith("}") else next((k for k in range(at, len(lines)) if lines[k] == found.group(1) + "}"), at)
+            code = [text for text in lines[at : end + 1] if text.strip() and not text.strip().startswith("//")]
+            said = any(word == "ensures" for word, _, _ in clauses(signature(lines, at)))
+            yield trait, found.group(2), said, 0 if declares else len(code)
+
+
+def without(asked):
+    """A line for each crate: functions without a clause, of their own or of their trait."""
+    every = [(name, function) for name, paths in [*crates(), ("h2_program", sources("h2_program"))] for path in paths for function in written(path)]
+    promised = {(trait, name) for _, (trait, name, said, code) in every if said and not code}
+    for crate in asked:
+        bodies = [function for name, function in every if name == crate and function[3]]
+        bare = [code for trait, name, said, code in bodies if not said and (trait, name) not in promised]
+        if bare:
+            print(f"{crate}: {len(bare)} of {len(bodies)} functions, {sum(bare)} lines")
+
+
 def main():
     os.chdir(os.path.join(os.path.dirname(os.path.abspath(__file__)), ".."))
     known = [name for name, _ in crates()]
-    asked = sys.argv[1:] or known
+    bare = sys.argv[1:2] == ["--without"]
+    asked = sys.argv[2 if bare else 1 :] or known
     unknown = [name for name in asked if not os.path.isdir(f"crates/{name}/src")]
     if unknown:
         sys.exit(f"calls.py: there is no crate {unknown[0]}")
-    print(page(asked), end="")
+    if bare:
+        without(asked)
+    else:
+        print(page(asked), end="")
 
 
 main()

@@ -89,7 +89,7 @@ TOPICS = [
     ("what is sent keeps to what is granted", "h2_spec_laws/Grants.antt h2_conn/Granted.antt", "grants_are_kept h2_spec_laws/grants_laws.rt"),
     ("the rows of this page", "Cause.antt Ignored.antt Rules.antt CauseWords.antt IgnoredWords.antt SpecialCases.antt", "Cause h2_spec/causes.rt, Ignored h2_spec/ignored.rt, SpecialCase h2_spec/special_cases.rt, case_of_error h2_explain_item/special.rt"),
     ("what is shown of a state", "View.antt Show.antt", "Shown, view h2_conn_view/view.rt"),
-    ("warnings, what a live stream waits for, the verdict of `--strict`", "h2_explain_item/Warnings.antt h2_explain_text/Waits.antt h2_explain/Verdicts.antt", "warnings_of h2_explain_item/warning.rt, wait_of h2_explain_text/waits.rt, Tally, ClientVerdict h2_explain/verdict.rt"),
+    ("warnings, what a live stream waits for, the verdict of `--strict`", "h2_explain_item/Warnings.antt h2_explain_item/FrameFacts.antt h2_explain_item/RunFacts.antt h2_explain_text/Waits.antt h2_explain/Verdicts.antt", "warnings_of h2_explain_item/warning.rt, frame_facts h2_explain_item/frame_facts.rt, run_facts h2_explain_item/run_facts.rt, wait_of h2_explain_text/waits.rt, Tally, ClientVerdict h2_explain/verdict.rt"),
 ]
 
 
@@ -119,6 +119,17 @@ def duties(row):
     """The cells of a row: what the client broke, the server's duty, the least of it, what others may do, what is open."""
     named = (reactions(row.open_connection, "", ""), reactions("", row.open_stream, "").split(", ")[-1], reactions("", "", row.open_also))
     return f"{CLIENT[row.client]}, {row.client_section} | {SERVER[row.server]} | {LEAST[row.least]} | {reactions(row.connection, row.stream, row.also)} | {', '.join(filter(None, named))}"
+
+
+def warning_rows():
+    """The warnings: (name, section, sentence, whether it is a note)."""
+    source = read("crates/h2_explain_item/src/diagnosis/warning.rt")
+    notes = re.findall(r"one_if\(self\.([\w.]+)\)", re.search(r"fn note_count.*?\n    }\n", source, re.S)[0])
+    are_notes = [field in notes for field in re.findall(r"Warning::\w+ => self\.([\w.]+),", source)]
+    listed = [re.search(rf"static {name}: \[[^;]*; \d+\] = \[(.*?)\n\];", source, re.S)[1] for name in ("NAMES", "SECTIONS", "SENTENCES")]
+    columns = [re.findall(r'"((?:[^"\\]|\\.)*)"', it) for it in listed]
+    assert all(len(it) == len(are_notes) for it in columns) and sum(are_notes) == len(notes), "the columns of warning.rt differ in length"
+    return list(zip(*columns, are_notes))
 
 
 def codes_of():
@@ -243,6 +254,9 @@ def made_page(known, wrong):
     out += [f"| `{row.name}` | {row.said.rstrip('.')} | {row.section} | {duties(row)} |" for row in special]
     out += ["", "## What is accepted", "", "Items without an error for which the RFC says more than that they are lawful.", "", f"| Name | Rule | {head} |", "|---|---|---|---|---|---|---|"]
     out += [f"| `{row.name}` | {row.section}; {row.sentence} | {duties(row)} |" for row in rows_of("accepted")]
+    out += ["", "## Warnings", "", "What `explain` [warns](EXPLAIN.md#warnings) of. A note is no broken rule, so it leaves the verdict of `--strict` as it is.", "",
+            "| Name | Section | Sentence | Is |", "|---|---|---|---|"]
+    out += [f"| `{name}` | {section} | {sentence} | {'a note' if is_note else 'a broken rule'} |" for name, section, sentence, is_note in warning_rows()]
     out += ["", "## Rules without a cause", "", "| Topic | Definitions | Functions and types |", "|---|---|---|"]
     for topic, files, does in TOPICS:
         for file in files.split():
@@ -301,7 +315,7 @@ def faults_of_errors():
 
 # ---- names
 
-FOLDERS = ("crates", "docs", "edits", "examples", "tests", "tools", "bench", "cases", "share", "specs", "proofs", "src", "must-fail", ".ci")
+FOLDERS = ("crates", "docs", "edits", "examples", "tests", "tools", "bench", "cases", "dialogues", "share", "specs", "proofs", "src", "must-fail", ".ci")
 FILE = re.compile(r"(?<![\w./*-])[\w.-]*\w\.(?:rt|antt|sh|py)\b")
 QUOTED = re.compile(r"`([^`\s]+)`")
 LINK = re.compile(r"\]\(([^)\s#]*)(#[^)\s]*)?\)")
@@ -329,7 +343,7 @@ def declares(name, path):
 def sources():
     """Each source file and script, by its name alone."""
     found = {}
-    for pattern in ("crates/*/src/**/*.rt", "crates/*/specs/**/*.antt", "crates/*/proofs/**/*.antt", "tools/*", "tests/*", "tests/*/*", "bench/**/*", "cases/**/*"):
+    for pattern in ("crates/*/src/**/*.rt", "crates/*/specs/**/*.antt", "crates/*/proofs/**/*.antt", "tools/*", "tests/*", "tests/*/*", "bench/**/*", "examples/embed/*", "cases/**/*", "dialogues/*"):
         for path in glob.glob(pattern, recursive=True):
             if os.path.isfile(path):
                 found.setdefault(os.path.basename(path), []).append(path)
@@ -420,7 +434,8 @@ def files_in_comments(known):
 
 def check(made, wrong, known):
     """Shows what is wrong, and counts."""
-    crates = set(re.findall(r"^(\w+)[^:\n]*:", read("crates.txt"), re.M))
+    # The calls of the header begin as the names of crates do.
+    crates = {*re.findall(r"^(\w+)[^:\n]*:", read("crates.txt"), re.M), *CRATE.findall(read("share/h2_bench.h"))}
     wrong += [*faults_of_table(), *faults_of_errors()]
     if not os.path.exists(MADE) or read(MADE) != made:
         wrong.append(f"{MADE} is not what tools/docs.py writes: run it")

@@ -16,6 +16,7 @@ The commands run in a folder that has the repository's files, and the program as
 """
 
 import glob
+import itertools
 import os
 import re
 import shutil
@@ -101,6 +102,8 @@ def printed_at_port(commands):
 
 def outputs_of(block):
     """What each command of a block prints; of `serve` and the commands behind it only where curl is installed."""
+    if not shutil.which("curl"):
+        block = list(itertools.takewhile(lambda pair: "curl " not in pair[0], block))
     at = next((at for at, pair in enumerate(block) if " serve " in pair[0] and pair[0].endswith("&")), len(block))
     outputs = printed_at_port([command for command, _ in block[:at]])[:at]
     if at < len(block) and shutil.which("curl"):

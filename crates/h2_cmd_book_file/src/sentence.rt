@@ -5,7 +5,7 @@ use crate::fault::{BookRefusal, Key};
 use crate::header::{header_in, headers_in};
 use crate::line::{line_of_answer, line_of_key};
 use h2_cmd_messages::{Cut, Say, TextBuilder, field_reason, file_reason};
-use h2_explain_words::say_all;
+use h2_io::say_all;
 use h2_request_book::fault::EntryFault;
 use std::alloc::{AllocError, Allocator, Global};
 use toml::Value;

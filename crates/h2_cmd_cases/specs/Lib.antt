@@ -1,4 +1,5 @@
 pub mod CaseWords
 pub mod Files
+pub mod Frames
 pub mod Lines
 pub mod Shell

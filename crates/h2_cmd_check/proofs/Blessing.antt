@@ -3,10 +3,11 @@ use Rattle.std.proofs.Common.{◌≡◌, ◌∙◌, ◌++◌, ◌==◌, ℕ, nat
 use Rattle.std.proofs.lemmas.List.{append-nil}
 use Rattle.h2_conn.specs.Connection.{Connection}
 use Rattle.h2_spec.specs.declared.causes.Cause.{Cause}
-use Rattle.h2_cmd_check.specs.Blessed.{blessed_at, error_text, filled, filled_line, filled_place, filled_place_script, filled_script, held_place, held_text, kept_line, left_place, left_text, more_say, outcome_text, renewed, renewed_cause, renewed_sent, renewed_sent_place, sent_lines, stays_after, taken_at, told_place, written_line, written_place}
+use Rattle.h2_cmd_check.specs.Blessed.{blessed_at, error_text, filled, filled_line, filled_place, filled_place_script, filled_script, held_place, held_text, kept_line, left_place, left_text, more_say, outcome_text, renewed, renewed_cause, renewed_sent, renewed_sent_place, stays_after, taken_at, told_place, written_line, written_place}
 use Rattle.h2_cmd_check.specs.Cases.{Place, Start, first_place, played, sight_above, sight_at, unspoken}
 use Rattle.h2_cmd_check.specs.Commands.{left_with}
 use Rattle.h2_cmd_check.specs.Frames.{sends, spoken_by}
+use Rattle.h2_cmd_cases.specs.Frames.{told_lines}
 use Rattle.h2_cmd_cases.specs.Lines.{line_said}
 use Rattle.h2_cmd_check.specs.ItemsTaken.{Sight, seen_by}
 use Rattle.h2_cmd_check.specs.Tap.{Gains}
@@ -49,10 +50,11 @@ held start w w' text g g' seen k =
     let sent = sent_is start w seen in
     let said : sends text (left_by w) ≡ sends text (unspoken start (place_of w)) = ap (sends text) left in
     let speaks = k.speaks ∙ ap (λ (b : Bool). cond b true w.speaks) said in
-    let spoken = k.spoken ∙ ap₂ (λ (b : Bool) (t : List ℕ). cond b (spoken_by text (length t) w.spoken) w.spoken) said sent in
-    let there : place_of w' ≡ place w.octets.items (cond (sends text (unspoken start (place_of w))) (spoken_by text (length (sight_at start (place_of w)).sent) w.spoken) w.spoken)
+    let spoken = k.spoken ∙ ap₂ (λ (b : Bool) (t : List ℕ). cond b (spoken_by text (left_by w) (length t) w.spoken) w.spoken) said sent
+    ∙ ap (λ (o : List ℕ). cond (sends text (unspoken start (place_of w))) (spoken_by text o (length (sight_at start (place_of w)).sent) w.spoken) w.spoken) left in
+    let there : place_of w' ≡ place w.octets.items (cond (sends text (unspoken start (place_of w))) (spoken_by text (unspoken start (place_of w)) (length (sight_at start (place_of w)).sent) w.spoken) w.spoken)
     (cond (sends text (unspoken start (place_of w))) true w.speaks) w.debugger = rw (k.octets, spoken, speaks, k.debugger) refl in (
-      there ∙ joined (sends text (unspoken start (place_of w))) w.octets.items (spoken_by text (length (sight_at start (place_of w)).sent) w.spoken) w.spoken w.speaks w.debugger,
+      there ∙ joined (sends text (unspoken start (place_of w))) w.octets.items (spoken_by text (unspoken start (place_of w)) (length (sight_at start (place_of w)).sent) w.spoken) w.spoken w.speaks w.debugger,
       subst (λ (t : List ℕ). Gains (held_text text t) g g') left k.text,
     )
 
@@ -99,7 +101,7 @@ pub taken_is : (start : Start) (w : Walk) (c : Connection) → Walks start w c �
 taken_is start w c is = omega (arith, length-drop w.at w.octets.items, is.within.1, ap (λ (r : List ℕ). length r) is.rest)
 
 outcome_told : (start : Start) (w one two : Walk) (c d : Connection) (g k : Growing) → Walks start w c → Walks start one d
-    → Tells one.speaks (sent_lines (left_by one) ++ error_text (nat_lt w.at one.at) (sight_here one).cause) one two g k
+    → Tells one.speaks (told_lines (left_by one) ++ error_text (nat_lt w.at one.at) (sight_here one).cause) one two g k
     → Writes (outcome_text start (place_of w) (place_of one)) (told_place start (place_of one)) two g k
 outcome_told start w one two c d g k is so t =
     let spoken = t.spoken ∙ ap (λ (o : List ℕ). length o) (sent_is start one so.seen) in
@@ -109,15 +111,15 @@ outcome_told start w one two c d g k is so t =
     let there = sym (taken_is start one d so) in (
       rw (t.octets, spoken, t.speaks, t.debugger) refl,
       subst (λ (x : List ℕ). Gains x g k)
-          (ap (λ (o : List ℕ). sent_lines o ++ error_text (nat_lt w.at one.at) (sight_here one).cause) left
-          ∙ ap₂ (λ (m n : ℕ). sent_lines (unspoken start (place_of one)) ++ error_text (nat_lt m n) (sight_here one).cause) here there
-          ∙ ap (λ (x : Option Cause). sent_lines (unspoken start (place_of one)) ++ error_text (nat_lt (taken_at start (place_of w)) (taken_at start (place_of one))) x) cause)
+          (ap (λ (o : List ℕ). told_lines o ++ error_text (nat_lt w.at one.at) (sight_here one).cause) left
+          ∙ ap₂ (λ (m n : ℕ). told_lines (unspoken start (place_of one)) ++ error_text (nat_lt m n) (sight_here one).cause) here there
+          ∙ ap (λ (x : Option Cause). told_lines (unspoken start (place_of one)) ++ error_text (nat_lt (taken_at start (place_of w)) (taken_at start (place_of one))) x) cause)
           t.text,
     )
 
 pub filled_told : (start : Start) (w one two : Walk) (c d : Connection) (more : List ℕ) (g k : Growing) → (length more == 0) ≡ false → Walks start w c → Walks start one d
     → place_of one ≡ played start (place_of w) (Some more)
-    → Tells one.speaks (sent_lines (left_by one) ++ error_text (nat_lt w.at one.at) (sight_here one).cause) one two g k
+    → Tells one.speaks (told_lines (left_by one) ++ error_text (nat_lt w.at one.at) (sight_here one).cause) one two g k
     → Writes (filled_script start (place_of w) (Some more)) (filled_place_script start (place_of w) (Some more)) two g k
 filled_told start w one two c d [] g k some is so came t = cc
 filled_told start w one two c d (o ∷ os) g k some is so came t =

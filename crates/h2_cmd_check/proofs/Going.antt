@@ -59,7 +59,7 @@ goes_sent start w w' text seen f = record {
   found = f.found ∙ ap (λ (t : List ℕ). w.holds && sends text t) (left_is start w seen);
   place = λ e.
       let here : sends text (left_by w) ≡ true = ap (sends text) (left_is start w seen) ∙ e in
-      let spoken = f.spoken here ∙ ap (λ (t : List ℕ). spoken_by text (length t) w.spoken) (sent_is start w seen) in
+      let spoken = f.spoken here ∙ ap₂ (λ (o t : List ℕ). spoken_by text o (length t) w.spoken) (left_is start w seen) (sent_is start w seen) in
       rw (f.octets, spoken, f.speaks, f.debugger) refl;
 }
 

@@ -11,6 +11,7 @@ use Rattle.h2_spec.specs.declared.causes.Cause.{Cause}
 use Rattle.h2_spec.specs.declared.connection.Config.{Config}
 use Rattle.h2_cmd_check.specs.Cases.{Place, Start, cause_text, first_place, played, sight_at, start_of, unspoken}
 use Rattle.h2_cmd_cases.specs.Files.{is_empty_or_comment}
+use Rattle.h2_cmd_cases.specs.Frames.{told_lines}
 use Rattle.h2_cmd_check.specs.Frames.{is_none, sends, spoken_by}
 use Rattle.h2_cmd_check.specs.ItemTexts.{octets_at, octets_or_none}
 use Rattle.h2_cmd_cases.specs.Lines as line
@@ -92,7 +93,7 @@ abbrev pub held_line : List ℕ → Option (List ℕ) → List ℕ
 held_line text None = codes ";< " ++ kept_line text
 held_line text (Some octets) = sent_lines octets
 
--- any frames, and no frame, are no frame
+-- any frames, no frame, and a summary are no frame of a script
 abbrev pub frame_said : List ℕ → Option (List ℕ)
 frame_said text = if bytes_eq text (codes "...") then None else if bytes_eq text (codes "-") then None else octets_at text
 
@@ -101,13 +102,13 @@ held_text text left = if sends text left then held_line text (frame_said text) e
 
 abbrev pub held_place : Start → Place → List ℕ → Place
 held_place start here text =
-    if sends text (unspoken start here) then record { above = here.above; spoken = spoken_by text (length (sight_at start here).sent) here.spoken; speaks = true; debugging = here.debugging }
+    if sends text (unspoken start here) then record { above = here.above; spoken = spoken_by text (unspoken start here) (length (sight_at start here).sent) here.spoken; speaks = true; debugging = here.debugging }
     else here
 
 -- after the last of them up to the next octets, all that is left is written; where nothing is, and no line says so, that
 -- nothing is sent
 abbrev pub left_text : (speaks : Bool) → List ℕ → List ℕ
-left_text speaks left = if is_none left then (if speaks then [] else codes ";< -\n") else sent_lines left
+left_text speaks left = if is_none left then (if speaks then [] else codes ";< -\n") else told_lines left
 
 abbrev pub left_place : Start → Place → Place
 left_place start here = record { above = here.above; spoken = length (sight_at start here).sent; speaks = true; debugging = here.debugging }
@@ -220,7 +221,7 @@ error_text false cause = []
 -- what is sent, and why the last item is an error, after octets that led from a place to another
 abbrev pub outcome_text : Start → (here there : Place) → List ℕ
 outcome_text start here there =
-    sent_lines (unspoken start there) ++ error_text (nat_lt (taken_at start here) (taken_at start there)) (sight_at start there).cause
+    told_lines (unspoken start there) ++ error_text (nat_lt (taken_at start here) (taken_at start there)) (sight_at start there).cause
 
 abbrev pub filled_script : Start → Place → Option (List ℕ) → List ℕ
 filled_script start here None = []

@@ -146,7 +146,7 @@ behind start here (line.Script text) = played start here (octets_at text)
 behind start here (line.Title text) = here
 behind start here (line.Unspaced text) = here
 behind start here (line.Words text) = here
-behind start here (line.Sent text) = record { above = here.above; spoken = spoken_by text (length (sight_at start here).sent) here.spoken; speaks = true; debugging = here.debugging }
+behind start here (line.Sent text) = record { above = here.above; spoken = spoken_by text (unspoken start here) (length (sight_at start here).sent) here.spoken; speaks = true; debugging = here.debugging }
 behind start here (line.Shown text) = here
 behind start here (line.Cause text) = here
 behind start here (line.Reason text) = here

@@ -1,30 +1,20 @@
 -- The texts of `explain` for the items of a case: those of the octets of all of its lines.
-use Rattle.std.specs.Prelude.{◌≡◌, ℕ, zero, suc, ◌+◌, Bool, true, false, List, [], ◌∷◌, ◌++◌, length, drop, flat_map, slice_index_or, Option, Some, None, Result, Ok, Err}
+use Rattle.std.specs.Prelude.{◌≡◌, ℕ, zero, suc, ◌+◌, Bool, true, false, List, [], ◌∷◌, ◌++◌, length, drop, flat_map, slice_index_or, Option, Some, None}
 use Rattle.std.specs.List.{list_any}
 use Rattle.h2_conn.specs.Connection.{Connection}
 use Rattle.h2_explain_step.specs.Explained.{ExplainsItem}
 use Rattle.h2_explain_step.specs.Explained.{IsTextOf}
 use Rattle.h2_explain_item.specs.declared.item.Explained.{Explained}
 use Rattle.h2_spec.specs.Requests.Answer.{Entry}
-use Rattle.h2_spec.specs.Texts.Assemble.{statement_at}
 use Rattle.h2_spec.specs.Frames.Parse.{Stop}
-use Rattle.h2_spec.specs.Texts.Script.{Statement, octets_of}
 use Rattle.h2_spec.specs.State.{State, opening}
 use Rattle.h2_spec.specs.Trace.{next_event}
 use Rattle.h2_spec.specs.declared.connection.Config.{Config}
-use Rattle.h2_spec.specs.declared.scripts.SyntaxKind.{SyntaxKind}
+pub use Rattle.h2_cmd_cases.specs.Frames.{octets_at}
 use Rattle.h2_cmd_cases.specs.Lines as line
 use Rattle.h2_cmd_cases.specs.Lines.{CaseLine, line_said}
 
 -- ---- the octets of a case
-
-abbrev pub octets_in : Result Statement SyntaxKind → Option (List ℕ)
-octets_in (Ok s) = Some (octets_of s)
-octets_in (Err kind) = None
-
--- the octets of a line of a script, if it is one
-abbrev pub octets_at : List ℕ → Option (List ℕ)
-octets_at line = octets_in (statement_at line)
 
 abbrev pub octets_or_none : Option (List ℕ) → List ℕ
 octets_or_none None = []

@@ -8,7 +8,7 @@ use Rattle.h2_debug.specs.Loaded.{loaded}
 use Rattle.h2_cmd_check.specs.Blessed.{held_line, held_text, kept_line}
 use Rattle.h2_cmd_check.specs.Cases.{Outcome, Place, Start, Skipped, Holds, Fails, behind, holds, sight_above}
 use Rattle.h2_cmd_check.specs.Commands.{answered, debugger_or, is_present, is_refusal, left_with}
-use Rattle.h2_cmd_check.specs.Frames.{frame_length, is_next, is_none, sends, spoken_by}
+use Rattle.h2_cmd_check.specs.Frames.{is_none, octets_next, sends, spoken_by}
 use Rattle.h2_cmd_cases.specs.Lines.{CaseLine}
 use Rattle.h2_cmd_check.specs.ItemsTaken.{Sight, seen_by, sight_by}
 use Rattle.h2_cmd_check.specs.declared.case_debugger.CaseDebugger.TheVariants.{Present}
@@ -106,15 +106,15 @@ pub record Commands (given : Given) (line : List ℕ) (fault : Option ℕ) (w w'
   pub debugger : w'.debugger ≡ Present (answered (debugger_for given w) line).after
   pub refused : is_some fault ≡ is_refusal (answered (debugger_for given w) line).text
 
--- the next frame that was sent was compared with one that is wanted
-pub record Compares (wanted : Option (List ℕ)) (w w' : Walk) : Type 0 where
-  pub found : w'.holds ≡ (w.holds && is_next wanted (left_by w))
+-- the next frame that was sent was compared with one that is wanted: it has that many octets, if it is that one
+pub record Compares (next : Option ℕ) (w w' : Walk) : Type 0 where
+  pub found : w'.holds ≡ (w.holds && is_some next)
   pub octets : w'.octets ≡ w.octets
   pub at : w'.at ≡ w.at
   pub seen : w'.seen ≡ w.seen
   pub debugger : w'.debugger ≡ w.debugger
   pub speaks : w'.speaks ≡ w.speaks
-  pub spoken : is_next wanted (left_by w) ≡ true → w'.spoken ≡ w.spoken + frame_length wanted
+  pub spoken : is_some next ≡ true → w'.spoken ≡ w.spoken + octets_next next
 
 -- a line has spoken about what was sent
 pub record Speaks (text : List ℕ) (w w' : Walk) : Type 0 where
@@ -124,7 +124,7 @@ pub record Speaks (text : List ℕ) (w w' : Walk) : Type 0 where
   pub seen : w'.seen ≡ w.seen
   pub debugger : w'.debugger ≡ w.debugger
   pub speaks : w'.speaks ≡ true
-  pub spoken : sends text (left_by w) ≡ true → w'.spoken ≡ spoken_by text (length (sent_here w)) w.spoken
+  pub spoken : sends text (left_by w) ≡ true → w'.spoken ≡ spoken_by text (left_by w) (length (sent_here w)) w.spoken
 
 -- the walk has found whether something holds, and if so is at this place
 pub record Goes (b : Bool) (there : Place) (w w' : Walk) : Type 0 where
@@ -152,15 +152,15 @@ pub record Lets (w w' : Walk) : Type 0 where
   pub speaks : w'.speaks ≡ false
   pub spoken : w'.spoken ≡ (if not w.speaks && is_none w.octets.items then length (sent_here w) else w.spoken)
 
--- a line that says that a frame is sent stays, where it is the next one; its line is this
-pub record KeepsFrame (line : List ℕ) (wanted : Option (List ℕ)) (w w' : Walk) (g g' : Growing) : Type 0 where
+-- a line that says that a frame is sent stays, where it is the next one, which has that many octets; its line is this
+pub record KeepsFrame (line : List ℕ) (wanted : Option (List ℕ)) (next : Option ℕ) (w w' : Walk) (g g' : Growing) : Type 0 where
   pub octets : w'.octets ≡ w.octets
   pub at : w'.at ≡ w.at
   pub seen : w'.seen ≡ w.seen
   pub debugger : w'.debugger ≡ w.debugger
-  pub speaks : w'.speaks ≡ (if is_next wanted (left_by w) then true else w.speaks)
-  pub spoken : w'.spoken ≡ (if is_next wanted (left_by w) then w.spoken + frame_length wanted else w.spoken)
-  pub text : Gains (if is_next wanted (left_by w) then held_line line wanted else []) g g'
+  pub speaks : w'.speaks ≡ (if is_some next then true else w.speaks)
+  pub spoken : w'.spoken ≡ (if is_some next then w.spoken + octets_next next else w.spoken)
+  pub text : Gains (if is_some next then held_line line wanted else []) g g'
 
 -- a line that says that no frame is left stays, where none is
 pub record KeepsNone (line : List ℕ) (w w' : Walk) (g g' : Growing) : Type 0 where
@@ -179,7 +179,7 @@ pub record Keeps (line : List ℕ) (w w' : Walk) (g g' : Growing) : Type 0 where
   pub seen : w'.seen ≡ w.seen
   pub debugger : w'.debugger ≡ w.debugger
   pub speaks : w'.speaks ≡ (if sends line (left_by w) then true else w.speaks)
-  pub spoken : w'.spoken ≡ (if sends line (left_by w) then spoken_by line (length (sent_here w)) w.spoken else w.spoken)
+  pub spoken : w'.spoken ≡ (if sends line (left_by w) then spoken_by line (left_by w) (length (sent_here w)) w.spoken else w.spoken)
   pub text : Gains (held_text line (left_by w)) g g'
 
 -- all that was sent is spoken about, and this text was written

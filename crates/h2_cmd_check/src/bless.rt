@@ -1,14 +1,15 @@
 //! A case written anew: what its lines say of frames that are sent, and of errors, is replaced by what the run of its
 //! octets has. All other lines stay, as do those after a command of a debugger, up to the next octets. Definition: `specs/Blessed.antt`.
 
-ghost use Rattle.std.specs.Prelude.{◌≡◌, ◌≤◌, ◌+◌, ◌⊎◌, ◌&&◌, List, [], ◌++◌, true, false, Some, codes, drop, flat_map, if◌then◌else◌, length, map, nat_lt, IfOk, IfErr, OnOk};
+ghost use Rattle.std.specs.Prelude.{◌≡◌, ◌≤◌, ◌+◌, ◌⊎◌, ◌&&◌, List, [], ◌++◌, true, false, None, Some, codes, drop, flat_map, if◌then◌else◌, length, map, nat_lt, IfOk, IfErr, OnOk};
 ghost use Rattle.h2_conn.specs.Connection.{going};
 ghost use Rattle.h2_spec.specs.State.{is_allowed};
 ghost use Rattle.h2_cmd_check.specs.Blessed.{blessed, blessed_at, cause_line, error_text, filled, filled_line, filled_place, filled_place_script, filled_script, have_renewed, is_renewed, kept_line, kept_place, left_text, may_move, more_say, renewed, renewed_cause, renewed_line, renewed_place, renewed_sent, renewed_sent_place, says_sent, sent_line, sent_lines, stays_after, told_place, written_line, written_place};
 ghost use Rattle.h2_spec.specs.Requests.Answer.{Entry};
 ghost use Rattle.h2_spec.specs.declared.connection.Config.{Config};
 ghost use Rattle.h2_cmd_check.specs.Cases.{Start, cause_text, first_place, played, sight_above};
-ghost use Rattle.h2_cmd_check.specs.Frames.{is_none};
+ghost use Rattle.h2_cmd_check.specs.Frames.{is_none, next_of, next_whole};
+ghost use Rattle.h2_cmd_cases.specs.Frames.{summed, told_lines};
 ghost use Rattle.h2_cmd_check.specs.ItemTexts.{octets_at, octets_or_none};
 ghost use Rattle.h2_cmd_cases.specs.Lines.{line_said};
 ghost use Rattle.h2_cmd_check.specs.ItemsTaken.{seen_by};
@@ -19,7 +20,7 @@ ghost use Rattle.h2_cmd_check.specs.declared.fault.CaseFault.TheVariants.{BadCon
 use crate::fault::CaseFault;
 use crate::growing::Growing;
 use crate::walk::{Walk, cause_name};
-use h2_cmd_cases::{Line, line_of, lines_in};
+use h2_cmd_cases::{Line, line_of, lines_in, push_told, summed};
 use h2_conn::{Conn, ConnFault};
 use h2_request_book::book::Book;
 use h2_script::{LineFault, add_line, disassemble};
@@ -163,6 +164,20 @@ fn put_sent(alloc: Global, octets: &[u8], out: &mut Growing) -> Result<(), Alloc
     }
 }
 
+/// Writes a line for each frame of octets that were sent, where long DATA is its summary.
+fn put_told(alloc: Global, octets: &[u8], out: &mut Growing) -> Result<(), AllocError>
+    ensures { OnOk result (Gains (told_lines octets.now) out.old out.new) }
+{
+    let mut lines = Vec::new(alloc);
+    match push_told(alloc, octets, &mut lines) {
+        Ok(()) => {
+            out.put(lines.as_slice());
+            Ok(())
+        }
+        Err(error) => Err(error),
+    }
+}
+
 /// Writes a line that says why an item is an error, or that none is.
 fn put_cause(cause: Option<Cause>, out: &mut Growing)
     ensures { Gains (cause_line (cause_text cause)) out.old out.new }
@@ -261,7 +276,7 @@ impl<'t, 'b> Walk<'t, 'b> {
         wanted: &[u8],
         out: &mut Growing,
     ) -> Result<(), AllocError>
-        ensures { OnOk result (KeepsFrame [] (Some wanted.now) self.old self.new out.old out.new) }
+        ensures { OnOk result (KeepsFrame [] (Some wanted.now) (next_whole wanted.now (left_by self.old)) self.old self.new out.old out.new) }
     {
         if wanted.is_empty() {
             return Ok(());
@@ -274,6 +289,28 @@ impl<'t, 'b> Walk<'t, 'b> {
         Ok(())
     }
 
+    /// A line that is the summary of a frame stays, where that is the next one.
+    fn keep_summary(
+        &mut self,
+        alloc: Global,
+        text: &[u8],
+        out: &mut Growing,
+    ) -> Result<(), AllocError>
+        ensures { OnOk result (KeepsFrame text.now None (summed text.now (left_by self.old)) self.old self.new out.old out.new) }
+    {
+        match summed(alloc, text, self.unspoken()) {
+            Ok(Some(count)) => {
+                self.spoken += count;
+                self.speaks = true;
+                out.text(";< ");
+                put_line(text, out);
+                Ok(())
+            }
+            Ok(None) => Ok(()),
+            Err(error) => Err(error),
+        }
+    }
+
     /// A line that says that a frame is sent stays, where it is the next one.
     fn keep_frame_line(
         &mut self,
@@ -281,12 +318,12 @@ impl<'t, 'b> Walk<'t, 'b> {
         text: &[u8],
         out: &mut Growing,
     ) -> Result<(), AllocError>
-        ensures { OnOk result (KeepsFrame text.now (octets_at text.now) self.old self.new out.old out.new) }
+        ensures { OnOk result (KeepsFrame text.now (octets_at text.now) (next_of text.now (left_by self.old)) self.old self.new out.old out.new) }
     {
         let mut wanted = Vec::new(alloc);
         match add_line(alloc, text, &mut wanted) {
             Ok(()) => self.keep_frame(alloc, wanted.as_slice(), out),
-            Err(LineFault::Bad(_)) => Ok(()),
+            Err(LineFault::Bad(_)) => self.keep_summary(alloc, text, out),
             Err(LineFault::NoMemory) => Err(AllocError),
         }
     }
@@ -341,9 +378,9 @@ impl<'t, 'b> Walk<'t, 'b> {
 
     /// Writes all that is left of what was sent.
     fn end_some(&mut self, alloc: Global, out: &mut Growing) -> Result<(), AllocError>
-        ensures { OnOk result (Tells true (sent_lines (left_by self.old)) self.old self.new out.old out.new) }
+        ensures { OnOk result (Tells true (told_lines (left_by self.old)) self.old self.new out.old out.new) }
     {
-        match put_sent(alloc, self.unspoken(), out) {
+        match put_told(alloc, self.unspoken(), out) {
             Ok(()) => {}
             Err(error) => return Err(error),
         }
@@ -578,10 +615,10 @@ fn renew(
 impl<'t, 'b> Walk<'t, 'b> {
     /// Writes what is sent, and why the last item is an error, where one was taken after this many octets.
     fn tell(&mut self, alloc: Global, before: usize, out: &mut Growing) -> Result<(), AllocError>
-        ensures { OnOk result (Tells self.old.speaks (sent_lines (left_by self.old) ++ error_text (nat_lt before self.old.at) (sight_here self.old).cause)
+        ensures { OnOk result (Tells self.old.speaks (told_lines (left_by self.old) ++ error_text (nat_lt before self.old.at) (sight_here self.old).cause)
             self.old self.new out.old out.new) }
     {
-        match put_sent(alloc, self.unspoken(), out) {
+        match put_told(alloc, self.unspoken(), out) {
             Ok(()) => {}
             Err(error) => return Err(error),
         }

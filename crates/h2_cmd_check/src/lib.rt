@@ -9,6 +9,7 @@ mod command;
 mod fault;
 mod growing;
 mod junit;
+mod names;
 mod pattern;
 mod run;
 mod tap;

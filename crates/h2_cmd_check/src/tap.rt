@@ -8,8 +8,8 @@ ghost use Rattle.h2_cmd_check.specs.Walks.{outcome_by};
 use crate::growing::{Growing, is_printable};
 use crate::pattern::shared;
 use crate::verdict::{CaseVerdict, Wrong};
-use h2_explain_words::say::{EscapedText, OctetCount, Say, TextBuilder};
-use h2_explain_words::say_all;
+use h2_io::say::{EscapedText, OctetCount, Say, TextBuilder};
+use h2_io::say_all;
 use std::alloc::{AllocError, Global};
 
 /// What a case is called: its file, and its title if it has one.

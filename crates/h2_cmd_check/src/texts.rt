@@ -18,11 +18,10 @@ use h2_explain_step::taking::{moment_at, stream_of_next};
 use h2_explain_text::account::Account;
 use h2_explain_text::lines::ItemLines;
 use h2_explain_text::paint::Paint;
-use h2_explain_words::sent::first_of;
 use h2_request_book::book::Book;
 use h2_script::{LineFault, add_line};
 use h2_spec::connection::Config;
-use h2_spec::octets::octets_from;
+use h2_spec::octets::{first_octets, octets_from};
 use std::alloc::{AllocError, Global};
 
 /// Whether a line says one of `explain`.
@@ -164,7 +163,7 @@ fn take_text(
         Err(error) => return Err(error),
     };
     let used = taken.used;
-    let own = first_of(octets, used);
+    let own = first_octets(octets, used);
     let item = Explained {
         number: texts.len() as u64 + 1,
         offset,

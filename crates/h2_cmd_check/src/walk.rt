@@ -1,7 +1,7 @@
 //! The lines of a case, one after another: those of the script are played, and the others are compared with what is
 //! seen of the run so far, or of the position of a debugger. Definitions: `specs/Cases.antt`, `specs/Walks.antt`.
 
-ghost use Rattle.std.specs.Prelude.{◌≡◌, ◌≤◌, ◌<◌, ◌^◌, ◌++◌, ◌&&◌, Bool, true, false, List, [], ℕ, length, drop, map, string_bytes, if◌then◌else◌, OnOk, IfOk};
+ghost use Rattle.std.specs.Prelude.{◌≡◌, ◌≤◌, ◌<◌, ◌^◌, ◌++◌, ◌&&◌, Bool, true, false, None, List, [], ℕ, length, drop, map, string_bytes, if◌then◌else◌, OnOk, IfOk};
 ghost use Rattle.h2_conn.specs.Connection.{going};
 ghost use Rattle.h2_spec.specs.Texts.Assemble.{statement_at};
 ghost use Rattle.h2_spec.specs.Texts.Show.{show};
@@ -9,7 +9,8 @@ ghost use Rattle.h2_spec.specs.Texts.View.{view};
 ghost use Rattle.h2_cmd_check.specs.Cases.{Start, all_hold, cause_text, closes, errs, ignores, outcome, passed, plays, played, reason_text, sight_above};
 ghost use Rattle.h2_cmd_check.specs.Commands.{text_by};
 ghost use Rattle.h2_cmd_cases.specs.Files.{expect_something};
-ghost use Rattle.h2_cmd_check.specs.Frames.{is_next, is_none, sends, spoken_by};
+ghost use Rattle.h2_cmd_check.specs.Frames.{is_none, next_of, next_whole, sends, spoken_by};
+ghost use Rattle.h2_cmd_cases.specs.Frames.{summed};
 ghost use Rattle.h2_cmd_check.specs.ItemTexts.{octets_at, text_before};
 ghost use Rattle.h2_cmd_cases.specs.Lines as said;
 ghost use Rattle.h2_cmd_cases.specs.Lines.{line_said, said_by, CaseLine};
@@ -20,11 +21,12 @@ ghost use Rattle.h2_cmd_check.specs.Walks.{Begins, Closes, Commands, Compares, F
 
 use crate::case_debugger::CaseDebugger;
 use crate::command::{Given, fault_line, give_line, is_obeyed};
+use crate::names::{is_cause, is_reason};
 use crate::pattern::{closest, explains, shows};
 use crate::run::{ItemsTaken, take_items};
 use crate::texts::text_before;
 use crate::verdict::{CaseVerdict, Wrong};
-use h2_cmd_cases::{Line, expect_something, line_of};
+use h2_cmd_cases::{Line, expect_something, line_of, push_short_line, summed};
 use h2_conn::Conn;
 use h2_debug::{Reply, ReplyText};
 use h2_explain_words::sent::next_frame;
@@ -106,6 +108,12 @@ const BEHIND_ANY: &str = "a line `;< ...` above takes all frames that are left";
 /// What a line is whose last octet is a carriage return.
 const IN_CR: &str = "the line ends in CR; lines of a case end in LF alone";
 
+/// What is found where a line expects an error of a cause that there is not.
+const NO_CAUSE: &str = "there is no cause of this name (docs/TABLE.md has all)";
+
+/// The same of a reason.
+const NO_REASON: &str = "there is no reason of this name (docs/RULES.md has all)";
+
 /// Whether the last octet of a line is a carriage return.
 fn ends_in_cr(line: &[u8]) -> bool {
     line.ends_with(b"\r".as_slice())
@@ -175,6 +183,25 @@ fn first_line(alloc: Global, octets: &[u8]) -> Result<String, AllocError> {
     match text.as_str().split_once('\n') {
         Some((line, _)) => String::from_str(alloc, line),
         None => Ok(text),
+    }
+}
+
+/// The same, or the summary of that frame where it is long.
+fn first_summary(alloc: Global, octets: &[u8]) -> Result<String, AllocError> {
+    let line = first_line(alloc, octets)?;
+    let mut short = Vec::new(alloc);
+    push_short_line(alloc, line.as_str().as_bytes(), &mut short)?;
+    match str::from_utf8(short.as_slice()) {
+        Ok(text) => String::from_str(alloc, text),
+        Err(_) => Ok(line),
+    }
+}
+
+/// Whether a line looks like DATA by its length and its sum.
+fn is_like_summary(line: &[u8]) -> bool {
+    match str::from_utf8(line) {
+        Ok(text) => text.starts_with("DATA ") && text.contains(" sha256 "),
+        Err(_) => false,
     }
 }
 
@@ -547,7 +574,7 @@ impl<'t, 'b> Walk<'t, 'b> {
         text: &'t [u8],
         wanted: &[u8],
     ) -> Result<(), AllocError>
-        ensures { OnOk result (Compares (Some wanted.now) self.old self.new) }
+        ensures { OnOk result (Compares (next_whole wanted.now (left_by self.old)) self.old self.new) }
     {
         if wanted.is_empty() {
             return self.fault(alloc, number, text, "no frame");
@@ -556,13 +583,76 @@ impl<'t, 'b> Walk<'t, 'b> {
             self.spoken += wanted.len();
             return Ok(());
         }
+        let found = first_line(alloc, self.unspoken());
+        self.refuse_frame(alloc, number, text, found)
+    }
+
+    /// Passes over the next frame, whichever that is.
+    fn pass_frame(&mut self)
+        ensures holds { self.new.holds ≡ self.old.holds }
+        ensures octets { (self.new.octets ≡ self.old.octets) × (self.new.at ≡ self.old.at) }
+        ensures seen { (self.new.seen ≡ self.old.seen) × (self.new.debugger ≡ self.old.debugger) }
+        ensures speaks { self.new.speaks ≡ self.old.speaks }
+    {
+        let passed = first_length(self.unspoken());
+        self.spoken = self.spoken.saturating_add(passed);
+    }
+
+    /// Says that a frame is not the next one, but another, which is passed over.
+    fn refuse_frame(
+        &mut self,
+        alloc: Global,
+        number: usize,
+        text: &'t [u8],
+        found: Result<String, AllocError>,
+    ) -> Result<(), AllocError>
+        ensures { OnOk result (Compares None self.old self.new) }
+    {
         if self.any {
             return self.fault(alloc, number, text, BEHIND_ANY);
         }
-        let found = first_line(alloc, self.unspoken());
-        let passed = first_length(self.unspoken());
-        self.spoken = self.spoken.saturating_add(passed);
+        self.pass_frame();
         self.refuse(number, text, found)
+    }
+
+    /// Says that a line is not the summary of the next frame, which is passed over; or that it is none, and no line of a
+    /// script, of this kind.
+    fn refuse_summary(
+        &mut self,
+        alloc: Global,
+        number: usize,
+        text: &'t [u8],
+        kind: SyntaxKind,
+    ) -> Result<(), AllocError>
+        ensures { OnOk result (Compares None self.old self.new) }
+    {
+        if is_like_summary(text) {
+            let found = first_summary(alloc, self.unspoken());
+            return self.refuse_frame(alloc, number, text, found);
+        }
+        self.pass_frame();
+        self.fault(alloc, number, text, kind_words(kind))
+    }
+
+    /// Compares DATA with the next frame that was sent, by its length and its sum. Any other line is no line of a script, of
+    /// this kind; it counts as that frame.
+    fn compare_summary(
+        &mut self,
+        alloc: Global,
+        number: usize,
+        text: &'t [u8],
+        kind: SyntaxKind,
+    ) -> Result<(), AllocError>
+        ensures { OnOk result (Compares (summed text.now (left_by self.old)) self.old self.new) }
+    {
+        match summed(alloc, text, self.unspoken()) {
+            Ok(Some(count)) => {
+                self.spoken += count;
+                Ok(())
+            }
+            Ok(None) => self.refuse_summary(alloc, number, text, kind),
+            Err(error) => Err(error),
+        }
     }
 
     /// A frame that the server sends.
@@ -572,15 +662,12 @@ impl<'t, 'b> Walk<'t, 'b> {
         number: usize,
         text: &'t [u8],
     ) -> Result<(), AllocError>
-        ensures { OnOk result (Compares (octets_at text.now) self.old self.new) }
+        ensures { OnOk result (Compares (next_of text.now (left_by self.old)) self.old self.new) }
     {
         let mut wanted = Vec::new(alloc);
         match add_line(alloc, text, &mut wanted) {
             Ok(()) => self.compare_frame(alloc, number, text, wanted.as_slice()),
-            Err(LineFault::Bad(kind)) => {
-                let why = kind_words(kind);
-                self.fault(alloc, number, text, why)
-            }
+            Err(LineFault::Bad(kind)) => self.compare_summary(alloc, number, text, kind),
             Err(LineFault::NoMemory) => Err(AllocError),
         }
     }
@@ -717,7 +804,11 @@ impl<'t, 'b> Walk<'t, 'b> {
     {
         let is_dash = text == b"-".as_slice();
         let found = cause_name(self.cause_for(is_dash)).as_bytes();
-        self.find(alloc, text == found, number, text, found)
+        let holds = text == found;
+        if !holds && !is_dash && !is_cause(text) {
+            return self.fault(alloc, number, text, NO_CAUSE);
+        }
+        self.find(alloc, holds, number, text, found)
     }
 
     /// Why the item before is ignored; a dash: it is not.
@@ -730,7 +821,11 @@ impl<'t, 'b> Walk<'t, 'b> {
         ensures { OnOk result (Finds (ignores (sight_here self.old) text.now) self.old self.new) }
     {
         let found = reason_name(self.sight().ignored).as_bytes();
-        self.find(alloc, text == found, number, text, found)
+        let holds = text == found;
+        if !holds && text != b"-".as_slice() && !is_reason(text) {
+            return self.fault(alloc, number, text, NO_REASON);
+        }
+        self.find(alloc, holds, number, text, found)
     }
 
     /// A line of `explain` for the item before, or `! ` and one that is not there.

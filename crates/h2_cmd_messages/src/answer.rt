@@ -2,9 +2,9 @@
 
 use crate::entry::{EntryRefusal, field_reason, say_entry};
 use crate::place::{Quoted, are_digits, are_hex_digits};
-use h2_explain_words::say::{Cut, Hex, Say, TextBuilder};
-use h2_explain_words::say_all;
-use h2_explain_words::sent::first_of;
+use h2_io::say::{Cut, Hex, Say, TextBuilder};
+use h2_io::say_all;
+use h2_spec::octets::first_octets;
 use std::alloc::Allocator;
 
 /// How many octets of a body are written as hex where it was given as a text.
@@ -82,7 +82,7 @@ fn say_no_bar(place: usize, word: &str, out: &mut TextBuilder) {
 /// Says that the fourth part is no hex, and what it is as octets.
 fn say_no_body(place: usize, body: &str, out: &mut TextBuilder) {
     let octets = body.as_bytes();
-    say_all!(out; AnswerPlace(place), ", part 4, BODYHEX: ", Quoted(octets), " is not pairs of hex digits; as octets it is ", Hex(first_of(octets, SHOWN)));
+    say_all!(out; AnswerPlace(place), ", part 4, BODYHEX: ", Quoted(octets), " is not pairs of hex digits; as octets it is ", Hex(first_octets(octets, SHOWN)));
     if octets.len() > SHOWN {
         ".. ".say(out);
     }

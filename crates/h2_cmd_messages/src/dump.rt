@@ -1,8 +1,8 @@
 //! What a text that is no hex looks like, as far as the ways are known in which people have octets at hand.
 
 use crate::place::{are_hex_digits, up_to};
-use h2_explain_words::sent::first_of;
 use h2_spec::frames::type_named;
+use h2_spec::octets::first_octets;
 
 /// What a text looks like.
 #[derive(Clone, Copy)]
@@ -244,7 +244,7 @@ const OFFSET: usize = 17;
 /// their ends: a line of hex may have all octets of an input.
 fn begins_at_zero(text: &[u8]) -> bool {
     let start = text.iter().position(|octet| *octet != b'\n');
-    let front = first_of(text.get(start.unwrap_or(0)..).unwrap_or(text), OFFSET);
+    let front = first_octets(text.get(start.unwrap_or(0)..).unwrap_or(text), OFFSET);
     offset_in(first_word(first_line(front)), 16) == Some(0)
 }
 

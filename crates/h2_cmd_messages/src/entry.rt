@@ -1,7 +1,7 @@
 //! What a book refuses an entry for, with its values.
 
-use h2_explain_words::say::{Cut, OctetCount, Say, TextBuilder};
-use h2_explain_words::say_all;
+use h2_io::say::{Cut, OctetCount, Say, TextBuilder};
+use h2_io::say_all;
 use h2_request_book::book::MAX_BODY;
 use h2_request_book::fault::EntryFault;
 

@@ -1,7 +1,7 @@
 //! Which limit or setting is out of its range.
 
-use h2_explain_words::say::{Say, TextBuilder};
-use h2_explain_words::say_all;
+use h2_io::say::{Say, TextBuilder};
+use h2_io::say_all;
 use h2_spec::connection::Config;
 
 /// The range of an option, and what it is.

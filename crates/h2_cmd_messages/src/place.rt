@@ -1,8 +1,8 @@
 //! Where something is: in which input, and at which line, column and octet of it.
 
-use h2_explain_words::say::{Cut, Say, TextBuilder};
-use h2_explain_words::say_all;
-use h2_explain_words::sent::first_of;
+use h2_io::say::{Cut, Say, TextBuilder};
+use h2_io::say_all;
+use h2_spec::octets::first_octets;
 use std::alloc::Allocator;
 
 /// What was read: standard input, or the file at a path.
@@ -51,7 +51,7 @@ pub(crate) fn are_hex_digits(text: &[u8]) -> bool {
 /// What precedes the first octet of this value; all where there is none.
 pub(crate) fn up_to(text: &[u8], end: u8) -> &[u8] {
     match text.iter().position(|octet| *octet == end) {
-        Some(place) => first_of(text, place),
+        Some(place) => first_octets(text, place),
         None => text,
     }
 }
@@ -60,7 +60,7 @@ pub(crate) fn up_to(text: &[u8], end: u8) -> &[u8] {
 pub fn place_at(text: &[u8], before: usize) -> TextPlace {
     let mut line = 1usize;
     let mut column = 1usize;
-    for octet in first_of(text, before) {
+    for octet in first_octets(text, before) {
         if *octet == b'\n' {
             line = line.saturating_add(1);
             column = 1;

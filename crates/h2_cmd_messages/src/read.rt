@@ -1,8 +1,8 @@
 //! Why an input or a file was not read.
 
 use crate::place::{InputSource, place_at};
-use h2_explain_words::say::{Say, TextBuilder};
-use h2_explain_words::say_all;
+use h2_io::say::{Say, TextBuilder};
+use h2_io::say_all;
 use std::io::ErrorKind;
 
 /// Why the system refused to read a file, and what to do.
@@ -36,7 +36,7 @@ pub fn say_too_long(source: InputSource<'_>, most: usize, out: &mut TextBuilder)
 
 /// Says that a file is too long with the commands of its session: together they have more octets than this.
 pub fn say_long_session(source: InputSource<'_>, most: usize, out: &mut TextBuilder) {
-    say_all!(out; source, ": with a line feed and the commands it has more than ", most, " octets, the most of a session.\n");
+    say_all!(out; source, ": its digits, a line feed and the commands have more than ", most, " octets, the most of a session; white space in the file does not count.\n");
 }
 
 /// Says where a text is not UTF-8.

@@ -2,8 +2,8 @@
 
 use crate::hex::is_hex;
 use crate::place::{InputSource, Quoted, up_to};
-use h2_explain_words::say::{Say, TextBuilder};
-use h2_explain_words::say_all;
+use h2_io::say::{Say, TextBuilder};
+use h2_io::say_all;
 use h2_spec::scripts::SyntaxKind;
 use memchr::{memchr, memchr_iter};
 

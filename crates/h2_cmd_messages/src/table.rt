@@ -1,8 +1,8 @@
 //! Which lines of `table` are refused, and why.
 
 use crate::place::{InputSource, Quoted};
-use h2_explain_words::say::{Say, TextBuilder};
-use h2_explain_words::say_all;
+use h2_io::say::{Say, TextBuilder};
+use h2_io::say_all;
 use h2_script::number_at;
 
 /// Why a line is refused.

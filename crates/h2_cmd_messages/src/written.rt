@@ -1,8 +1,8 @@
 //! What the system or the memory refused: an output, a port, memory.
 
 use crate::place::InputSource;
-use h2_explain_words::say::{Say, TextBuilder};
-use h2_explain_words::say_all;
+use h2_io::say::{Say, TextBuilder};
+use h2_io::say_all;
 use std::io::ErrorKind;
 
 /// Why an output or a file could not be written, in words.

@@ -1,5 +1,5 @@
 -- How a server ends in a fault.
-use Rattle.std.proofs.Common.{◌≡◌, ◌⊎◌, ◌∙◌, ◌≤◌, ℕ, ◌++◌, Bool, List, [], ◌∷◌, Option, Some, Result, Ok, Err, OnErr, OnOk, inl, inr, refl, sym, ap, subst, arith, append_assoc}
+use Rattle.std.proofs.Common.{◌≡◌, ◌⊎◌, ◌≤◌, ℕ, ◌++◌, Bool, List, [], ◌∷◌, Option, Result, Ok, Err, OnErr, OnOk, inl, inr, refl, sym, subst, arith}
 use Rattle.std.proofs.lemmas.List.{append-nil}
 use Rattle.h2_cmd_batch.specs.Faults.{fault_line}
 use Rattle.h2_serve.specs.Lines.{listening_line, end_lines}
@@ -7,14 +7,12 @@ use Rattle.h2_spec.specs.Requests.Answer.{Entry}
 use Rattle.h2_spec.specs.State.{is_allowed}
 use Rattle.h2_spec.specs.declared.connection.Config.{Config}
 use Rattle.h2_serve.specs.Wires.{grown}
+use Rattle.h2_serve.specs.Passes.{gains-two}
 use Rattle.h2_serve.specs.Ports.{Event, Listening, ListensSome, Start, localhost, start_of}
 use Rattle.h2_serve.specs.Serves.{Gains, GainsLines, ListensAs, Serves}
 use Rattle.h2_serve.specs.declared.fault.ServeFault.{ServeFault}
 use Rattle.h2_serve.specs.declared.fault.ServeFault.TheVariants.{NoMemory, BadConfig, Write, Socket}
 use Rattle.h2_cmd_run.specs.ProgramEnd.{DrivesNoOther, EndsInFault, IsReported, IsServed}
-
-gains-two : (k l m : Option (List ℕ)) (a b : List ℕ) → Gains k l a → Gains l m b → Gains k m (a ++ b)
-gains-two k l m a b x y = λ held is. y (held ++ a) (x held is) ∙ ap (λ (t : List ℕ). Some t) (append_assoc held a b)
 
 -- a fault before the port is listened on
 pub ends-at-once : (port count fault : ℕ) (before after : Option (List ℕ)) → Gains before after (fault_line fault) → EndsInFault port count before after

@@ -100,10 +100,14 @@ IsShown form book config port count before after log log' status =
     × GainsAllShown form (start_of book config) (listening_line port) count clients before after (grown log (Listening localhost port ∷ [])) log'
     × (status ≡ (if form.strict then clients_status clients else 0))
 
--- with such a book; or a fault ended it, or the output failed
+-- a fault ended it, and its line is the last that was printed
+abbrev pub EndsInLine : (before after : Option (List ℕ)) → Type 0
+EndsInLine before after = (text : List ℕ) × (fault : ℕ) × Gains before after (text ++ fault_line fault)
+
+-- with such a book; or a fault ended it and its line was printed, or the output failed
 abbrev pub EndsShown : (List Entry → Type 0) → Form → Config → (port count : ℕ) → (before after : Option (List ℕ)) → (log log' : Option (List Event)) → ℕ → Type 0
 EndsShown IsBook form config port count before after log log' status =
-    (status ≡ 1) ⊎ ((status ≡ 3) ⊎ ((book : List Entry) × IsBook book × IsShown form book config port count before after log log' status))
+    ((status ≡ 1) × EndsInLine before after) ⊎ ((status ≡ 3) ⊎ ((book : List Entry) × IsBook book × IsShown form book config port count before after log log' status))
 
 -- whether words ask for connections to be served
 abbrev pub is_serve : Option Asked → Bool

@@ -9,7 +9,7 @@ use Rattle.h2_spec.specs.declared.rules.ClientDuty.{ClientDuty}
 use Rattle.h2_spec.specs.declared.rules.ClientDuty.TheVariants as client_duty
 use Rattle.h2_conn.specs.Connection.{Connection, is_ended}
 use Rattle.h2_explain_step.specs.Explained.{ExplainsItem}
-use Rattle.h2_explain_item.specs.Warnings.{AreWarnings, duty_of_error, duty_of_reason, is_breach, is_unacknowledged, warning_count}
+use Rattle.h2_explain_item.specs.Warnings.{AreWarnings, broken_count, duty_of_error, duty_of_reason, is_breach, warning_count}
 use Rattle.h2_explain_item.specs.declared.item.Explained.{Explained}
 use Rattle.h2_explain_item.specs.declared.diagnosis.special.CaseFacts.{CaseFacts}
 use Rattle.h2_explain.specs.declared.verdict.ClientVerdict.{ClientVerdict}
@@ -38,9 +38,9 @@ is_limit client_duty.Breach = false
 is_limit client_duty.Limit = true
 is_limit client_duty.Nothing = false
 
--- whether the client broke a rule with an item: by its error, by why it is ignored, or by a warning
+-- whether the client broke a rule with an item: by its error, by why it is ignored, or by a warning that is no note
 abbrev pub breaks_rule : Explained → CaseFacts → Warnings → Bool
-breaks_rule x f w = (is_breach (duty_of_error x.cause x f) || is_breach (duty_of_reason x.ignored f)) || nat_lt 0 (warning_count w)
+breaks_rule x f w = (is_breach (duty_of_error x.cause x f) || is_breach (duty_of_reason x.ignored f)) || nat_lt 0 (broken_count w)
 
 -- with one item more, with what decides the special case of its rule, and with its warnings
 abbrev pub tally_with : Tallied → Explained → CaseFacts → Warnings → Tallied
@@ -62,7 +62,7 @@ is_answer_unfinished s = not (is_ended s.core.phase) && is_some (next_waiting 0 
 -- what is said about a client where the run ends in this state, and that many octets are left
 abbrev pub verdict_at : Tallied → State → ℕ → ClientVerdict
 verdict_at t s left = record {
-  broken = t.broken || is_unacknowledged s.core;
+  broken = t.broken;
   limited = t.limited;
   unfinished = (nat_lt 0 left && not (is_ended s.core.phase)) || is_answer_unfinished s;
 }

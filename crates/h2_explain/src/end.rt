@@ -22,9 +22,8 @@ use h2_explain_step::explainer::{ItemExplainer, opening_of};
 use h2_explain_text::paint::{Paint, Role};
 use h2_explain_text::rest::{InputRest, missing_of, rest_line, say_place};
 use h2_explain_text::waits::{say_wait, wait_of};
-use h2_explain_words::say::TextBuilder;
-use h2_explain_words::say_all;
-use h2_io::{string_of, texts};
+use h2_io::say::TextBuilder;
+use h2_io::{say_all, string_of, texts};
 use std::alloc::{AllocError, Allocator};
 
 /// What is after the last item of a connection that had that many items; `offset` is how many octets came before these.

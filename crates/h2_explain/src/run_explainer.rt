@@ -28,10 +28,9 @@ use h2_explain_step::taking::{moment_at, stream_of_next};
 use h2_explain_text::account::Account;
 use h2_explain_text::lines::ItemLines;
 use h2_explain_text::paint::Paint;
-use h2_explain_words::sent::first_of;
 use h2_explain_words::spelled::BlockReader;
 use h2_io::Output;
-use h2_spec::octets::octets_from;
+use h2_spec::octets::{first_octets, octets_from};
 use std::alloc::{AllocError, Allocator, Global};
 use std::mem;
 
@@ -289,7 +288,7 @@ impl<A: Allocator + Copy> RunExplainer<A> {
             Err(_) => return Err(ExplainFault::NoMemory),
         };
         let used = taken.used;
-        let own = first_of(octets, used);
+        let own = first_octets(octets, used);
         let item = Explained {
             number: self.items + 1,
             offset: self.offset,

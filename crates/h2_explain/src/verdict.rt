@@ -6,9 +6,7 @@ ghost use Rattle.h2_explain.specs.Verdicts.{is_answer_unfinished, is_limit, no_t
 
 use h2_conn::{Conn, is_ended};
 use h2_explain_item::diagnosis::special::CaseFacts;
-use h2_explain_item::diagnosis::warning::{
-    Warnings, duty_of_error, duty_of_reason, is_breach, is_unacknowledged,
-};
+use h2_explain_item::diagnosis::warning::{Warnings, duty_of_error, duty_of_reason, is_breach};
 use h2_explain_item::item::Explained;
 use h2_spec::causes::Cause;
 use h2_spec::rules::ClientDuty;
@@ -48,13 +46,13 @@ fn is_limit(duty: ClientDuty) -> bool
     }
 }
 
-/// Whether the client broke a rule with an item: by its error, by why it is ignored, or by a warning.
+/// Whether the client broke a rule with an item: by its error, by why it is ignored, or by a warning that is no note.
 fn breaks_rule(item: &Explained<'_>, facts: CaseFacts, warnings: Warnings) -> bool
     ensures { result ≡ breaks_rule item.now facts warnings }
 {
     is_breach(duty_of_error(item, facts))
         || is_breach(duty_of_reason(item, facts))
-        || warnings.count() > 0
+        || warnings.broken_count() > 0
 }
 
 impl<A: Allocator> Tally<A> {
@@ -94,7 +92,7 @@ impl<A: Allocator> Tally<A> {
 /// What is said about a client at the end of its octets.
 #[derive(Clone, Copy)]
 pub struct ClientVerdict {
-    /// Whether it broke a rule: with an error or an ignored frame whose rule it broke, or with a warning.
+    /// Whether it broke a rule: with an error or an ignored frame whose rule it broke, or with a warning that is no note.
     pub broken: bool,
     /// Whether it was above a limit of this server.
     pub limited: bool,
@@ -142,7 +140,7 @@ pub(crate) fn verdict_at<A: Allocator + Copy>(
 {
     let counts = conn.counts();
     ClientVerdict {
-        broken: tally.broken || is_unacknowledged(&counts),
+        broken: tally.broken,
         limited: tally.limited,
         unfinished: (left > 0 && !is_ended(counts.phase)) || is_answer_unfinished(conn),
     }

@@ -4,8 +4,8 @@
 use crate::verdict::{ClientVerdict, Tally};
 use h2_explain_json::json_words::JsonWords;
 use h2_explain_json::member;
-use h2_explain_words::say::TextBuilder;
-use h2_explain_words::say_all;
+use h2_io::say::TextBuilder;
+use h2_io::say_all;
 use h2_spec::causes::Cause;
 use std::alloc::Allocator;
 

@@ -5,9 +5,9 @@ use h2_explain_item::diagnosis::fields::{
     FieldFault, bad_octet_of_name, bad_octet_of_value, double_pseudo, first_wrong, has,
     has_other_scheme, is_blank, is_connect, is_number, late_pseudo, other_length, refused_length,
 };
-use h2_explain_words::say::{Cut, HexOctet, TextBuilder};
-use h2_explain_words::say_all;
 use h2_explain_words::spelled::SpelledField;
+use h2_io::say::{Cut, HexOctet, TextBuilder};
+use h2_io::say_all;
 use h2_spec::causes::Cause;
 use std::alloc::Allocator;
 

@@ -4,10 +4,11 @@
 use h2_explain_item::diagnosis::error_context::ErrorContext;
 use h2_explain_item::item::{Explained, Moment};
 use h2_explain_item::notes::StreamNote;
-use h2_explain_words::say::{Cut, FieldCount, HexOctet, OctetCount, Say, TextBuilder};
-use h2_explain_words::sent::first_of;
+use h2_explain_words::names::TypeWords;
 use h2_explain_words::spelled::Stopped;
+use h2_io::say::{Cut, FieldCount, HexOctet, OctetCount, Say, TextBuilder};
 use h2_spec::frames::{FrameType, PREFACE};
+use h2_spec::octets::first_octets;
 use h2_spec::streams::StreamState;
 use std::alloc::Allocator;
 
@@ -93,7 +94,7 @@ impl Say for ShownValue<'_> {
         match self {
             ShownValue::Words(words) => words.say(out),
             ShownValue::Text(octets) => Cut(octets).say(out),
-            ShownValue::Type(kind) => kind.say(out),
+            ShownValue::Type(kind) => TypeWords(kind).say(out),
             ShownValue::Number(number) => number.say(out),
             ShownValue::Signed(number) => number.say(out),
             ShownValue::Octets(count) => OctetCount(count).say(out),
@@ -126,7 +127,7 @@ fn frame_value<A: Allocator + Copy>(
 fn line_in(octets: &[u8]) -> &[u8] {
     for (place, octet) in octets.iter().enumerate() {
         if !(b' '..=b'~').contains(octet) {
-            return first_of(octets, place);
+            return first_octets(octets, place);
         }
     }
     octets
@@ -134,7 +135,7 @@ fn line_in(octets: &[u8]) -> &[u8] {
 
 /// The first line of octets, or what they begin with.
 pub(crate) fn first_line(octets: &[u8]) -> &[u8] {
-    line_in(first_of(octets, 4096))
+    line_in(first_octets(octets, 4096))
 }
 
 /// A value of the octets that are not the preface: the last one is not that of the preface.

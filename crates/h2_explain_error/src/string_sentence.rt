@@ -3,13 +3,12 @@
 
 ghost use Rattle.std.specs.Prelude.{◌≤◌};
 
-use h2_explain_words::say::{Cut, HexOctet, OctetCount, Ordinal, TextBuilder};
-use h2_explain_words::say_all;
-use h2_explain_words::sent::first_of;
 use h2_explain_words::spelled::BlockReader;
+use h2_io::say::{Cut, HexOctet, OctetCount, Ordinal, TextBuilder};
+use h2_io::say_all;
 use h2_prim::{HuffFault, IntRead, StrAt, find_str, huff_read, read_int};
 use h2_spec::causes::Cause;
-use h2_spec::octets::octets_from;
+use h2_spec::octets::{first_octets, octets_from};
 use std::alloc::{AllocError, Allocator};
 
 /// What is wrong with the octets of a Huffman string.
@@ -59,7 +58,7 @@ fn end_of_eos<A: Allocator + Copy>(alloc: A, octets: &[u8]) -> usize {
     let (mut without, mut with) = (0usize, octets.len());
     for _halving in 0..17 {
         let half = without.saturating_add(with) / 2;
-        if has_eos(alloc, first_of(octets, half)) {
+        if has_eos(alloc, first_octets(octets, half)) {
             with = half;
         } else {
             without = half;

@@ -5,5 +5,7 @@ pub mod Notes
 pub mod Changes
 pub mod Counts
 pub mod Special
+pub mod FrameFacts
+pub mod RunFacts
 pub mod Warnings
 pub mod Others

@@ -20,18 +20,18 @@ use h2_explain_item::item::Explained;
 use h2_explain_text::account::Account;
 use h2_explain_text::text::{mode_name, read_answer, say_item};
 use h2_explain_words::frame_words::say_frame_in;
-use h2_explain_words::json_text::JsonText;
 use h2_explain_words::names::{
-    code_name, kind_name, registered_setting, registered_type, setting_name,
+    TypeWords, code_name, kind_name, registered_setting, registered_type, setting_name,
 };
-use h2_explain_words::say::{Hex, HexOctet, Say, TextBuilder};
-use h2_explain_words::say_all;
-use h2_explain_words::sent::{first_of, next_frame};
+use h2_explain_words::sent::next_frame;
 use h2_explain_words::spelled::{BlockReader, SpelledField, Spelling};
 use h2_frame::{FrameRef, FrameType, Head, HeadersPart, Part, SettingsPart, part_of};
+use h2_io::json_text::JsonText;
+use h2_io::say::{Hex, HexOctet, Say, TextBuilder};
+use h2_io::say_all;
 use h2_spec::causes::Cause;
 use h2_spec::ignored::Ignored;
-use h2_spec::octets::octets_from;
+use h2_spec::octets::{first_octets, octets_from};
 use h2_spec::rules::Row;
 use h2_spec::special_cases::SpecialCase;
 use std::alloc::{AllocError, Allocator};
@@ -66,7 +66,7 @@ fn put_shown<A: Allocator>(octets: &[u8], out: &mut JsonWords<A>) {
 fn put_type<A: Allocator>(kind: u8, out: &mut JsonWords<A>) {
     match FrameType::of(kind) {
         FrameType::Unknown(kind) => out.plain(member!("type"), Unnamed(kind)),
-        known => out.plain(member!("type"), known),
+        known => out.plain(member!("type"), TypeWords(known)),
     }
 }
 
@@ -259,7 +259,7 @@ fn put_frames<A: Allocator + Copy>(
             return;
         };
         let used = rest.len().saturating_sub(after.len());
-        put_sent_frame(alloc, frame, first_of(rest, used), is_brief, out);
+        put_sent_frame(alloc, frame, first_octets(rest, used), is_brief, out);
         rest = after;
     }
 }

@@ -1,8 +1,8 @@
 //! JSON that is put together member by member. What it writes is tested, no definition speaks of it.
 
-use h2_explain_words::json_text::JsonText;
-use h2_explain_words::say::{Say, TextBuilder};
-use h2_explain_words::say_all;
+use h2_io::json_text::JsonText;
+use h2_io::say::{Say, TextBuilder};
+use h2_io::say_all;
 use std::alloc::{AllocError, Allocator};
 
 /// The name of a member as it is written after another one, `,"NAME":`. `member!` and `element!` give it.

@@ -10,9 +10,9 @@ use h2_conn::{Conn, ConnFault};
 use h2_explain_item::diagnosis::special::{CaseFacts, Seen, case_by, seen_of};
 use h2_explain_item::item::{Explained, part_in};
 use h2_explain_text::account::Account;
-use h2_explain_words::sent::first_of;
 use h2_request_book::book::Book;
 use h2_spec::connection::Config;
+use h2_spec::octets::first_octets;
 use std::alloc::{AllocError, Allocator};
 use std::collections::BTreeMap;
 use std::marker::Model;
@@ -101,7 +101,7 @@ impl<'b, A: Allocator + Copy> CaseFinder<'b, A> {
         let Some(taken) = self.conn.take_and_report(octets, &mut self.sent)? else {
             return Ok(false);
         };
-        let own = first_of(octets, taken.used);
+        let own = first_octets(octets, taken.used);
         let item = Explained {
             number: self.items.saturating_add(1),
             offset: self.used,

@@ -8,7 +8,7 @@ ghost use Rattle.h2_spec.specs.Stream.{stream_at};
 ghost use Rattle.h2_explain_item.specs.Item.{frame_in, head_in, part_in};
 ghost use Rattle.h2_explain_step.specs.Account.{KeepsBlocks, ListsChanges, NotesItem, begun_after, block_end_with, changes_of_sent, changes_since, ended_with, unread, fragment_in, is_compression, is_of_block, is_of_fields, moves_windows, noted_with, notes_of_sent, opening_if, reads_fields, shows_fields_with};
 ghost use Rattle.h2_explain_item.specs.Notes.{AreNotes, note_of, with_later_note};
-ghost use Rattle.h2_explain_item.specs.Granted.{is_early};
+ghost use Rattle.h2_explain_item.specs.RunFacts.{empties_after, run_facts};
 ghost use Rattle.h2_explain_item.specs.Warnings.{AreWarnings};
 
 use crate::unshown_changes::{Live, note_moved, put_moved, sent_streams};
@@ -21,16 +21,19 @@ use h2_explain_item::change::granted::Granted;
 use h2_explain_item::change::header_table::{EntryChange, Followed};
 use h2_explain_item::diagnosis::error_context::ErrorContext;
 use h2_explain_item::diagnosis::facts::{facts_of, others_of, wider_of};
-use h2_explain_item::diagnosis::request_facts::{RequestFacts, request_facts};
+use h2_explain_item::diagnosis::request_facts::{
+    BlockFacts, RequestFacts, block_facts, request_facts,
+};
+use h2_explain_item::diagnosis::run_facts::run_facts;
 use h2_explain_item::diagnosis::special::CaseFacts;
 use h2_explain_item::diagnosis::warning::{opens_stream, warnings_of};
 use h2_explain_item::item::Explained;
 use h2_explain_item::notes::{Notes, StreamNote};
 use h2_explain_text::account::Account;
-use h2_explain_words::say::TextBuilder;
 use h2_explain_words::sent::next_frame;
 use h2_explain_words::spelled::BlockReader;
 use h2_frame::Part;
+use h2_io::say::TextBuilder;
 use h2_spec::causes::Cause;
 use h2_spec::errors::ErrorCode;
 use h2_spec::frames::{CONTINUATION, END_HEADERS, END_STREAM, FrameType, HEADERS, Head, ItemHead};
@@ -53,6 +56,8 @@ pub struct ItemExplainer<A: Allocator = Global> {
     pub refused_ends: BTreeMap<u32, u64, A>,
     /// The rest of what the client was granted before a read.
     pub granted: Granted<A>,
+    /// How many CONTINUATION frames of the last field block are empty.
+    pub empties: u64,
     /// Whether long texts are shown whole.
     pub is_full: bool,
 }
@@ -167,6 +172,7 @@ impl<A: Allocator + Copy> ItemExplainer<A> {
             table: Followed::new(alloc, 4096),
             refused_ends: BTreeMap::new(alloc),
             granted: Granted::new(alloc),
+            empties: 0,
             is_full: false,
         })
     }
@@ -348,6 +354,14 @@ impl<A: Allocator + Copy> ItemExplainer<A> {
         request_facts(self.reader.fields())
     }
 
+    /// What is wrong with the field block that ends with an item; nothing where none does, or the item is an error.
+    fn block_facts(&self, item: &Explained<'_>, ends: bool) -> BlockFacts {
+        if !ends || item.cause.is_some() {
+            return BlockFacts::none();
+        }
+        block_facts(&self.reader)
+    }
+
     /// What sentences draw their values from.
     fn context<'f, 'o>(
         &'f self,
@@ -437,19 +451,21 @@ impl<A: Allocator + Copy> ItemExplainer<A> {
     ) -> Result<(), AllocError>
         ensures fields { OnOk result (account.new.shows_fields ≡ shows_fields_with item.now) }
         ensures warnings { OnOk result (AreWarnings item.now account.new.facts account.new.warnings) }
-        ensures early { OnOk result (account.new.warnings.sent_early ≡ is_early self.old.granted item.now) }
+        ensures run { OnOk result (account.new.warnings.run ≡ run_facts self.old.granted self.old.empties item.now) }
+        ensures empties { OnOk result (self.new.empties ≡ empties_after self.old.empties (head_in item.now.what)) }
         ensures changes { OnOk result (ListsChanges item.now conn.now.state (begun_after self.old.notes.block item.now.number item.now.before.block item.now.what) (note_of self.old.notes) account.new.changes.items) }
         ensures texts { OnOk result (account.new.is_full ≡ self.old.is_full) }
         ensures notes { OnOk result (NotesItem item.now conn.now.state self.old.notes self.new.notes) }
         ensures full { self.new.is_full ≡ self.old.is_full }
     {
-        let sent_early = self.granted.take(item)?;
+        let run = run_facts(&mut self.granted, &mut self.empties, item)?;
         account.is_full = self.is_full;
         account.shows_fields = self.read_block(alloc, item)?;
         self.follow_refused(alloc, item)?;
         account.facts = self.facts(conn, item);
         let request = self.request_facts(item);
-        account.warnings = warnings_of(item, account.facts, request, sent_early);
+        let block = self.block_facts(item, account.shows_fields);
+        account.warnings = warnings_of(item, account.facts, request, block, run);
         self.put_error(alloc, conn, item, account)?;
         let sent = sent_streams(alloc, item)?;
         put_moved(

@@ -20,8 +20,8 @@ use h2_explain_item::diagnosis::special::{
 };
 use h2_explain_item::item::Explained;
 use h2_explain_words::names::{error_name, scope_word};
-use h2_explain_words::say::TextBuilder;
 use h2_explain_words::spelled::BlockReader;
+use h2_io::say::TextBuilder;
 use h2_io::{DeviceFault, Gathered, Output, Text, texts};
 use h2_spec::causes::Cause;
 use h2_spec::connection::Phase;

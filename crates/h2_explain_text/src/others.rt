@@ -11,9 +11,9 @@ use h2_explain_item::diagnosis::special::{
 };
 use h2_explain_item::item::Explained;
 use h2_explain_words::names::Code;
-use h2_explain_words::say::TextBuilder;
-use h2_explain_words::say_all;
 use h2_explain_words::spelled::{BlockReader, SpelledField};
+use h2_io::say::TextBuilder;
+use h2_io::say_all;
 use h2_spec::accepted::Accepted;
 use h2_spec::conforming::{Codes, Conforming, Least, Observed, Reactions};
 use h2_spec::rules::{Row, ServerDuty};

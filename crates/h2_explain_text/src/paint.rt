@@ -3,8 +3,8 @@
 ghost use Rattle.std.specs.Prelude.{◌≡◌};
 ghost use Rattle.h2_explain_text.specs.Lines.{colour, ended, started};
 
-use h2_explain_words::say::TextBuilder;
-use h2_explain_words::say_all;
+use h2_io::say::TextBuilder;
+use h2_io::say_all;
 use std::alloc::Allocator;
 
 /// What a line says.

@@ -9,10 +9,9 @@ ghost use Rattle.h2_explain_text.specs.Rest.{is_said, missing_of, missing_of_fro
 use crate::paint::{Paint, Role};
 use crate::text::say_opening;
 use h2_explain_words::frame_words::say_head;
-use h2_explain_words::say::{OctetCount, TextBuilder};
-use h2_explain_words::say_all;
 use h2_frame::read_head;
-use h2_io::{string_of, texts};
+use h2_io::say::{OctetCount, TextBuilder};
+use h2_io::{say_all, string_of, texts};
 use h2_spec::connection::Phase;
 use h2_spec::frames::Head;
 use std::alloc::{AllocError, Allocator};

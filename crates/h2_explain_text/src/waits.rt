@@ -5,8 +5,8 @@ ghost use Rattle.std.specs.Prelude.{◌≡◌, ◌-◌};
 ghost use Rattle.std.specs.Option.{option_map};
 ghost use Rattle.h2_explain_text.specs.Waits.{answer_wait, is_sending, request_wait, wait_of};
 
-use h2_explain_words::say::{OctetCount, TextBuilder};
-use h2_explain_words::say_all;
+use h2_io::say::{OctetCount, TextBuilder};
+use h2_io::say_all;
 use h2_spec::connection::{Config, ConnectionState};
 use h2_spec::streams::{Numbers, Stream, StreamState};
 use std::alloc::Allocator;

@@ -2,8 +2,8 @@
 
 use crate::paint::{Paint, Role};
 use h2_explain_item::diagnosis::warning::{Warning, Warnings, all_warnings};
-use h2_explain_words::say::TextBuilder;
-use h2_explain_words::say_all;
+use h2_io::say::TextBuilder;
+use h2_io::say_all;
 use std::alloc::Allocator;
 
 /// Puts the two lines of a warning last.

@@ -1,9 +1,9 @@
 //! A frame in words: its type, its stream, its flags by name, and what its payload has. No definition speaks of them.
 
-use crate::names::{Code, registered_setting, say_flags, say_registered, setting_name};
-use crate::say::{Cut, Hex, OctetCount, TextBuilder};
-use crate::say_all;
+use crate::names::{Code, TypeWords, registered_setting, say_flags, say_registered, setting_name};
 use h2_frame::{DataPart, FrameRef, Head, HeadersPart, Part, SettingsPart, part_of};
+use h2_io::say::{Cut, Hex, OctetCount, TextBuilder};
+use h2_io::say_all;
 use h2_spec::frames::{END_HEADERS, FrameType, WITH_PRIORITY};
 use h2_spec::octets::octets_from;
 use std::alloc::Allocator;
@@ -26,7 +26,7 @@ fn is_on_streams(kind: FrameType) -> bool {
 /// Puts the type, the stream and the flags of a frame last.
 pub fn say_head<A: Allocator>(head: &Head, out: &mut TextBuilder<A>) {
     let kind = head.frame_type();
-    say_all!(out; kind);
+    say_all!(out; TypeWords(kind));
     if is_on_streams(kind) || head.stream != 0 {
         say_all!(out; " stream ", head.stream);
     }

@@ -5,8 +5,8 @@ ghost use Rattle.std.specs.Prelude.{◌≡◌, ℕ, List, map, option_map};
 ghost use Rattle.std.specs.Borrow.{Bor};
 ghost use Rattle.h2_explain_words.specs.Names as spec;
 
-use crate::say::{HexOctet, Say, TextBuilder};
-use crate::say_all;
+use h2_io::say::{HexOctet, Say, TextBuilder};
+use h2_io::say_all;
 use h2_spec::errors::ErrorCode;
 use h2_spec::frames::{
     ACK, END_HEADERS, END_STREAM, FrameType, Head, PADDED, WITH_PRIORITY, type_name,
@@ -41,9 +41,13 @@ pub(crate) fn say_registered<A: Allocator>(name: Option<&'static str>, out: &mut
     }
 }
 
-impl Say for FrameType {
+/// A frame's type in words: its name, or its number where the RFC has no name for it.
+#[derive(Clone, Copy)]
+pub struct TypeWords(pub FrameType);
+
+impl Say for TypeWords {
     fn say<A: Allocator>(self, out: &mut TextBuilder<A>) {
-        let kind = self.number();
+        let kind = self.0.number();
         match type_name(kind) {
             Some(name) => say_all!(out; name),
             None => {

@@ -4,7 +4,7 @@ ghost use Rattle.std.specs.Prelude.{◌≡◌, take, drop, option_map};
 ghost use Rattle.h2_explain_words.specs.Sent.{first_frame, first_seen};
 
 use h2_frame::{FrameRef, read_head};
-use h2_spec::octets::{octets_from, octets_up_to};
+use h2_spec::octets::{first_octets, octets_from};
 
 /// The octets after the nine of a head; none where there are fewer (RFC 9113, 4.1).
 pub fn behind_head(octets: &[u8]) -> &[u8]
@@ -14,16 +14,6 @@ pub fn behind_head(octets: &[u8]) -> &[u8]
         return &[];
     }
     octets_from(octets, 9)
-}
-
-/// The first `count` octets; all where there are fewer.
-pub fn first_of(octets: &[u8], count: usize) -> &[u8]
-    ensures { result.now ≡ take count octets.now }
-{
-    if octets.len() < count {
-        return octets;
-    }
-    octets_up_to(octets, count)
 }
 
 /// The frame at the front of octets, and the octets after it; `None` where not all of its octets are there (RFC 9113,
@@ -37,6 +27,6 @@ pub fn next_frame(octets: &[u8]) -> Option<(FrameRef<'_>, &[u8])>
     if rest.len() < length {
         return None;
     }
-    let payload = first_of(rest, length);
+    let payload = first_octets(rest, length);
     Some((FrameRef { head, payload }, octets_from(rest, length)))
 }

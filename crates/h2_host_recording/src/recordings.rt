@@ -3,6 +3,7 @@
 //! line of a script, and what was sent for it.
 
 use h2_cmd_args::command::{BookWords, Serve};
+use h2_cmd_cases::push_told;
 use h2_cmd_messages::{InputSource, Say, TextBuilder, say_unrecorded};
 use h2_explain::{Explained, Recorder};
 use h2_host::Stopwatch;
@@ -120,20 +121,6 @@ fn words_of(rt: &HostRuntime, plan: &Serve<'_>) -> io::Result<String> {
     Ok(words)
 }
 
-/// The lines of octets that were sent, each after `;< `.
-fn sent_lines(rt: &HostRuntime, sent: &[u8]) -> Result<String, AllocError> {
-    let mut out = String::new(rt.alloc());
-    if sent.is_empty() {
-        return Ok(out);
-    }
-    for line in disassemble(rt.alloc(), sent)?.lines() {
-        out.push_str(";< ")?;
-        out.push_str(line)?;
-        out.push_str("\n")?;
-    }
-    Ok(out)
-}
-
 // Written line by line without a buffer, and cut to whole lines where a write fails, so that a record can
 // always be read.
 /// A file to which whole lines are written.
@@ -160,8 +147,8 @@ impl LineFile {
     }
 
     /// Writes lines. Where that fails, the file ends with the lines before, if it can be cut.
-    fn add(&mut self, lines: &str) -> io::Result<()> {
-        match self.file.write_all(lines.as_bytes()) {
+    fn add(&mut self, lines: &[u8]) -> io::Result<()> {
+        match self.file.write_all(lines) {
             Ok(()) => {
                 self.length = self.length.saturating_add(lines.len() as u64);
                 Ok(())
@@ -203,7 +190,7 @@ impl Record {
     fn add_read(&mut self, rt: &HostRuntime, octets: &[u8]) -> io::Result<()> {
         let mut line = hex::encode(rt.alloc(), octets)?;
         line.push_str("\n")?;
-        self.hex.add(line.as_str())?;
+        self.hex.add(line.as_str().as_bytes())?;
         self.pending.extend_from_slice(octets)?;
         Ok(())
     }
@@ -216,13 +203,15 @@ impl Record {
         octets: &[u8],
         sent: &[u8],
     ) -> io::Result<()> {
-        let mut lines = match millis {
-            Some(millis) => format!(in rt.alloc(); "; {millis} ms\n")?,
-            None => String::new(rt.alloc()),
-        };
-        lines.push_str(disassemble(rt.alloc(), octets)?.as_str())?;
-        lines.push_str(sent_lines(rt, sent)?.as_str())?;
-        self.case.add(lines.as_str())?;
+        let mut lines = Vec::new(rt.alloc());
+        if let Some(millis) = millis {
+            let time = format!(in rt.alloc(); "; {millis} ms\n")?;
+            lines.extend_from_slice(time.as_str().as_bytes())?;
+        }
+        let item = disassemble(rt.alloc(), octets)?;
+        lines.extend_from_slice(item.as_str().as_bytes())?;
+        push_told(rt.alloc(), sent, &mut lines)?;
+        self.case.add(lines.as_slice())?;
         let used = octets.len().min(self.pending.len());
         let left = self.pending.len() - used;
         self.pending.rotate_left(used);
@@ -236,7 +225,7 @@ impl Record {
             return Ok(());
         }
         let lines = disassemble(rt.alloc(), self.pending.as_slice())?;
-        self.case.add(lines.as_str())
+        self.case.add(lines.as_str().as_bytes())
     }
 }
 
@@ -308,10 +297,11 @@ impl<'r, 't, 'c> Recordings<'r, 't, 'c> {
     fn open(&mut self, number: u32, opening: &[u8]) -> io::Result<Record> {
         let rt = self.runtime;
         let mut record = self.create()?;
-        let mut lines = format!(in rt.alloc(); ";# connection {number}\n")?;
-        lines.push_str(self.words.as_str())?;
-        lines.push_str(sent_lines(rt, opening)?.as_str())?;
-        record.case.add(lines.as_str())?;
+        let title = format!(in rt.alloc(); ";# connection {number}\n")?;
+        let mut lines = title.as_str().as_bytes().to_vec(rt.alloc())?;
+        lines.extend_from_slice(self.words.as_str().as_bytes())?;
+        push_told(rt.alloc(), opening, &mut lines)?;
+        record.case.add(lines.as_slice())?;
         Ok(record)
     }
 

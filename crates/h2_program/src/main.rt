@@ -31,6 +31,7 @@ fn serve_kept<'t, 'c, W: Write, K: Keeper>(
     let mut errors = IntoWrite::new(&mut stderr);
     let mut noted = Noted::new(&mut errors);
     let mut looked = ServerOutput::new(rt.alloc(), output, rt.stderr(), !plan.book.why, times);
+    let mut written = IntoWrite::new(&mut looked);
     let mut port = TcpPort::new(rt);
     let status = serve(
         rt.alloc(),
@@ -38,7 +39,7 @@ fn serve_kept<'t, 'c, W: Write, K: Keeper>(
         plan,
         &mut files,
         keeper,
-        &mut looked,
+        &mut written,
         &mut noted,
     );
     (status, noted.is_written())

@@ -10,6 +10,7 @@ use Rattle.h2_conn.specs.Connection.{Connection, going}
 use Rattle.h2_serve.specs.Drives.{Drives, EndsAs, drive_state, is_wire_fault}
 use Rattle.h2_serve.specs.Wires.{grown}
 use Rattle.h2_serve.specs.Ports.{Accepted, Closed, DrivesClient, Event, HandlesAll, HandlesOne, HandlesSome, IsDriven, Listening, ListensSome, Seen, Start, localhost, turns_allowed}
+use Rattle.h2_serve.specs.Passes.{gains-two}
 use Rattle.h2_serve.specs.Serves.{AcceptsAs, Gains, GainsLines, ListensAs, Serves, ServesAs, ServesOne}
 use Rattle.h2_serve.specs.declared.fault.ServeFault.{ServeFault}
 use Rattle.h2_serve.specs.declared.fault.ServeFault.TheVariants.{NoMemory, BadConfig, Write, Socket}
@@ -143,17 +144,11 @@ pub lines-of : (start : Start) (text : List ℕ) (count : ℕ) (before after : O
     → Serves start text count before after log log' → GainsLines text count before after
 lines-of start text count before after log log' serves = (serves.0, serves.1, serves.2)
 
--- what is printed after a text that is printed first
-gains-behind : (text more : List ℕ) (before now after : Option (List ℕ)) → Gains before now text → Gains now after more
-    → Gains before after (text ++ more)
-gains-behind text more before now after first then = λ held is.
-    then (held ++ text) (first held is) ∙ ap (λ (t : List ℕ). Some t) (append_assoc held text more)
-
 -- lines after a text that is printed first
 pub lines-behind : (text : List ℕ) (count : ℕ) (before now after : Option (List ℕ)) → Gains before now text
     → GainsLines [] count now after → GainsLines text count before after
 lines-behind text count before now after first lines =
-    (lines.0, lines.1, gains-behind text (end_lines 1 lines.0) before now after first lines.2)
+    (lines.0, lines.1, gains-two before now after text (end_lines 1 lines.0) first lines.2)
 
 is-true : (allowed : Bool) → (allowed ≡ false → ⊥) → allowed ≡ true
 is-true false h = absurd (h refl)
@@ -170,7 +165,7 @@ listens start allowed port count before now after log mid log' (Ok u) first here
   (
     serves.0,
     serves.1,
-    gains-behind (listening_line port) (end_lines 1 serves.0) before now after first serves.2,
+    gains-two before now after (listening_line port) (end_lines 1 serves.0) first serves.2,
     subst (λ (l : Option (List Event)). HandlesAll start serves.0 l log') here serves.3,
   ),
 )
@@ -191,3 +186,10 @@ listens start allowed port count before now after log mid log' (Err Socket) firs
 pub listens-some : (start : Start) (port count : ℕ) (log mid log' : Option (List Event)) → mid ≡ grown log (Listening localhost port ∷ [])
     → HandlesSome start count mid log' → ListensSome start port count log log'
 listens-some start port count log mid log' here some = inr (subst (λ (l : Option (List Event)). HandlesSome start count l log') here some)
+
+-- the same, where what is written is said in another way
+pub serves-written : (start : Start) (count : ℕ) (k l before after : Option (List ℕ)) (log log' : Option (List Event)) (result : Result (Unit {0}) ServeFault)
+    → k ≡ before → l ≡ after → ServesAs start count k l log log' result → ServesAs start count before after log log' result
+serves-written start count k l before after log log' result kb la serves =
+    subst (λ (t : Option (List ℕ)). ServesAs start count t after log log' result) kb
+    (subst (λ (t : Option (List ℕ)). ServesAs start count k t log log' result) la serves)

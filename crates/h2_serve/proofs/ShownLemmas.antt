@@ -1,5 +1,5 @@
 -- What is printed of connections that are explained, one after another.
-use Rattle.std.proofs.Common.{◌≡◌, ◌<◌, ◌≤◌, ◌⊎◌, inr, ◌∙◌, ℕ, zero, suc, ◌+◌, Bool, true, false, List, [], ◌∷◌, ◌++◌, length, Option, Some, None, is_none, Result, Ok, Err, IfErr, IfOk, refl, sym, ap, subst, arith, append_assoc}
+use Rattle.std.proofs.Common.{◌≡◌, ◌<◌, ◌≤◌, ◌⊎◌, inr, ◌∙◌, ℕ, zero, suc, ◌+◌, Bool, true, false, List, [], ◌∷◌, ◌++◌, length, Option, Some, is_none, Result, Ok, Err, IfErr, IfOk, refl, sym, ap, subst, arith, append_assoc}
 use Rattle.std.proofs.lemmas.Bool.{false≢true}
 use Rattle.std.proofs.lemmas.List.{append-nil}
 use Rattle.std.specs.Io.KnownBytes.{Appends}
@@ -8,13 +8,14 @@ use Rattle.h2_serve.specs.declared.driving.drive_fault.DriveEnd.{DriveEnd}
 use Rattle.h2_serve.specs.declared.driving.drive_fault.DriveFault.{DriveFault}
 use Rattle.h2_explain.specs.declared.run.Form.{Form}
 use Rattle.h2_explain.specs.declared.run.Summary.{Summary}
-use Rattle.h2_serve.specs.Faults.{faults_limits, is_of_printing}
+use Rattle.h2_serve.specs.Faults.{faults_limits, is_of_printing, not_written}
 use Rattle.h2_serve.specs.Lines.{end_line, listening_line, open_line}
 use Rattle.h2_serve.specs.Numbered.{prefix_of, prefixed}
 use Rattle.h2_serve.specs.Drives.{HasRead, is_out_of_memory}
 use Rattle.h2_serve.specs.Wires.{grown}
 use Rattle.h2_serve.specs.Ports.{Accepted, Closed, Event, HandlesAll, HandlesSome, IsDriven, Seen, Start, turns_allowed}
-use Rattle.h2_serve.specs.Serves.{Gains, opening_fault}
+use Rattle.h2_serve.specs.Passes.{gains-of, gains-two, grew-more, grew-none}
+use Rattle.h2_serve.specs.Serves.{Gains, Grew, opening_fault}
 use Rattle.h2_serve.specs.Shown.{AreShown, GainsAllShown, GainsShown, GainsSomeShown, IsShown, no_clients, told_end, with_client}
 use Rattle.h2_serve.specs.ExplainedConns.{Explains, Shows}
 use Rattle.h2_serve.proofs.ServeLemmas.{drives-client, events-of, handles-then}
@@ -24,17 +25,8 @@ use Rattle.h2_serve.specs.declared.explained.explained_conn.Conclusion.{Conclusi
 use Rattle.h2_serve.specs.declared.fault.ServeFault.{ServeFault}
 use Rattle.h2_serve.specs.declared.fault.ServeFault.TheVariants.{BadConfig, NoMemory, Socket, Write}
 
-appended : (l m : Option (List ℕ)) (xs b : List ℕ) → Appends l m b → l ≡ Some xs → m ≡ Some (xs ++ b)
-appended None m xs b h e = cc
-appended (Some ys) None xs b h e = absurd h
-appended (Some ys) (Some zs) xs b h e =
-    let same : ys ≡ xs = cc e in
-    ap (λ (t : List ℕ). Some t) (h ∙ ap (λ (t : List ℕ). t ++ b) same)
-
 gains-three : (k l m n : Option (List ℕ)) (a b c : List ℕ) → Gains k l a → Appends l m b → Gains m n c → Gains k n (a ++ (b ++ c))
-gains-three k l m n a b c x y z = λ held is.
-    z ((held ++ a) ++ b) (appended l m (held ++ a) b y (x held is))
-    ∙ ap (λ (t : List ℕ). Some t) (append_assoc (held ++ a) b c ∙ append_assoc held a (b ++ c))
+gains-three k l m n a b c x y z = gains-two k l n a (b ++ c) x (gains-two l m n b c (gains-of l m b y) z)
 
 -- ---- one connection
 
@@ -220,3 +212,22 @@ listens-limits allowed front k l n log log' (Ok clients) first told = tt
 listens-limits allowed front k l n log log' (Err fault) first told = λ limits.
     let is = told limits in
     (is.0, subst (λ (t : Option (List ℕ)). Gains k t front) (sym is.1) first)
+
+-- ---- whatever fault ended it, the output gained some text, unless it failed
+
+-- what was printed of connections, and then some text
+pub grew-shown : (form : Form) (start : Start) (front : List ℕ) (count : ℕ) (c : Clients) (k l m : Option (List ℕ)) (log log' : Option (List Event))
+    → GainsAllShown form start front count c k l log log' → Grew l m → Grew k m
+grew-shown form start front count c k l m log log' lines more = grew-more k l m (front ++ lines.0, lines.2) more
+
+-- an output that is as it was
+pub grew-same : (k l : Option (List ℕ)) → l ≡ k → Grew k l
+grew-same k l same = subst (λ (t : Option (List ℕ)). Grew k t) (sym same) (grew-none k)
+
+-- the line that a connection is open, its explanation, and the line of its end
+pub grew-next : {X Y : Type 0} (shown : Result X ServeFault) (result : Result Y ServeFault) (front : List ℕ) (k l m n : Option (List ℕ))
+    → Gains k l front → (not_written shown ≡ false → Grew l m) → (not_written result ≡ false → (not_written shown ≡ false) × Grew m n)
+    → not_written result ≡ false → Grew k n
+grew-next shown result front k l m n first explained ended well =
+    let end = ended well in
+    grew-more k l n (front, first) (grew-more l m n (explained end.0) end.1)

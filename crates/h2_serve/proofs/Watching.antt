@@ -21,9 +21,11 @@ use Rattle.h2_explain.proofs.Steps.{new-begins, new-explains}
 use Rattle.h2_serve.specs.declared.explained.explained_conn.Conclusion.{Conclusion}
 use Rattle.h2_serve.specs.declared.fault.ServeFault.{ServeFault}
 use Rattle.h2_serve.specs.declared.fault.TextFault.{TextFault}
-use Rattle.h2_serve.specs.Numbered.{PrintsPrefixed, fresh_after, gathered_text, prefix_of, prefixed}
+use Rattle.h2_serve.specs.Faults.{failed_by}
+use Rattle.h2_serve.specs.Serves.{Grew}
+use Rattle.h2_serve.specs.Numbered.{Grows, PrintsPrefixed, fresh_after, gathered_text, prefix_of, prefixed}
 use Rattle.h2_serve.specs.ExplainedConns.{Concludes, GoesOn, IsWatched, IsExplained, Shows, whole}
-use Rattle.h2_serve.specs.Passes.{prints-then}
+use Rattle.h2_serve.specs.Passes.{grew-more, not-before, prints-then}
 
 -- whatever comes, what was said so far is an explanation that is cut short
 pub cut-now : {A : Type 0} (form : Form) (s : State) (b octets text : List ℕ) (c : Connection) (e : RunExplainer A)
@@ -190,3 +192,23 @@ shown-read form number (Ok summary) refused failed s octets c c' e e' p q j k f 
       subst (λ (t : Option (List ℕ)). Shows form number summary s t after octets) lb
           (subst (λ (t : Option (List ℕ)). Shows form number summary s l t octets) na shows),
     )
+
+-- ---- the output, whatever was printed
+
+-- a printer that has not failed at the end had not failed before, and the output gained some text
+pub grew-well : (x y : Option TextFault) (k l m : Option (List ℕ)) → Grows x y k l → m ≡ l → failed_by y ≡ false
+    → (failed_by x ≡ false) × Grew k m
+grew-well x y k l m grows is well = (
+  not-before (failed_by x) (failed_by y) grows.0 well,
+  subst (λ (t : Option (List ℕ)). Grew k t) (sym is) (grows.1 well),
+)
+
+pub flag-read : (a b flag : Bool) → a ≡ b → a ≡ flag → b ≡ flag
+flag-read a b flag same is = sym same ∙ is
+
+pub grew-read : (x y : Option TextFault) (l m n before after : Option (List ℕ)) (unwritten : Bool) → l ≡ before → n ≡ after
+    → Grows x y l m → (unwritten ≡ false → (failed_by y ≡ false) × Grew m n) → unwritten ≡ false → Grew before after
+grew-read x y l m n before after unwritten lb na grows ends well =
+    let end = ends well in
+    subst (λ (t : Option (List ℕ)). Grew t after) lb
+    (subst (λ (t : Option (List ℕ)). Grew l t) na (grew-more l m n (grows.1 end.0) end.1))

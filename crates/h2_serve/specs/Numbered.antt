@@ -2,6 +2,8 @@
 use Rattle.std.specs.Prelude.{◌≡◌, ℕ, ◌++◌, ◌==◌, Bool, true, false, List, [], ◌∷◌, Option, None, codes, decimal}
 use Rattle.std.specs.Io.KnownBytes.{Appends}
 use Rattle.h2_spec.specs.Texts.Show.{joined}
+use Rattle.h2_serve.specs.Faults.{failed_by}
+use Rattle.h2_serve.specs.Serves.{Grew}
 use Rattle.h2_serve.specs.declared.fault.TextFault.{TextFault}
 
 -- what each line of a connection begins with: its number; in JSON its first member
@@ -30,6 +32,10 @@ abbrev pub PrintsPrefixed : (prefix : List ℕ) → (json fresh : Bool) → (fau
     → List ℕ → (fresh' : Bool) → (fault' : Option TextFault) → (after : Option (List ℕ)) → Type 0
 PrintsPrefixed prefix json fresh fault before t fresh' fault' after =
     fault' ≡ None → (fault ≡ None) × (fresh' ≡ fresh_after fresh t) × Appends before after (prefixed prefix json fresh t)
+
+-- unless the output failed, it gained some text; what failed earlier has failed
+abbrev pub Grows : (fault fault' : Option TextFault) → (before after : Option (List ℕ)) → Type 0
+Grows fault fault' before after = (failed_by fault ≡ true → failed_by fault' ≡ true) × (failed_by fault' ≡ false → Grew before after)
 
 -- what is printed of what was gathered: nothing where memory for some of it was refused
 abbrev pub gathered_text : (failed : Bool) → List ℕ → List ℕ

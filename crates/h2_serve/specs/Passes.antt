@@ -1,11 +1,14 @@
 -- The laws of `Driven`: what is printed for pieces, one after another, is what is printed for all of their octets.
-use Rattle.std.proofs.Common.{◌≡◌, ◌∙◌, ℕ, Bool, false, List, [], ◌∷◌, ◌++◌, ◌==◌, Option, Some, None, refl, sym, ap, subst, append_assoc}
+use Rattle.std.proofs.Common.{◌≡◌, ◌∙◌, ℕ, Bool, true, false, List, [], ◌∷◌, ◌++◌, ◌==◌, Option, Some, None, refl, sym, ap, subst, append_assoc}
+use Rattle.std.proofs.lemmas.Bool.{false≢true}
 use Rattle.std.proofs.lemmas.List.{append-nil}
 use Rattle.std.proofs.KnownBytes.{Appends-trans}
 use Rattle.std.specs.Io.KnownBytes.{Appends}
 use Rattle.h2_conn.specs.Connection.{Connection}
 use Rattle.h2_explain.specs.declared.run_explainer.RunExplainer.{RunExplainer}
-use Rattle.h2_serve.specs.Numbered.{PrintsPrefixed, fresh_after, prefixed, prefixed_octet}
+use Rattle.h2_serve.specs.Faults.{failed_by}
+use Rattle.h2_serve.specs.Serves.{Gains, Grew}
+use Rattle.h2_serve.specs.Numbered.{Grows, PrintsPrefixed, fresh_after, prefixed, prefixed_octet}
 use Rattle.h2_serve.specs.ExplainedConns.{GoesOn, IsExplained}
 use Rattle.h2_serve.specs.declared.fault.TextFault.{TextFault}
 
@@ -50,6 +53,39 @@ prints-then p q json other f g h x y z k l m a b same also one two =
     prints-more p json f g h x y z k l m a b one
     (subst (λ (r : List ℕ). PrintsPrefixed r json g y l b h z m) same
     (subst (λ (j : Bool). PrintsPrefixed q j g y l b h z m) also two))
+
+-- an output that is as it was, gained nothing
+pub grew-none : (known : Option (List ℕ)) → Grew known known
+grew-none known = ([], λ held is. is ∙ ap (λ (t : List ℕ). Some t) (sym (append-nil held)))
+
+pub gains-two : (k l m : Option (List ℕ)) (a b : List ℕ) → Gains k l a → Gains l m b → Gains k m (a ++ b)
+gains-two k l m a b first then = λ held is. then (held ++ a) (first held is) ∙ ap (λ (t : List ℕ). Some t) (append_assoc held a b)
+
+-- the same, where what is known may be nothing
+pub gains-of : (k l : Option (List ℕ)) (b : List ℕ) → Appends k l b → Gains k l b
+gains-of None l b h held is = cc
+gains-of (Some xs) None b h held is = absurd h
+gains-of (Some xs) (Some ys) b h held is =
+    let same : xs ≡ held = cc is in
+    ap (λ (t : List ℕ). Some t) (h ∙ ap (λ (t : List ℕ). t ++ b) same)
+
+-- some text, and then some more
+pub grew-more : (k l m : Option (List ℕ)) → Grew k l → Grew l m → Grew k m
+grew-more k l m first then = (first.0 ++ then.0, gains-two k l m first.0 then.0 first.1 then.1)
+
+pub grows-none : (fault : Option TextFault) (known : Option (List ℕ)) → Grows fault fault known known
+grows-none fault known = ((λ e. e), λ e. grew-none known)
+
+-- what has not failed, had not failed earlier
+pub not-before : (a b : Bool) → (a ≡ true → b ≡ true) → b ≡ false → a ≡ false
+not-before true b stays is = absurd (false≢true (sym is ∙ stays refl))
+not-before false b stays is = refl
+
+pub grows-more : (x y z : Option TextFault) (k l m : Option (List ℕ)) → Grows x y k l → Grows y z l m → Grows x z k m
+grows-more x y z k l m one two = (
+  (λ e. two.0 (one.0 e)),
+  λ well. grew-more k l m (one.1 (not-before (failed_by y) (failed_by z) two.0 well)) (two.1 well),
+)
 
 -- no octets came, and nothing was said
 pub goes-none : {A : Type 0} (P : List ℕ → Type 0) (c : Connection) (e : RunExplainer A) → P [] → GoesOn false c e P [] c e

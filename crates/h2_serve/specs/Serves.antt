@@ -17,6 +17,10 @@ opening_fault false = BadConfig
 abbrev pub Gains : Option (List ℕ) → Option (List ℕ) → List ℕ → Type 0
 Gains before after text = (held : List ℕ) → before ≡ Some held → after ≡ Some (held ++ text)
 
+-- the output gained some text
+abbrev pub Grew : Option (List ℕ) → Option (List ℕ) → Type 0
+Grew before after = (text : List ℕ) × Gains before after text
+
 -- after some text the output gained the lines of that many connections, numbered from 1
 abbrev pub GainsLines : List ℕ → ℕ → Option (List ℕ) → Option (List ℕ) → Type 0
 GainsLines text count before after = (ends : List (Result DriveEnd DriveFault)) × (length ends ≡ count)

@@ -1,6 +1,6 @@
 -- What a server prints of connections that are explained, where the octets that its output holds are known; and the
 -- verdict on their clients.
-use Rattle.std.specs.Prelude.{◌≡◌, ◌<◌, ℕ, zero, suc, ◌+◌, ◌++◌, Bool, ◌||◌, if◌then◌else◌, true, false, List, [], ◌∷◌, Option, Some, None, is_none, is_some, Result, Ok, Err, IfErr}
+use Rattle.std.specs.Prelude.{◌≡◌, ◌<◌, ℕ, zero, suc, ◌+◌, ◌++◌, Bool, ◌||◌, if◌then◌else◌, true, false, List, [], ◌∷◌, Option, Some, None, is_none, is_some, Result, Ok, Err}
 use Rattle.h2_serve.specs.Drives.{is_out_of_memory}
 use Rattle.h2_serve.specs.Wires.{grown}
 use Rattle.h2_serve.specs.declared.driving.drive_fault.DriveEnd.{DriveEnd}
@@ -9,7 +9,7 @@ use Rattle.h2_serve.specs.declared.driving.drive_fault.DriveFault.TheVariants as
 use Rattle.h2_explain.specs.Verdicts.{strict_status}
 use Rattle.h2_explain.specs.declared.run.Form.{Form}
 use Rattle.h2_explain.specs.declared.run.Summary.{Summary}
-use Rattle.h2_serve.specs.Faults.{is_of_printing}
+use Rattle.h2_serve.specs.Faults.{is_write, not_written}
 use Rattle.h2_serve.specs.Lines.{end_line, open_line}
 use Rattle.h2_serve.specs.Numbered.{prefix_of, prefixed}
 use Rattle.h2_serve.specs.Ports.{Accepted, Closed, DrivesClient, Event, Seen, Start}
@@ -83,3 +83,8 @@ GainsAllShown form start front count clients before after log log' =
 abbrev pub GainsSomeShown : Form → Start → List ℕ → (count : ℕ) → (before after : Option (List ℕ)) → (log log' : Option (List Event)) → Type 0
 GainsSomeShown form start front count before after log log' =
     (shown : ℕ) × (shown < count) × ((clients : Clients) × GainsAllShown form start front shown clients before after log log')
+
+-- whether the output failed while a connection was explained
+abbrev pub unwritten : Result ClientEnd ServeFault → Bool
+unwritten (Ok x) = not_written x.conclusion
+unwritten (Err fault) = is_write fault

@@ -1,7 +1,7 @@
 //! Why a server stops, numbered as the faults of all crates are. Definitions: `specs/Serves.antt`.
 
-ghost use Rattle.std.specs.Prelude.{◌≡◌, true};
-ghost use Rattle.h2_serve.specs.Faults.{fault_number, is_of_printing};
+ghost use Rattle.std.specs.Prelude.{◌≡◌, Some, true};
+ghost use Rattle.h2_serve.specs.Faults.{failed_by, fault_number, is_of_printing, is_write};
 
 use thiserror::Error;
 
@@ -34,6 +34,13 @@ impl ServeFault {
             ServeFault::Socket => 28,
         }
     }
+
+    /// Whether the output failed.
+    pub(crate) fn is_write(self) -> bool
+        ensures { result ≡ is_write self }
+    {
+        matches!(self, ServeFault::Write)
+    }
 }
 
 /// Why a text was not printed.
@@ -48,7 +55,8 @@ pub(crate) enum TextFault {
 impl TextFault {
     /// This fault of a connection, as a fault of a server.
     pub(crate) fn of_server(self) -> ServeFault
-        ensures { is_of_printing result ≡ true }
+        ensures printing { is_of_printing result ≡ true }
+        ensures write { is_write result ≡ failed_by (Some self) }
     {
         match self {
             TextFault::NoMemory => ServeFault::NoMemory,

@@ -1,22 +1,20 @@
 //! The lines that a server prints. Definitions: `specs/Lines.antt`.
 
-ghost use Rattle.std.specs.Prelude.{Some};
 ghost use Rattle.h2_serve.specs.Lines.{end_line, listening_line, open_line};
 
 use crate::{DriveEnd, DriveFault};
-use std::fmt;
+use h2_io::{DeviceFault, Number, Output, Text, texts};
 
 /// `listening PORT`.
 #[derive(Clone, Copy)]
 pub struct ListeningLine(pub u16);
 
 #[tactic(auto, unfolding(crate::specs::Lines::listening_line))]
-impl fmt::Display for ListeningLine {
-    ghost output = { λ x. Some (listening_line x.0) };
+impl Text for ListeningLine {
+    ghost text = { λ x. listening_line x.0 };
 
-    fn fmt<W: fmt::Write>(&self, f: &mut fmt::Formatter<W>) -> fmt::Result {
-        let port = self.0;
-        write!(f, "listening {port}\n")
+    fn write_to<O: Output>(&self, output: &mut O) -> Result<(), DeviceFault> {
+        texts!("listening ", Number(u64::from(self.0)), "\n").write_to(output)
     }
 }
 
@@ -25,12 +23,11 @@ impl fmt::Display for ListeningLine {
 pub struct OpenLine(pub u32);
 
 #[tactic(auto, unfolding(crate::specs::Lines::open_line))]
-impl fmt::Display for OpenLine {
-    ghost output = { λ x. Some (open_line x.0) };
+impl Text for OpenLine {
+    ghost text = { λ x. open_line x.0 };
 
-    fn fmt<W: fmt::Write>(&self, f: &mut fmt::Formatter<W>) -> fmt::Result {
-        let number = self.0;
-        write!(f, "connection {number} open\n")
+    fn write_to<O: Output>(&self, output: &mut O) -> Result<(), DeviceFault> {
+        texts!("connection ", Number(u64::from(self.0)), " open\n").write_to(output)
     }
 }
 
@@ -44,17 +41,20 @@ pub struct EndLine {
 }
 
 #[tactic(auto, unfolding(crate::specs::Lines::end_line))]
-impl fmt::Display for EndLine {
-    ghost output = { λ x. Some (end_line x.number x.end) };
+impl Text for EndLine {
+    ghost text = { λ x. end_line x.number x.end };
 
-    fn fmt<W: fmt::Write>(&self, f: &mut fmt::Formatter<W>) -> fmt::Result {
-        let number = self.number;
+    fn write_to<O: Output>(&self, output: &mut O) -> Result<(), DeviceFault> {
+        let number = Number(u64::from(self.number));
         match self.end {
-            Ok(DriveEnd::Input) => write!(f, "connection {number} end input\n"),
-            Ok(DriveEnd::Goaway(code)) => write!(f, "connection {number} end goaway {code}\n"),
+            Ok(DriveEnd::Input) => texts!("connection ", number, " end input\n").write_to(output),
+            Ok(DriveEnd::Goaway(code)) => {
+                let code = Number(u64::from(code));
+                texts!("connection ", number, " end goaway ", code, "\n").write_to(output)
+            }
             Err(fault) => {
-                let fault = fault.number();
-                write!(f, "connection {number} fault {fault}\n")
+                let fault = Number(u64::from(fault.number()));
+                texts!("connection ", number, " fault ", fault, "\n").write_to(output)
             }
         }
     }

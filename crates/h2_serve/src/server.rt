@@ -1,13 +1,14 @@
 //! The clients of a port, one after another. Definitions: `specs/Lines.antt`, `specs/Ports.antt` and `specs/Serves.antt`.
 
-ghost use Rattle.std.specs.Prelude.{◌≡◌, ◌⊎◌, ◌++◌, [], ◌∷◌, None, true, false, Ok, Err, IfErr, IfOk, IfSome, OnOk, OnErr};
+ghost use Rattle.std.specs.Prelude.{◌≡◌, ◌⊎◌, ◌++◌, [], ◌∷◌, None, true, false, Ok, Err, IfErr, IfOk, OnOk, OnErr};
 ghost use Rattle.h2_spec.specs.State.{is_allowed, opening};
 ghost use Rattle.h2_spec.specs.Opening.{opening_octets};
 ghost use Rattle.h2_conn.specs.Connection.{going};
 ghost use Rattle.h2_serve.specs.Wires.{grown};
 ghost use Rattle.h2_serve.specs.Ports.{HandlesSome, Listening, ListensSome, localhost, start_of};
+ghost use Rattle.h2_serve.specs.Faults.{not_written};
 ghost use Rattle.h2_serve.specs.Lines.{listening_line};
-ghost use Rattle.h2_serve.specs.Serves.{AcceptsAs, Gains, ListensAs, ServesAs, opening_fault};
+ghost use Rattle.h2_serve.specs.Serves.{AcceptsAs, Gains, Grew, ListensAs, ServesAs, opening_fault};
 
 use crate::drive;
 use crate::fault::ServeFault;
@@ -15,10 +16,10 @@ use crate::lines::{EndLine, ListeningLine};
 use crate::port::{Listener, Port, TcpClients};
 use h2_conn::{Conn, ConnFault};
 use h2_frame::{Outbox, Outgoing};
+use h2_io::{IntoWrite, Output, Text};
 use h2_request_book::book::Book;
 use h2_spec::connection::Config;
 use std::alloc::Global;
-use std::fmt::Display;
 use std::io::Write;
 use std::net::TcpListener;
 
@@ -26,11 +27,15 @@ use std::net::TcpListener;
 pub(crate) const TURNS: u32 = 1_000_000;
 
 /// Writes a line, and flushes the output so that its reader sees the line at once.
-pub(crate) fn print<W: Write, D: Display + Drop>(output: &mut W, line: D) -> Result<(), ServeFault>
-    ensures ok { OnOk result (IfSome (D.output line) (Gains (W.contents output.old) (W.contents output.new))) }
+pub(crate) fn print<O: Output, T: Text>(output: &mut O, line: &T) -> Result<(), ServeFault>
+    requires writer { O.has_failed output.old ≡ false }
+    ensures ok { OnOk result (Gains (O.written output.old) (O.written output.new) (T.text line.now)) }
     ensures err { IfErr result (λ fault. fault ≡ ServeFault.Write) }
+    ensures grew { not_written result ≡ false → Grew (O.written output.old) (O.written output.new) }
+    ensures flag { O.has_failed output.new ≡ not_written result }
+    ensures name { O.name output.new ≡ O.name output.old }
 {
-    match output.write_fmt(line) {
+    match line.write_to(output) {
         Ok(()) => {}
         Err(_) => return Err(ServeFault::Write),
     }
@@ -59,17 +64,21 @@ pub(crate) fn open<'b, O: Outgoing<'b, Global>>(
 }
 
 /// Accepts a client, drives its connection to its end, closes its wire, and prints its line.
-fn serve_next<L: Listener, W: Write>(
+fn serve_next<L: Listener, O: Output>(
     alloc: Global,
     listener: &mut L,
     book: &Book<Global>,
     config: Config,
     number: u32,
-    output: &mut W,
+    output: &mut O,
 ) -> Result<(), ServeFault>
-    requires { is_allowed config ≡ true }
-    ensures lines { AcceptsAs (start_of book.now config) number (W.contents output.old) (W.contents output.new) (L.events listener.old) (L.events listener.new) result }
+    requires allowed { is_allowed config ≡ true }
+    requires writer { O.has_failed output.old ≡ false }
+    ensures lines { AcceptsAs (start_of book.now config) number (O.written output.old) (O.written output.new)
+        (L.events listener.old) (L.events listener.new) result }
     ensures wires { HandlesSome (start_of book.now config) 1 (L.events listener.old) (L.events listener.new) }
+    ensures flag { O.has_failed output.new ≡ not_written result }
+    ensures name { O.name output.new ≡ O.name output.old }
 {
     let mut wire = match listener.accept() {
         Ok(wire) => wire,
@@ -82,7 +91,7 @@ fn serve_next<L: Listener, W: Write>(
     };
     let end = drive(&mut conn, &mut out, &mut wire, TURNS);
     listener.close(wire);
-    print(output, EndLine { number, end })
+    print(output, &EndLine { number, end })
 }
 
 /// Serves `count` connections of a listener, one after another, and prints a line about how each of them ended:
@@ -91,8 +100,9 @@ fn serve_next<L: Listener, W: Write>(
 /// - `connection K end goaway CODE`: a connection error ended the connection (RFC 9113, 5.4.1).
 /// - `connection K fault N`: the connection could not be driven to its end; N is the number of a `DriveFault`.
 ///
-/// The first connection is 1. Each line is flushed. Whatever a client does ends its own connection only. A client
-/// that sends nothing and stays connected blocks the next one: there is no timeout.
+/// The last call of the output must not have failed. The first connection is 1. Each line is flushed. Whatever a client
+/// does ends its own connection only. A client that sends nothing and stays connected blocks the next one: there is no
+/// timeout.
 ///
 /// # Errors
 ///
@@ -102,19 +112,22 @@ fn serve_next<L: Listener, W: Write>(
 /// - `NoMemory` where there is no memory for a new connection.
 ///
 /// After `Socket` and `NoMemory` the lines of the connections before are printed.
-pub fn serve_over<L: Listener, W: Write>(
+pub fn serve_over<L: Listener, O: Output>(
     alloc: Global,
     listener: &mut L,
     book: &Book<Global>,
     config: Config,
     count: u32,
-    output: &mut W,
+    output: &mut O,
 ) -> Result<(), ServeFault>
+    requires writer { O.has_failed output.old ≡ false }
     ensures refused { is_allowed config ≡ false → result ≡ Err ServeFault.BadConfig }
     ensures allowed { result ≡ Err ServeFault.BadConfig → is_allowed config ≡ false }
-    ensures lines { ServesAs (start_of book.now config) count (W.contents output.old) (W.contents output.new)
+    ensures lines { ServesAs (start_of book.now config) count (O.written output.old) (O.written output.new)
         (L.events listener.old) (L.events listener.new) result }
     ensures wires { HandlesSome (start_of book.now config) count (L.events listener.old) (L.events listener.new) }
+    ensures flag { O.has_failed output.new ≡ not_written result }
+    ensures name { O.name output.new ≡ O.name output.old }
 {
     match open(book, config, &mut Vec::new(alloc)) {
         Ok(_) => {}
@@ -146,33 +159,36 @@ pub fn serve_on<W: Write>(
     ensures allowed { result ≡ Err ServeFault.BadConfig → is_allowed config ≡ false }
     ensures lines { ServesAs (start_of book.now config) count (W.contents output.old) (W.contents output.new) None None result }
 {
-    serve_over(
-        alloc,
-        &mut TcpClients::new(listener),
-        book,
-        config,
-        count,
-        output,
-    )
+    let mut into = IntoWrite::new(output);
+    let mut clients = TcpClients::new(listener);
+    let served = serve_over(alloc, &mut clients, book, config, count, &mut into);
+    // The proof reads what the output holds from this use of the reference.
+    let writer = into.into_inner();
+    let _ = &*writer;
+    served
 }
 
 /// Listens on `port` of 127.0.0.1, and prints `listening PORT`.
 ///
 /// `Socket` where the port cannot be listened on: nothing was printed. `Write` where the line could not be written.
-pub(crate) fn listen<P: Port, W: Write>(
+pub(crate) fn listen<P: Port, O: Output>(
     net: &mut P,
     port: u16,
-    output: &mut W,
+    output: &mut O,
 ) -> Result<(), ServeFault>
-    ensures ok { OnOk result (Gains (W.contents output.old) (W.contents output.new) (listening_line port)) }
+    requires writer { O.has_failed output.old ≡ false }
+    ensures ok { OnOk result (Gains (O.written output.old) (O.written output.new) (listening_line port)) }
     ensures err { IfErr result (λ fault. (fault ≡ ServeFault.Write)
-        ⊎ ((fault ≡ ServeFault.Socket) × (W.contents output.new ≡ W.contents output.old))) }
+        ⊎ ((fault ≡ ServeFault.Socket) × (O.written output.new ≡ O.written output.old))) }
     ensures wires { OnOk result (P.Listener.events net.new ≡ grown (P.Listener.events net.old) (Listening localhost port ∷ [])) }
     ensures few { OnErr result ((P.Listener.events net.new ≡ P.Listener.events net.old)
         ⊎ (P.Listener.events net.new ≡ grown (P.Listener.events net.old) (Listening localhost port ∷ []))) }
+    ensures flag { O.has_failed output.new ≡ not_written result }
+    ensures grew { not_written result ≡ false → Grew (O.written output.old) (O.written output.new) }
+    ensures name { O.name output.new ≡ O.name output.old }
 {
     match net.listen([127, 0, 0, 1], port) {
-        Ok(()) => print(output, ListeningLine(port)),
+        Ok(()) => print(output, &ListeningLine(port)),
         Err(_) => Err(ServeFault::Socket),
     }
 }
@@ -183,18 +199,21 @@ pub(crate) fn listen<P: Port, W: Write>(
 ///
 /// `Socket` where the port cannot be listened on: nothing was printed. Then those of `serve_over`, after the line
 /// `listening PORT`.
-pub fn listen_and_serve<P: Port, W: Write>(
+pub fn listen_and_serve<P: Port, O: Output>(
     alloc: Global,
     net: &mut P,
     book: &Book<Global>,
     config: Config,
     port: u16,
     count: u32,
-    output: &mut W,
+    output: &mut O,
 ) -> Result<(), ServeFault>
-    ensures lines { ListensAs (start_of book.now config) (is_allowed config) port count (W.contents output.old) (W.contents output.new)
+    requires writer { O.has_failed output.old ≡ false }
+    ensures lines { ListensAs (start_of book.now config) (is_allowed config) port count (O.written output.old) (O.written output.new)
         (P.Listener.events net.old) (P.Listener.events net.new) result }
     ensures wires { ListensSome (start_of book.now config) port count (P.Listener.events net.old) (P.Listener.events net.new) }
+    ensures flag { O.has_failed output.new ≡ not_written result }
+    ensures name { O.name output.new ≡ O.name output.old }
 {
     match listen(net, port, output) {
         Ok(()) => {}

@@ -21,6 +21,16 @@ pub fn octets_up_to(octets: &[u8], end: usize) -> &[u8]
     &octets[..end]
 }
 
+/// The first `count` octets; all where there are fewer.
+pub fn first_octets(octets: &[u8], count: usize) -> &[u8]
+    ensures { result.now ≡ take count octets.now }
+{
+    if octets.len() < count {
+        return octets;
+    }
+    octets_up_to(octets, count)
+}
+
 /// Takes out the first octets, this many; those after them are moved to the front once. Where they are none, nothing
 /// moves.
 pub fn drop_front<A: Allocator>(octets: &mut Vec<u8, A>, count: usize)

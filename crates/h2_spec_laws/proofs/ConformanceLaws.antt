@@ -1,5 +1,5 @@
 -- What this server does conforms: each row by computation. And what a row allows, it allows in other forms too.
-use Rattle.std.proofs.Common.{◌≡◌, ◌×◌, ℕ, Bool, true, false, ◌||◌, refl}
+use Rattle.std.proofs.Common.{◌≡◌, ℕ, Bool, true, false, ◌||◌, refl}
 use Rattle.std.specs.Prelude.{if◌then◌else◌}
 use Rattle.h2_spec.specs.declared.accepted.Accepted.{Accepted}
 use Rattle.h2_spec.specs.declared.accepted.Accepted.TheVariants as accepted
@@ -25,35 +25,35 @@ use Rattle.h2_spec_laws.specs.Conformance.{has_its_least, permission_of_case, pe
 
 pub error-conforms : (it : Cause) → allows (row_of it).conforming (seen_of it) ≡ Allowed
 unfolding row_of
-error-conforms it = elim it [ cause.BadPreface ↦ refl | cause.FirstNotSettings ↦ refl | cause.FirstIsSettingsAck ↦ refl | cause.FrameTooLarge ↦ refl | cause.StreamFrameTooLarge ↦ refl | cause.BlockInterrupted ↦ refl | cause.DataOnStreamZero ↦ refl | cause.HeadersOnStreamZero ↦ refl | cause.PriorityOnStreamZero ↦ refl | cause.RstStreamOnStreamZero ↦ refl | cause.ContinuationOnStreamZero ↦ refl | cause.SettingsOnStream ↦ refl | cause.PingOnStream ↦ refl | cause.GoawayOnStream ↦ refl | cause.DataLength ↦ refl | cause.HeadersLength ↦ refl | cause.PriorityLength ↦ refl | cause.RstStreamLength ↦ refl | cause.SettingsLength ↦ refl | cause.SettingsAckLength ↦ refl | cause.PingLength ↦ refl | cause.GoawayLength ↦ refl | cause.WindowUpdateLength ↦ refl | cause.DataPadding ↦ refl | cause.HeadersPadding ↦ refl | cause.PushPromiseFromClient ↦ refl | cause.ContinuationOutsideBlock ↦ refl | cause.DataOnIdle ↦ refl | cause.DataOnSkipped ↦ refl | cause.DataAfterEndStream ↦ refl | cause.DataOnClosed ↦ refl | cause.HeadersOnEven ↦ refl | cause.HeadersOnSkipped ↦ refl | cause.HeadersAfterEndStream ↦ refl | cause.HeadersOnClosed ↦ refl | cause.RstStreamOnIdle ↦ refl | cause.WindowUpdateOnIdle ↦ refl | cause.ConnectionWindowExceeded ↦ refl | cause.StreamWindowExceeded ↦ refl | cause.ConnectionIncrementZero ↦ refl | cause.StreamIncrementZero ↦ refl | cause.ConnectionWindowOverflow ↦ refl | cause.StreamWindowOverflow ↦ refl | cause.EnablePushValue ↦ refl | cause.InitialWindowSizeValue ↦ refl | cause.MaxFrameSizeValue ↦ refl | cause.InitialWindowSizeOverflow ↦ refl | cause.BlockTooLarge ↦ refl | cause.BlockTruncated ↦ refl | cause.IntegerTooLong ↦ refl | cause.IndexZero ↦ refl | cause.IndexOutOfTables ↦ refl | cause.HuffmanString ↦ refl | cause.SizeUpdateLate ↦ refl | cause.SizeUpdateTooLarge ↦ refl | cause.SizeUpdateMissing ↦ refl | cause.TooManyStreams ↦ refl | cause.ListTooLarge ↦ refl | cause.BadName ↦ refl | cause.BadValue ↦ refl | cause.LatePseudoField ↦ refl | cause.UnknownPseudoField ↦ refl | cause.DoublePseudoField ↦ refl | cause.LackingPseudoField ↦ refl | cause.ConnectionField ↦ refl | cause.BadTe ↦ refl | cause.BadContentLength ↦ refl | cause.ContentMissing ↦ refl | cause.ContentTooLong ↦ refl | cause.ContentTooShort ↦ refl | cause.TrailersWithoutEndStream ↦ refl | cause.TrailersBadName ↦ refl | cause.TrailersBadValue ↦ refl | cause.TrailersPseudoField ↦ refl | cause.TrailersConnectionField ↦ refl | cause.TrailersBadTe ↦ refl ]
+error-conforms it = elim it as (λ k. allows (row_of k).conforming (seen_of k) ≡ Allowed) [ cause.BadPreface ↦ refl | cause.FirstNotSettings ↦ refl | cause.FirstIsSettingsAck ↦ refl | cause.FrameTooLarge ↦ refl | cause.StreamFrameTooLarge ↦ refl | cause.BlockInterrupted ↦ refl | cause.DataOnStreamZero ↦ refl | cause.HeadersOnStreamZero ↦ refl | cause.PriorityOnStreamZero ↦ refl | cause.RstStreamOnStreamZero ↦ refl | cause.ContinuationOnStreamZero ↦ refl | cause.SettingsOnStream ↦ refl | cause.PingOnStream ↦ refl | cause.GoawayOnStream ↦ refl | cause.DataLength ↦ refl | cause.HeadersLength ↦ refl | cause.PriorityLength ↦ refl | cause.RstStreamLength ↦ refl | cause.SettingsLength ↦ refl | cause.SettingsAckLength ↦ refl | cause.PingLength ↦ refl | cause.GoawayLength ↦ refl | cause.WindowUpdateLength ↦ refl | cause.DataPadding ↦ refl | cause.HeadersPadding ↦ refl | cause.PushPromiseFromClient ↦ refl | cause.ContinuationOutsideBlock ↦ refl | cause.DataOnIdle ↦ refl | cause.DataOnSkipped ↦ refl | cause.DataAfterEndStream ↦ refl | cause.DataOnClosed ↦ refl | cause.HeadersOnEven ↦ refl | cause.HeadersOnSkipped ↦ refl | cause.HeadersAfterEndStream ↦ refl | cause.HeadersOnClosed ↦ refl | cause.RstStreamOnIdle ↦ refl | cause.WindowUpdateOnIdle ↦ refl | cause.ConnectionWindowExceeded ↦ refl | cause.StreamWindowExceeded ↦ refl | cause.ConnectionIncrementZero ↦ refl | cause.StreamIncrementZero ↦ refl | cause.ConnectionWindowOverflow ↦ refl | cause.StreamWindowOverflow ↦ refl | cause.EnablePushValue ↦ refl | cause.InitialWindowSizeValue ↦ refl | cause.MaxFrameSizeValue ↦ refl | cause.InitialWindowSizeOverflow ↦ refl | cause.BlockTooLarge ↦ refl | cause.BlockTruncated ↦ refl | cause.IntegerTooLong ↦ refl | cause.IndexZero ↦ refl | cause.IndexOutOfTables ↦ refl | cause.HuffmanString ↦ refl | cause.SizeUpdateLate ↦ refl | cause.SizeUpdateTooLarge ↦ refl | cause.SizeUpdateMissing ↦ refl | cause.TooManyStreams ↦ refl | cause.ListTooLarge ↦ refl | cause.BadName ↦ refl | cause.BadValue ↦ refl | cause.LatePseudoField ↦ refl | cause.UnknownPseudoField ↦ refl | cause.DoublePseudoField ↦ refl | cause.LackingPseudoField ↦ refl | cause.ConnectionField ↦ refl | cause.BadTe ↦ refl | cause.BadContentLength ↦ refl | cause.ContentMissing ↦ refl | cause.ContentTooLong ↦ refl | cause.ContentTooShort ↦ refl | cause.TrailersWithoutEndStream ↦ refl | cause.TrailersBadName ↦ refl | cause.TrailersBadValue ↦ refl | cause.TrailersPseudoField ↦ refl | cause.TrailersConnectionField ↦ refl | cause.TrailersBadTe ↦ refl ]
 
 pub ignored-conforms : (it : Ignored) → allows (reason_row it).conforming Ignore ≡ Allowed
 unfolding reason_row
-ignored-conforms it = elim it [ ignored.Priority ↦ refl | ignored.UnknownType ↦ refl | ignored.SecondAcknowledgement ↦ refl | ignored.PingAcknowledgement ↦ refl | ignored.RstStreamOnSkipped ↦ refl | ignored.RstStreamOnClosed ↦ refl | ignored.RstStreamOnPeerReset ↦ refl | ignored.RstStreamOnReset ↦ refl | ignored.WindowUpdateOnSkipped ↦ refl | ignored.WindowUpdateOnClosed ↦ refl | ignored.WindowUpdateOnPeerReset ↦ refl | ignored.WindowUpdateOnReset ↦ refl | ignored.WindowUpdateByZero ↦ refl | ignored.DataOnReset ↦ refl | ignored.TableOnlyBlock ↦ refl ]
+ignored-conforms it = elim it as (λ k. allows (reason_row k).conforming Ignore ≡ Allowed) [ ignored.Priority ↦ refl | ignored.UnknownType ↦ refl | ignored.SecondAcknowledgement ↦ refl | ignored.PingAcknowledgement ↦ refl | ignored.RstStreamOnSkipped ↦ refl | ignored.RstStreamOnClosed ↦ refl | ignored.RstStreamOnPeerReset ↦ refl | ignored.RstStreamOnReset ↦ refl | ignored.WindowUpdateOnSkipped ↦ refl | ignored.WindowUpdateOnClosed ↦ refl | ignored.WindowUpdateOnPeerReset ↦ refl | ignored.WindowUpdateOnReset ↦ refl | ignored.WindowUpdateByZero ↦ refl | ignored.DataOnReset ↦ refl | ignored.TableOnlyBlock ↦ refl ]
 
 pub case-conforms : (it : SpecialCase) → allows (special_row it).conforming (seen_of_case it) ≡ permission_of_case it
 unfolding special_row
-case-conforms it = elim it [ special.LimitNotAcknowledged ↦ refl | special.BehindContinuation ↦ refl | special.UnknownTypeInBlock ↦ refl | special.EmptyName ↦ refl | special.ConnectPseudoFields ↦ refl | special.EmptyPathOfOtherScheme ↦ refl | special.ContentLengthsDiffer ↦ refl | special.ContentLengthTooLong ↦ refl | special.UnfollowedWindow ↦ refl | special.EvenStream ↦ refl | special.DataAfterEnd ↦ refl | special.BlockAfterEnd ↦ refl ]
+case-conforms it = elim it as (λ k. allows (special_row k).conforming (seen_of_case k) ≡ permission_of_case k) [ special.LimitNotAcknowledged ↦ refl | special.BehindContinuation ↦ refl | special.UnknownTypeInBlock ↦ refl | special.EmptyName ↦ refl | special.ConnectPseudoFields ↦ refl | special.EmptyPathOfOtherScheme ↦ refl | special.ContentLengthsDiffer ↦ refl | special.ContentLengthTooLong ↦ refl | special.UnfollowedWindow ↦ refl | special.EvenStream ↦ refl | special.DataAfterEnd ↦ refl | special.BlockAfterEnd ↦ refl ]
 
 pub accepted-conforms : (it : Accepted) → allows (accepted_row it).conforming Accept ≡ permission_to_accept it
 unfolding accepted_row
-accepted-conforms it = elim it [ accepted.Lawful ↦ refl | accepted.Settings ↦ refl | accepted.UnknownSetting ↦ refl | accepted.SettingTwice ↦ refl | accepted.UndefinedFlags ↦ refl | accepted.ReservedBit ↦ refl | accepted.Ping ↦ refl | accepted.PaddingNotZero ↦ refl | accepted.EmptyFragments ↦ refl | accepted.EmptyData ↦ refl | accepted.NoAuthority ↦ refl | accepted.HostDiffers ↦ refl | accepted.HostTwice ↦ refl | accepted.Userinfo ↦ refl | accepted.BadPath ↦ refl | accepted.BadMethod ↦ refl | accepted.BadScheme ↦ refl | accepted.NameNoToken ↦ refl | accepted.ValueControlOctet ↦ refl | accepted.ContentLengthTwice ↦ refl | accepted.TeCase ↦ refl | accepted.Trailers ↦ refl | accepted.TrailersEmpty ↦ refl | accepted.PriorityFlag ↦ refl | accepted.DependsOnItself ↦ refl | accepted.Goaway ↦ refl | accepted.GoawayOddStream ↦ refl | accepted.RequestAfterGoaway ↦ refl | accepted.UnknownCode ↦ refl | accepted.SettingsNotAcknowledged ↦ refl | accepted.LongInteger ↦ refl | accepted.SizeUpdates ↦ refl | accepted.ManySizeUpdates ↦ refl | accepted.Connect ↦ refl | accepted.OptionsStar ↦ refl | accepted.SkippedPriorityFlood ↦ refl | accepted.EmptyDataBelowZero ↦ refl | accepted.LargeFieldSection ↦ refl ]
+accepted-conforms it = elim it as (λ k. allows (accepted_row k).conforming Accept ≡ permission_to_accept k) [ accepted.Lawful ↦ refl | accepted.Settings ↦ refl | accepted.UnknownSetting ↦ refl | accepted.SettingTwice ↦ refl | accepted.UndefinedFlags ↦ refl | accepted.ReservedBit ↦ refl | accepted.Ping ↦ refl | accepted.PaddingNotZero ↦ refl | accepted.EmptyFragments ↦ refl | accepted.EmptyData ↦ refl | accepted.NoAuthority ↦ refl | accepted.HostDiffers ↦ refl | accepted.HostTwice ↦ refl | accepted.Userinfo ↦ refl | accepted.BadPath ↦ refl | accepted.BadMethod ↦ refl | accepted.BadScheme ↦ refl | accepted.NameNoToken ↦ refl | accepted.ValueControlOctet ↦ refl | accepted.ContentLengthTwice ↦ refl | accepted.TeCase ↦ refl | accepted.Trailers ↦ refl | accepted.TrailersEmpty ↦ refl | accepted.PriorityFlag ↦ refl | accepted.DependsOnItself ↦ refl | accepted.Goaway ↦ refl | accepted.GoawayOddStream ↦ refl | accepted.RequestAfterGoaway ↦ refl | accepted.UnknownCode ↦ refl | accepted.SettingsNotAcknowledged ↦ refl | accepted.LongInteger ↦ refl | accepted.SizeUpdates ↦ refl | accepted.ManySizeUpdates ↦ refl | accepted.Connect ↦ refl | accepted.OptionsStar ↦ refl | accepted.SkippedPriorityFlood ↦ refl | accepted.EmptyDataBelowZero ↦ refl | accepted.LargeFieldSection ↦ refl ]
 
 pub cause-least : (it : Cause) → has_its_least (row_of it).conforming ≡ true
 unfolding row_of
-cause-least it = elim it [ cause.BadPreface ↦ refl | cause.FirstNotSettings ↦ refl | cause.FirstIsSettingsAck ↦ refl | cause.FrameTooLarge ↦ refl | cause.StreamFrameTooLarge ↦ refl | cause.BlockInterrupted ↦ refl | cause.DataOnStreamZero ↦ refl | cause.HeadersOnStreamZero ↦ refl | cause.PriorityOnStreamZero ↦ refl | cause.RstStreamOnStreamZero ↦ refl | cause.ContinuationOnStreamZero ↦ refl | cause.SettingsOnStream ↦ refl | cause.PingOnStream ↦ refl | cause.GoawayOnStream ↦ refl | cause.DataLength ↦ refl | cause.HeadersLength ↦ refl | cause.PriorityLength ↦ refl | cause.RstStreamLength ↦ refl | cause.SettingsLength ↦ refl | cause.SettingsAckLength ↦ refl | cause.PingLength ↦ refl | cause.GoawayLength ↦ refl | cause.WindowUpdateLength ↦ refl | cause.DataPadding ↦ refl | cause.HeadersPadding ↦ refl | cause.PushPromiseFromClient ↦ refl | cause.ContinuationOutsideBlock ↦ refl | cause.DataOnIdle ↦ refl | cause.DataOnSkipped ↦ refl | cause.DataAfterEndStream ↦ refl | cause.DataOnClosed ↦ refl | cause.HeadersOnEven ↦ refl | cause.HeadersOnSkipped ↦ refl | cause.HeadersAfterEndStream ↦ refl | cause.HeadersOnClosed ↦ refl | cause.RstStreamOnIdle ↦ refl | cause.WindowUpdateOnIdle ↦ refl | cause.ConnectionWindowExceeded ↦ refl | cause.StreamWindowExceeded ↦ refl | cause.ConnectionIncrementZero ↦ refl | cause.StreamIncrementZero ↦ refl | cause.ConnectionWindowOverflow ↦ refl | cause.StreamWindowOverflow ↦ refl | cause.EnablePushValue ↦ refl | cause.InitialWindowSizeValue ↦ refl | cause.MaxFrameSizeValue ↦ refl | cause.InitialWindowSizeOverflow ↦ refl | cause.BlockTooLarge ↦ refl | cause.BlockTruncated ↦ refl | cause.IntegerTooLong ↦ refl | cause.IndexZero ↦ refl | cause.IndexOutOfTables ↦ refl | cause.HuffmanString ↦ refl | cause.SizeUpdateLate ↦ refl | cause.SizeUpdateTooLarge ↦ refl | cause.SizeUpdateMissing ↦ refl | cause.TooManyStreams ↦ refl | cause.ListTooLarge ↦ refl | cause.BadName ↦ refl | cause.BadValue ↦ refl | cause.LatePseudoField ↦ refl | cause.UnknownPseudoField ↦ refl | cause.DoublePseudoField ↦ refl | cause.LackingPseudoField ↦ refl | cause.ConnectionField ↦ refl | cause.BadTe ↦ refl | cause.BadContentLength ↦ refl | cause.ContentMissing ↦ refl | cause.ContentTooLong ↦ refl | cause.ContentTooShort ↦ refl | cause.TrailersWithoutEndStream ↦ refl | cause.TrailersBadName ↦ refl | cause.TrailersBadValue ↦ refl | cause.TrailersPseudoField ↦ refl | cause.TrailersConnectionField ↦ refl | cause.TrailersBadTe ↦ refl ]
+cause-least it = elim it as (λ k. has_its_least (row_of k).conforming ≡ true) [ cause.BadPreface ↦ refl | cause.FirstNotSettings ↦ refl | cause.FirstIsSettingsAck ↦ refl | cause.FrameTooLarge ↦ refl | cause.StreamFrameTooLarge ↦ refl | cause.BlockInterrupted ↦ refl | cause.DataOnStreamZero ↦ refl | cause.HeadersOnStreamZero ↦ refl | cause.PriorityOnStreamZero ↦ refl | cause.RstStreamOnStreamZero ↦ refl | cause.ContinuationOnStreamZero ↦ refl | cause.SettingsOnStream ↦ refl | cause.PingOnStream ↦ refl | cause.GoawayOnStream ↦ refl | cause.DataLength ↦ refl | cause.HeadersLength ↦ refl | cause.PriorityLength ↦ refl | cause.RstStreamLength ↦ refl | cause.SettingsLength ↦ refl | cause.SettingsAckLength ↦ refl | cause.PingLength ↦ refl | cause.GoawayLength ↦ refl | cause.WindowUpdateLength ↦ refl | cause.DataPadding ↦ refl | cause.HeadersPadding ↦ refl | cause.PushPromiseFromClient ↦ refl | cause.ContinuationOutsideBlock ↦ refl | cause.DataOnIdle ↦ refl | cause.DataOnSkipped ↦ refl | cause.DataAfterEndStream ↦ refl | cause.DataOnClosed ↦ refl | cause.HeadersOnEven ↦ refl | cause.HeadersOnSkipped ↦ refl | cause.HeadersAfterEndStream ↦ refl | cause.HeadersOnClosed ↦ refl | cause.RstStreamOnIdle ↦ refl | cause.WindowUpdateOnIdle ↦ refl | cause.ConnectionWindowExceeded ↦ refl | cause.StreamWindowExceeded ↦ refl | cause.ConnectionIncrementZero ↦ refl | cause.StreamIncrementZero ↦ refl | cause.ConnectionWindowOverflow ↦ refl | cause.StreamWindowOverflow ↦ refl | cause.EnablePushValue ↦ refl | cause.InitialWindowSizeValue ↦ refl | cause.MaxFrameSizeValue ↦ refl | cause.InitialWindowSizeOverflow ↦ refl | cause.BlockTooLarge ↦ refl | cause.BlockTruncated ↦ refl | cause.IntegerTooLong ↦ refl | cause.IndexZero ↦ refl | cause.IndexOutOfTables ↦ refl | cause.HuffmanString ↦ refl | cause.SizeUpdateLate ↦ refl | cause.SizeUpdateTooLarge ↦ refl | cause.SizeUpdateMissing ↦ refl | cause.TooManyStreams ↦ refl | cause.ListTooLarge ↦ refl | cause.BadName ↦ refl | cause.BadValue ↦ refl | cause.LatePseudoField ↦ refl | cause.UnknownPseudoField ↦ refl | cause.DoublePseudoField ↦ refl | cause.LackingPseudoField ↦ refl | cause.ConnectionField ↦ refl | cause.BadTe ↦ refl | cause.BadContentLength ↦ refl | cause.ContentMissing ↦ refl | cause.ContentTooLong ↦ refl | cause.ContentTooShort ↦ refl | cause.TrailersWithoutEndStream ↦ refl | cause.TrailersBadName ↦ refl | cause.TrailersBadValue ↦ refl | cause.TrailersPseudoField ↦ refl | cause.TrailersConnectionField ↦ refl | cause.TrailersBadTe ↦ refl ]
 
 pub ignored-least : (it : Ignored) → has_its_least (reason_row it).conforming ≡ true
 unfolding reason_row
-ignored-least it = elim it [ ignored.Priority ↦ refl | ignored.UnknownType ↦ refl | ignored.SecondAcknowledgement ↦ refl | ignored.PingAcknowledgement ↦ refl | ignored.RstStreamOnSkipped ↦ refl | ignored.RstStreamOnClosed ↦ refl | ignored.RstStreamOnPeerReset ↦ refl | ignored.RstStreamOnReset ↦ refl | ignored.WindowUpdateOnSkipped ↦ refl | ignored.WindowUpdateOnClosed ↦ refl | ignored.WindowUpdateOnPeerReset ↦ refl | ignored.WindowUpdateOnReset ↦ refl | ignored.WindowUpdateByZero ↦ refl | ignored.DataOnReset ↦ refl | ignored.TableOnlyBlock ↦ refl ]
+ignored-least it = elim it as (λ k. has_its_least (reason_row k).conforming ≡ true) [ ignored.Priority ↦ refl | ignored.UnknownType ↦ refl | ignored.SecondAcknowledgement ↦ refl | ignored.PingAcknowledgement ↦ refl | ignored.RstStreamOnSkipped ↦ refl | ignored.RstStreamOnClosed ↦ refl | ignored.RstStreamOnPeerReset ↦ refl | ignored.RstStreamOnReset ↦ refl | ignored.WindowUpdateOnSkipped ↦ refl | ignored.WindowUpdateOnClosed ↦ refl | ignored.WindowUpdateOnPeerReset ↦ refl | ignored.WindowUpdateOnReset ↦ refl | ignored.WindowUpdateByZero ↦ refl | ignored.DataOnReset ↦ refl | ignored.TableOnlyBlock ↦ refl ]
 
 pub case-least : (it : SpecialCase) → has_its_least (special_row it).conforming ≡ true
 unfolding special_row
-case-least it = elim it [ special.LimitNotAcknowledged ↦ refl | special.BehindContinuation ↦ refl | special.UnknownTypeInBlock ↦ refl | special.EmptyName ↦ refl | special.ConnectPseudoFields ↦ refl | special.EmptyPathOfOtherScheme ↦ refl | special.ContentLengthsDiffer ↦ refl | special.ContentLengthTooLong ↦ refl | special.UnfollowedWindow ↦ refl | special.EvenStream ↦ refl | special.DataAfterEnd ↦ refl | special.BlockAfterEnd ↦ refl ]
+case-least it = elim it as (λ k. has_its_least (special_row k).conforming ≡ true) [ special.LimitNotAcknowledged ↦ refl | special.BehindContinuation ↦ refl | special.UnknownTypeInBlock ↦ refl | special.EmptyName ↦ refl | special.ConnectPseudoFields ↦ refl | special.EmptyPathOfOtherScheme ↦ refl | special.ContentLengthsDiffer ↦ refl | special.ContentLengthTooLong ↦ refl | special.UnfollowedWindow ↦ refl | special.EvenStream ↦ refl | special.DataAfterEnd ↦ refl | special.BlockAfterEnd ↦ refl ]
 
 pub accepted-least : (it : Accepted) → has_its_least (accepted_row it).conforming ≡ true
 unfolding accepted_row
-accepted-least it = elim it [ accepted.Lawful ↦ refl | accepted.Settings ↦ refl | accepted.UnknownSetting ↦ refl | accepted.SettingTwice ↦ refl | accepted.UndefinedFlags ↦ refl | accepted.ReservedBit ↦ refl | accepted.Ping ↦ refl | accepted.PaddingNotZero ↦ refl | accepted.EmptyFragments ↦ refl | accepted.EmptyData ↦ refl | accepted.NoAuthority ↦ refl | accepted.HostDiffers ↦ refl | accepted.HostTwice ↦ refl | accepted.Userinfo ↦ refl | accepted.BadPath ↦ refl | accepted.BadMethod ↦ refl | accepted.BadScheme ↦ refl | accepted.NameNoToken ↦ refl | accepted.ValueControlOctet ↦ refl | accepted.ContentLengthTwice ↦ refl | accepted.TeCase ↦ refl | accepted.Trailers ↦ refl | accepted.TrailersEmpty ↦ refl | accepted.PriorityFlag ↦ refl | accepted.DependsOnItself ↦ refl | accepted.Goaway ↦ refl | accepted.GoawayOddStream ↦ refl | accepted.RequestAfterGoaway ↦ refl | accepted.UnknownCode ↦ refl | accepted.SettingsNotAcknowledged ↦ refl | accepted.LongInteger ↦ refl | accepted.SizeUpdates ↦ refl | accepted.ManySizeUpdates ↦ refl | accepted.Connect ↦ refl | accepted.OptionsStar ↦ refl | accepted.SkippedPriorityFlood ↦ refl | accepted.EmptyDataBelowZero ↦ refl | accepted.LargeFieldSection ↦ refl ]
+accepted-least it = elim it as (λ k. has_its_least (accepted_row k).conforming ≡ true) [ accepted.Lawful ↦ refl | accepted.Settings ↦ refl | accepted.UnknownSetting ↦ refl | accepted.SettingTwice ↦ refl | accepted.UndefinedFlags ↦ refl | accepted.ReservedBit ↦ refl | accepted.Ping ↦ refl | accepted.PaddingNotZero ↦ refl | accepted.EmptyFragments ↦ refl | accepted.EmptyData ↦ refl | accepted.NoAuthority ↦ refl | accepted.HostDiffers ↦ refl | accepted.HostTwice ↦ refl | accepted.Userinfo ↦ refl | accepted.BadPath ↦ refl | accepted.BadMethod ↦ refl | accepted.BadScheme ↦ refl | accepted.NameNoToken ↦ refl | accepted.ValueControlOctet ↦ refl | accepted.ContentLengthTwice ↦ refl | accepted.TeCase ↦ refl | accepted.Trailers ↦ refl | accepted.TrailersEmpty ↦ refl | accepted.PriorityFlag ↦ refl | accepted.DependsOnItself ↦ refl | accepted.Goaway ↦ refl | accepted.GoawayOddStream ↦ refl | accepted.RequestAfterGoaway ↦ refl | accepted.UnknownCode ↦ refl | accepted.SettingsNotAcknowledged ↦ refl | accepted.LongInteger ↦ refl | accepted.SizeUpdates ↦ refl | accepted.ManySizeUpdates ↦ refl | accepted.Connect ↦ refl | accepted.OptionsStar ↦ refl | accepted.SkippedPriorityFlood ↦ refl | accepted.EmptyDataBelowZero ↦ refl | accepted.LargeFieldSection ↦ refl ]
 
 -- ---- what a row allows
 

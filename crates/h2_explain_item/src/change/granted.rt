@@ -7,6 +7,7 @@ ghost use Rattle.std.specs.BTreeMap.{IsEmpty, get};
 ghost use Rattle.std.specs.Ordering.{nat_cmp};
 ghost use Rattle.h2_spec.specs.Window.{sendable};
 ghost use Rattle.h2_explain_item.specs.Granted.{counted_octets, is_early, left_after, left_on, left_or};
+ghost use Rattle.h2_explain_item.specs.RunFacts.{is_unacknowledged_use};
 
 use crate::item::Explained;
 use h2_spec::flow::Window;
@@ -22,6 +23,8 @@ pub struct Granted<A: Allocator = Global> {
     pub connection: Option<u64>,
     /// The rest for each stream on which DATA came in this read.
     pub streams: BTreeMap<u32, u64, A>,
+    /// The rest of what a client may send that has read nothing: the first window of a connection (RFC 9113, 6.9.2).
+    pub unasked: u64,
 }
 
 /// The octets that a window lets pass: none where it is negative (RFC 9113, 6.9.2).
@@ -58,6 +61,7 @@ impl<A: Allocator + Copy> Granted<A> {
         Granted {
             connection: None,
             streams: BTreeMap::new(alloc),
+            unasked: 65535,
         }
     }
 
@@ -89,6 +93,18 @@ impl<A: Allocator + Copy> Granted<A> {
         if item.before.counts.own.window != item.after.counts.own.window {
             self.streams.clear();
         }
+    }
+
+    /// Takes the octets of an item from what a client may send that has read nothing. Says whether, in a read, it is DATA
+    /// beyond that, while the server's SETTINGS are not acknowledged (RFC 9113, 6.5.3).
+    pub fn take_unasked(&mut self, item: &Explained<'_>) -> bool
+        ensures used { result ≡ is_unacknowledged_use self.old item.now }
+        ensures taken { self.new ≡ record self.old { unasked = self.old.unasked - counted_octets item.now.what } }
+    {
+        let count = counted_octets(item.what);
+        let left = self.unasked;
+        self.unasked = left.saturating_sub(count);
+        self.connection.is_some() && left < count && !item.before.counts.acked
     }
 
     /// Takes the octets of an item that came in the read, and says whether it is DATA beyond what was granted before that

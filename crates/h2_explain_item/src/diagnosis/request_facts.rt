@@ -1,10 +1,11 @@
-//! What is wrong with a request that this server answers all the same, looked up in its fields (RFC 9113, 8.3.1; RFC
-//! 9110, 5.3 and 9.1). No definition speaks of which fields they are found in.
+//! What is wrong with a request that this server answers all the same, and with a field block that it takes, looked up in
+//! the fields (RFC 9113, 8.3.1; RFC 9110, 5.1, 5.3 and 9.1; RFC 7541, 4.2). No definition speaks of which fields they are
+//! found in.
 
 ghost use Rattle.std.specs.Prelude.{◌≡◌};
-ghost use Rattle.h2_explain_item.specs.Warnings.{no_request_facts};
+ghost use Rattle.h2_explain_item.specs.Warnings.{no_block_facts, no_request_facts};
 
-use h2_explain_words::spelled::SpelledField;
+use h2_explain_words::spelled::{BlockReader, SpelledField};
 use std::alloc::Allocator;
 
 /// What is wrong with a request.
@@ -18,10 +19,16 @@ pub struct RequestFacts {
     pub bad_path: bool,
     /// Whether `:authority` of http and https has userinfo (RFC 9113, 8.3.1).
     pub userinfo: bool,
+    /// Whether `:authority` is empty (RFC 9113, 8.3.1).
+    pub empty_authority: bool,
+    /// Whether a request of http or https has neither `:authority` nor the field `host` (RFC 9113, 8.3.1).
+    pub no_authority: bool,
     /// Whether the field `host` is there twice (RFC 9110, 5.3).
     pub host_twice: bool,
     /// Whether the field `host` is other than `:authority`, apart from the case of letters (RFC 9113, 8.3.1).
     pub host_differs: bool,
+    /// Whether the field `content-length` is there twice (RFC 9110, 5.3).
+    pub length_twice: bool,
 }
 
 impl RequestFacts {
@@ -34,8 +41,32 @@ impl RequestFacts {
             bad_scheme: false,
             bad_path: false,
             userinfo: false,
+            empty_authority: false,
+            no_authority: false,
             host_twice: false,
             host_differs: false,
+            length_twice: false,
+        }
+    }
+}
+
+/// What is wrong with a field block.
+#[derive(Clone, Copy)]
+pub struct BlockFacts {
+    /// Whether the name of a field, apart from pseudo-fields, is no token (RFC 9110, 5.1).
+    pub name_no_token: bool,
+    /// Whether it has more than two table size updates (RFC 7541, 4.2).
+    pub many_updates: bool,
+}
+
+impl BlockFacts {
+    /// Nothing is wrong.
+    pub fn none() -> BlockFacts
+        ensures { result ≡ no_block_facts }
+    {
+        BlockFacts {
+            name_no_token: false,
+            many_updates: false,
         }
     }
 }
@@ -73,7 +104,8 @@ fn is_scheme(octets: &[u8]) -> bool {
     }
 }
 
-/// The places of the fields of a request that are looked at, of each name the first, and how many fields `host` there are.
+/// The places of the pseudo-fields of a request, of each name the first, and how many fields `host` and `content-length`
+/// there are.
 #[derive(Clone, Copy)]
 struct Places {
     method: Option<usize>,
@@ -81,6 +113,7 @@ struct Places {
     path: Option<usize>,
     authority: Option<usize>,
     hosts: usize,
+    lengths: usize,
 }
 
 impl Places {
@@ -92,6 +125,7 @@ impl Places {
             path: None,
             authority: None,
             hosts: 0,
+            lengths: 0,
         }
     }
 
@@ -107,6 +141,8 @@ impl Places {
             self.authority = self.authority.or(Some(place));
         } else if name == "host".as_bytes() {
             self.hosts = self.hosts.saturating_add(1);
+        } else if name == "content-length".as_bytes() {
+            self.lengths = self.lengths.saturating_add(1);
         }
     }
 }
@@ -174,6 +210,14 @@ fn has_userinfo(authority: Option<&[u8]>) -> bool {
     }
 }
 
+/// Whether an authority is there, and empty.
+fn is_empty(authority: Option<&[u8]>) -> bool {
+    match authority {
+        Some(authority) => authority.is_empty(),
+        None => false,
+    }
+}
+
 /// Whether the authority is there, and a field `host` is other than it, apart from the case of letters.
 fn do_hosts_differ<A: Allocator>(authority: Option<&[u8]>, fields: &[SpelledField<A>]) -> bool {
     let Some(authority) = authority else {
@@ -203,7 +247,29 @@ pub fn request_facts<A: Allocator>(fields: &[SpelledField<A>]) -> RequestFacts {
         bad_scheme: is_no_scheme(scheme),
         bad_path: web && has_bad_path(value_at(places.path, fields), method),
         userinfo: web && has_userinfo(authority),
+        empty_authority: is_empty(authority),
+        no_authority: web && authority.is_none() && places.hosts == 0,
         host_twice: places.hosts > 1,
         host_differs: places.hosts > 0 && do_hosts_differ(authority, fields),
+        length_twice: places.lengths > 1,
+    }
+}
+
+/// Whether the name of a field is no token, apart from pseudo-fields (RFC 9110, 5.1).
+fn has_name_no_token<A: Allocator>(fields: &[SpelledField<A>]) -> bool {
+    for field in fields {
+        let name = field.name.as_slice();
+        if !name.starts_with(b":") && !is_token(name) {
+            return true;
+        }
+    }
+    false
+}
+
+/// What is wrong with the field block that was read.
+pub fn block_facts<A: Allocator + Copy>(reader: &BlockReader<A>) -> BlockFacts {
+    BlockFacts {
+        name_no_token: has_name_no_token(reader.fields()),
+        many_updates: reader.updates().len() > 2,
     }
 }

@@ -66,11 +66,11 @@ pub struct TakenInput<R> {
     failure: Option<ErrorKind>,
 }
 
-/// The text of a file as the first line of a session: without its line feeds, and one after it.
+/// The text of a file as the first line of a session: without white space, which no session looks at, and a line feed after it.
 pub fn one_line(alloc: Global, text: &[u8]) -> Result<Vec<u8>, AllocError> {
     let mut line = Vec::new(alloc);
     for octet in text {
-        if *octet != b'\n' {
+        if !matches!(*octet, b' ' | b'\t' | b'\r' | b'\n') {
             line.push(*octet)?;
         }
     }

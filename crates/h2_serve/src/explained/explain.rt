@@ -6,11 +6,11 @@ ghost use Rattle.h2_conn.specs.Connection.{going};
 ghost use Rattle.h2_serve.specs.Drives.{HasRead, is_out_of_memory};
 ghost use Rattle.h2_serve.specs.Wires.{grown};
 ghost use Rattle.h2_spec.specs.State.{is_allowed};
-ghost use Rattle.h2_serve.specs.Faults.{faults_limits, is_of_printing};
+ghost use Rattle.h2_serve.specs.Faults.{faults_limits, is_of_printing, not_written};
 ghost use Rattle.h2_serve.specs.Lines.{end_line, listening_line};
 ghost use Rattle.h2_serve.specs.Ports.{HandlesSome, IsDriven, Listening, ListensSome, localhost, seen, start_of};
-ghost use Rattle.h2_serve.specs.Serves.{Gains};
-ghost use Rattle.h2_serve.specs.Shown.{GainsAllShown, GainsShown, GainsSomeShown, clients_status, no_clients, told_end, with_client};
+ghost use Rattle.h2_serve.specs.Serves.{Gains, Grew};
+ghost use Rattle.h2_serve.specs.Shown.{GainsAllShown, GainsShown, GainsSomeShown, clients_status, no_clients, told_end, unwritten, with_client};
 ghost use Rattle.h2_serve.specs.ExplainedConns.{Shows};
 
 use crate::explained::explained_conn::{Conclusion, ExplainedConn};
@@ -23,10 +23,10 @@ use crate::server::{TURNS, listen, open, print};
 use crate::{DriveEnd, DriveFault, Wire, drive_with};
 use h2_conn::Conn;
 use h2_explain::{ClientVerdict, Form, RunExplainer, Summary};
+use h2_io::Output;
 use h2_request_book::book::Book;
 use h2_spec::connection::Config;
 use std::alloc::Global;
-use std::io::Write;
 
 /// How a connection ended that was explained.
 #[derive(Clone, Copy)]
@@ -38,12 +38,12 @@ pub struct ClientEnd {
 
 /// Drives a connection over a wire to its end, in at most `turns` turns, and prints what `explain` says of the octets
 /// that are read, after each read, each line after the number of the connection. What is written to the wire is what
-/// `drive` writes.
+/// `drive` writes. The last call of the wire and that of the output must not have failed.
 ///
 /// # Errors
 ///
 /// `NoMemory` where memory is refused at the start: nothing was read, written or printed.
-pub fn explain_over<W: Write, K: Keeper, S: Wire>(
+pub fn explain_over<O: Output, K: Keeper, S: Wire>(
     alloc: Global,
     form: Form,
     conn: Conn<'_, Global>,
@@ -52,21 +52,24 @@ pub fn explain_over<W: Write, K: Keeper, S: Wire>(
     wire: &mut S,
     turns: u32,
     keeper: &mut K,
-    output: &mut W,
+    output: &mut O,
 ) -> Result<ClientEnd, ServeFault>
     requires new { conn ≡ going conn.state [] }
     requires open { S.has_failed wire.old ≡ false }
+    requires writer { O.has_failed output.old ≡ false }
     ensures drives { IfOk result (λ shown. IsDriven turns conn.entry.state out.old.items
         (seen (S.octets_read wire.old) (S.octets_written wire.old) (S.read_lengths wire.old) (S.has_failed wire.old)) out.new.items
         (seen (S.octets_read wire.new) (S.octets_written wire.new) (S.read_lengths wire.new) (S.has_failed wire.new)) shown.end) }
     ensures shows { IfOk result (λ shown. IfOk shown.conclusion (λ x.
-        HasRead (Shows form number x conn.entry.state (W.contents output.old) (W.contents output.new))
+        HasRead (Shows form number x conn.entry.state (O.written output.old) (O.written output.new))
         (S.octets_read wire.old) (S.octets_read wire.new))) }
     ensures lost { IfOk result (λ shown. IfOk shown.conclusion (λ x. is_none x.summary ≡ is_out_of_memory shown.end)) }
     ensures fault { IfOk result (λ shown. IfErr shown.conclusion (λ fault. is_of_printing fault ≡ true)) }
     ensures err { IfErr result (λ fault. fault ≡ ServeFault.NoMemory) }
     ensures unchanged { OnErr result ((wire.new ≡ wire.old) × (out.new ≡ out.old)) }
-    ensures not_printed { OnErr result (W.contents output.new ≡ W.contents output.old) }
+    ensures not_printed { OnErr result (O.written output.new ≡ O.written output.old) }
+    ensures flag { O.has_failed output.new ≡ unwritten result }
+    ensures grew { IfOk result (λ shown. not_written shown.conclusion ≡ false → Grew (O.written output.old) (O.written output.new)) }
 {
     // A new connection has not failed; the proof reads here that it has no item.
     if conn.failed() {
@@ -95,6 +98,18 @@ pub fn explain_over<W: Write, K: Keeper, S: Wire>(
     Ok(ClientEnd { end, conclusion })
 }
 
+impl ClientEnd {
+    /// Whether the output failed.
+    fn is_unwritten(&self) -> bool
+        ensures { result ≡ not_written self.now.conclusion }
+    {
+        match self.conclusion {
+            Ok(_) => false,
+            Err(fault) => fault.is_write(),
+        }
+    }
+}
+
 /// How the line says that a connection ended: out of memory where some of its explanation is missing.
 fn told_end(shown: ClientEnd) -> Result<DriveEnd, DriveFault>
     ensures { IfOk shown.conclusion (λ x. result ≡ told_end x.is_cut shown.end) }
@@ -111,18 +126,24 @@ fn told_end(shown: ClientEnd) -> Result<DriveEnd, DriveFault>
     }
 }
 
-/// Prints the line of how a connection ended that was explained.
-fn print_end<W: Write>(
+/// Prints the line of how a connection ended that was explained, unless the output failed before.
+fn print_end<O: Output>(
     number: u32,
     shown: ClientEnd,
-    output: &mut W,
+    output: &mut O,
 ) -> Result<Conclusion, ServeFault>
-    ensures ok { IfOk result (λ x. Gains (W.contents output.old) (W.contents output.new) (end_line number (told_end x.is_cut shown.end))) }
+    requires writer { O.has_failed output.old ≡ not_written shown.conclusion }
+    ensures ok { IfOk result (λ x. Gains (O.written output.old) (O.written output.new) (end_line number (told_end x.is_cut shown.end))) }
     ensures conclusion { IfOk result (λ x. shown.conclusion ≡ Ok x) }
     ensures fault { IfErr shown.conclusion (λ fault. is_of_printing fault ≡ true) → IfErr result (λ fault. is_of_printing fault ≡ true) }
+    ensures flag { O.has_failed output.new ≡ not_written result }
+    ensures grew { not_written result ≡ false → (not_written shown.conclusion ≡ false) × Grew (O.written output.old) (O.written output.new) }
 {
+    if shown.is_unwritten() {
+        return Err(ServeFault::Write);
+    }
     let end = told_end(shown);
-    match print(output, EndLine { number, end }) {
+    match print(output, &EndLine { number, end }) {
         Ok(()) => shown.conclusion,
         Err(fault) => Err(fault),
     }
@@ -130,7 +151,7 @@ fn print_end<W: Write>(
 
 /// Accepts a client, prints that its connection is open, drives it to its end, explains it, closes its wire, and prints
 /// its line.
-fn explain_next<L: Listener, W: Write, K: Keeper>(
+fn explain_next<L: Listener, O: Output, K: Keeper>(
     alloc: Global,
     listener: &mut L,
     book: &Book<Global>,
@@ -138,20 +159,23 @@ fn explain_next<L: Listener, W: Write, K: Keeper>(
     form: Form,
     number: u32,
     keeper: &mut K,
-    output: &mut W,
+    output: &mut O,
 ) -> Result<Conclusion, ServeFault>
+    requires writer { O.has_failed output.old ≡ false }
     ensures shown { IfOk result (λ x. GainsShown form (start_of book.now config) number x.summary
-        (W.contents output.old) (W.contents output.new) (L.events listener.old) (L.events listener.new)) }
+        (O.written output.old) (O.written output.new) (L.events listener.old) (L.events listener.new)) }
     ensures wires { HandlesSome (start_of book.now config) 1 (L.events listener.old) (L.events listener.new) }
     ensures fault { is_allowed config ≡ true → IfErr result (λ fault. faults_limits fault ≡ false) }
-    ensures socket { IfErr result (λ fault. fault ≡ ServeFault.Socket → (W.contents output.new ≡ W.contents output.old)
+    ensures socket { IfErr result (λ fault. fault ≡ ServeFault.Socket → (O.written output.new ≡ O.written output.old)
         × (L.events listener.new ≡ L.events listener.old)) }
+    ensures flag { O.has_failed output.new ≡ not_written result }
+    ensures grew { not_written result ≡ false → Grew (O.written output.old) (O.written output.new) }
 {
     let mut wire = match listener.accept() {
         Ok(wire) => wire,
         Err(_) => return Err(ServeFault::Socket),
     };
-    match print(output, OpenLine(number)) {
+    match print(output, &OpenLine(number)) {
         Ok(()) => {}
         Err(fault) => return Err(fault),
     }
@@ -244,7 +268,7 @@ impl Clients {
 ///
 /// Those of `serve_on`; `Write` and `NoMemory` also where some of an explanation was not printed. After `Socket` fewer connections
 /// are printed whole, and nothing else.
-pub fn explain_on<L: Listener, W: Write, K: Keeper>(
+pub fn explain_on<L: Listener, O: Output, K: Keeper>(
     alloc: Global,
     listener: &mut L,
     book: &Book<Global>,
@@ -252,16 +276,19 @@ pub fn explain_on<L: Listener, W: Write, K: Keeper>(
     form: Form,
     count: u32,
     keeper: &mut K,
-    output: &mut W,
+    output: &mut O,
 ) -> Result<Clients, ServeFault>
+    requires writer { O.has_failed output.old ≡ false }
     ensures refused { is_allowed config ≡ false → result ≡ Err ServeFault.BadConfig }
     ensures allowed { IfErr result (λ fault. faults_limits fault ≡ true → (is_allowed config ≡ false)
-        × (W.contents output.new ≡ W.contents output.old) × (L.events listener.new ≡ L.events listener.old)) }
+        × (O.written output.new ≡ O.written output.old) × (L.events listener.new ≡ L.events listener.old)) }
     ensures shown { IfOk result (λ clients. GainsAllShown form (start_of book.now config) [] count clients
-        (W.contents output.old) (W.contents output.new) (L.events listener.old) (L.events listener.new)) }
+        (O.written output.old) (O.written output.new) (L.events listener.old) (L.events listener.new)) }
     ensures wires { HandlesSome (start_of book.now config) count (L.events listener.old) (L.events listener.new) }
     ensures socket { IfErr result (λ fault. fault ≡ ServeFault.Socket → GainsSomeShown form (start_of book.now config) [] count
-        (W.contents output.old) (W.contents output.new) (L.events listener.old) (L.events listener.new)) }
+        (O.written output.old) (O.written output.new) (L.events listener.old) (L.events listener.new)) }
+    ensures flag { O.has_failed output.new ≡ not_written result }
+    ensures grew { not_written result ≡ false → Grew (O.written output.old) (O.written output.new) }
 {
     match open(book, config, &mut Vec::new(alloc)) {
         Ok(_) => {}
@@ -293,7 +320,7 @@ pub fn explain_on<L: Listener, W: Write, K: Keeper>(
 ///
 /// `Socket` where the port cannot be listened on: nothing was printed. Then those of `explain_on`, after the line
 /// `listening PORT`.
-pub fn listen_and_explain<P: Port, W: Write, K: Keeper>(
+pub fn listen_and_explain<P: Port, O: Output, K: Keeper>(
     alloc: Global,
     net: &mut P,
     book: &Book<Global>,
@@ -302,17 +329,20 @@ pub fn listen_and_explain<P: Port, W: Write, K: Keeper>(
     port: u16,
     count: u32,
     keeper: &mut K,
-    output: &mut W,
+    output: &mut O,
 ) -> Result<Clients, ServeFault>
+    requires writer { O.has_failed output.old ≡ false }
     ensures shown { IfOk result (λ clients. (is_allowed config ≡ true)
-        × GainsAllShown form (start_of book.now config) (listening_line port) count clients (W.contents output.old) (W.contents output.new)
+        × GainsAllShown form (start_of book.now config) (listening_line port) count clients (O.written output.old) (O.written output.new)
         (grown (P.Listener.events net.old) (Listening localhost port ∷ [])) (P.Listener.events net.new)) }
     ensures wires { ListensSome (start_of book.now config) port count (P.Listener.events net.old) (P.Listener.events net.new) }
     ensures allowed { IfErr result (λ fault. faults_limits fault ≡ true → (is_allowed config ≡ false)
-        × Gains (W.contents output.old) (W.contents output.new) (listening_line port)) }
-    ensures socket { IfErr result (λ fault. fault ≡ ServeFault.Socket → (W.contents output.new ≡ W.contents output.old)
-        ⊎ GainsSomeShown form (start_of book.now config) (listening_line port) count (W.contents output.old) (W.contents output.new)
+        × Gains (O.written output.old) (O.written output.new) (listening_line port)) }
+    ensures socket { IfErr result (λ fault. fault ≡ ServeFault.Socket → (O.written output.new ≡ O.written output.old)
+        ⊎ GainsSomeShown form (start_of book.now config) (listening_line port) count (O.written output.old) (O.written output.new)
         (grown (P.Listener.events net.old) (Listening localhost port ∷ [])) (P.Listener.events net.new)) }
+    ensures flag { O.has_failed output.new ≡ not_written result }
+    ensures grew { not_written result ≡ false → Grew (O.written output.old) (O.written output.new) }
 {
     match listen(net, port, output) {
         Ok(()) => {}

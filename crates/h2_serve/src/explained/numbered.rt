@@ -1,14 +1,14 @@
 //! The texts of a connection that is served, each line after the connection's number.
 //! Definitions: `specs/Numbered.antt`.
 
-ghost use Rattle.std.specs.Prelude.{◌≡◌, ◌++◌, true, None, OnOk, IfOk};
+ghost use Rattle.std.specs.Prelude.{◌≡◌, ◌⊎◌, ◌++◌, true, None, Some, OnOk, IfOk};
 ghost use Rattle.std.specs.Io.KnownBytes.{Appends};
-ghost use Rattle.h2_serve.specs.Numbered.{PrintsPrefixed, fresh_after, gathered_text, prefix_of, prefixed, prefixed_octet};
+ghost use Rattle.h2_serve.specs.Faults.{failed_by};
+ghost use Rattle.h2_serve.specs.Numbered.{Grows, PrintsPrefixed, fresh_after, gathered_text, prefix_of, prefixed, prefixed_octet};
 
 use crate::fault::TextFault;
-use h2_io::{Gathered, Number, Text, texts};
+use h2_io::{Gathered, Number, Output, Text, texts};
 use std::alloc::{AllocError, Global};
-use std::io::Write;
 
 /// The octets of a text.
 fn octets_of<T: Text>(alloc: Global, text: &T) -> Result<Vec<u8>, AllocError>
@@ -73,19 +73,25 @@ fn put_text(
 }
 
 /// Writes octets so that the reader of the output sees them at once; says why not, where that failed.
-fn write_now<W: Write>(output: &mut W, octets: &[u8]) -> Option<TextFault>
-    ensures { result ≡ None → Appends (W.contents output.old) (W.contents output.new) octets.now }
+fn write_now<O: Output>(output: &mut O, octets: &[u8]) -> Option<TextFault>
+    ensures octets { result ≡ None → Appends (O.written output.old) (O.written output.new) octets.now }
+    ensures fault { (result ≡ None) ⊎ (result ≡ Some TextFault.Write) }
+    ensures flag { O.has_failed output.new ≡ failed_by result }
 {
-    if output.write_all(octets).is_err() || output.flush().is_err() {
-        return Some(TextFault::Write);
+    match output.write(octets) {
+        Ok(()) => {}
+        Err(_) => return Some(TextFault::Write),
     }
-    None
+    match output.flush() {
+        Ok(()) => None,
+        Err(_) => Some(TextFault::Write),
+    }
 }
 
 /// What prints the texts of a connection. After a fault it prints nothing.
 #[derive(Drop)]
-pub(crate) struct Printer<'o, W> {
-    output: &'o mut W,
+pub(crate) struct Printer<'o, O> {
+    output: &'o mut O,
     /// What each line begins with.
     prefix: Vec<u8>,
     json: bool,
@@ -94,9 +100,9 @@ pub(crate) struct Printer<'o, W> {
     fault: Option<TextFault>,
 }
 
-impl<'o, W: Write> Printer<'o, W> {
+impl<'o, O: Output> Printer<'o, O> {
     /// A printer to this output that has printed nothing.
-    pub(crate) fn new(output: &'o mut W, prefix: Vec<u8>, json: bool) -> Printer<'o, W>
+    pub(crate) fn new(output: &'o mut O, prefix: Vec<u8>, json: bool) -> Printer<'o, O>
         ensures lines { (result.prefix ≡ prefix) × (result.json ≡ json) × (result.fresh ≡ true) × (result.fault ≡ None) }
         ensures output { result.output.now ≡ output.entry.now }
         ensures same_reference { result.output.ghost_name ≡ output.entry.ghost_name }
@@ -111,7 +117,7 @@ impl<'o, W: Write> Printer<'o, W> {
     }
 
     /// The output, and why something was not printed, if it was not.
-    pub(crate) fn into_parts(self) -> (&'o mut W, Option<TextFault>)
+    pub(crate) fn into_parts(self) -> (&'o mut O, Option<TextFault>)
         ensures fault { result.1 ≡ self.entry.fault }
         ensures output { result.0.now ≡ self.entry.output.now }
         ensures same_reference { result.0.ghost_name ≡ self.entry.output.ghost_name }
@@ -121,8 +127,11 @@ impl<'o, W: Write> Printer<'o, W> {
 
     /// Prints a text, each line after the prefix.
     pub(crate) fn print(&mut self, alloc: Global, text: &[u8])
-        ensures text { PrintsPrefixed self.old.prefix.items self.old.json self.old.fresh self.old.fault (W.contents self.old.output.now)
-            text.now self.new.fresh self.new.fault (W.contents self.new.output.now) }
+        requires flag { O.has_failed self.old.output.now ≡ failed_by self.old.fault }
+        ensures flag { O.has_failed self.new.output.now ≡ failed_by self.new.fault }
+        ensures grows { Grows self.old.fault self.new.fault (O.written self.old.output.now) (O.written self.new.output.now) }
+        ensures text { PrintsPrefixed self.old.prefix.items self.old.json self.old.fresh self.old.fault (O.written self.old.output.now)
+            text.now self.new.fresh self.new.fault (O.written self.new.output.now) }
         ensures kept { (self.new.prefix ≡ self.old.prefix) × (self.new.json ≡ self.old.json) }
         ensures same_reference { self.new.output.ghost_name ≡ self.old.output.ghost_name }
     {
@@ -141,10 +150,14 @@ impl<'o, W: Write> Printer<'o, W> {
             Err(_) => self.fault = Some(TextFault::NoMemory),
         }
     }
+
     /// Prints what was gathered, each line after the prefix; nothing where memory for some of it was refused.
     pub(crate) fn print_gathered(&mut self, alloc: Global, text: &Gathered)
-        ensures text { PrintsPrefixed self.old.prefix.items self.old.json self.old.fresh self.old.fault (W.contents self.old.output.now)
-            (gathered_text text.now.failed text.now.octets.items) self.new.fresh self.new.fault (W.contents self.new.output.now) }
+        requires flag { O.has_failed self.old.output.now ≡ failed_by self.old.fault }
+        ensures flag { O.has_failed self.new.output.now ≡ failed_by self.new.fault }
+        ensures grows { Grows self.old.fault self.new.fault (O.written self.old.output.now) (O.written self.new.output.now) }
+        ensures text { PrintsPrefixed self.old.prefix.items self.old.json self.old.fresh self.old.fault (O.written self.old.output.now)
+            (gathered_text text.now.failed text.now.octets.items) self.new.fresh self.new.fault (O.written self.new.output.now) }
         ensures kept { (self.new.prefix ≡ self.old.prefix) × (self.new.json ≡ self.old.json) }
         ensures same_reference { self.new.output.ghost_name ≡ self.old.output.ghost_name }
     {

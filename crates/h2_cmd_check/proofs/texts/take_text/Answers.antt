@@ -9,7 +9,7 @@ use Rattle.h2_cmd_check.proofs.texts.take_text.Goals as goal
 pub returns-clause-takes : goal.returns-clause-takes
 returns-clause-takes c =
     let k = c.in-Ok-Some.taken in
-    let x : Explained = record { number = c.len.result + 1; offset = c.args.offset; octets = c.first_of-own.result; ahead = c.args.octets; used = k.used; what = k.item; part = c.part_in.result; part_is = c.item-1.given.0; cause = k.cause; ignored = k.ignored; sent = c.as_slice.result; before = c.moment_at-before.result; after = c.moment_at.result } in
+    let x : Explained = record { number = c.len.result + 1; offset = c.args.offset; octets = c.first_octets-own.result; ahead = c.args.octets; used = k.used; what = k.item; part = c.part_in.result; part_is = c.item-1.given.0; cause = k.cause; ignored = k.ignored; sent = c.as_slice.result; before = c.moment_at-before.result; after = c.moment_at.result } in
     let first = rw c.in-Ok-Some.field-0-is at c.in-Ok-Some.ensures.ok in
     let taken = rw c.in-Ok-Some.field-0-is at c.in-Ok-Some.ensures.report in
     let number : c.len.result + 1 ≡ length (map string_bytes c.args.texts.now.items) + 1 = ap (λ (n : ℕ). n + 1) (c.len.ensures ∙ c.args.texts.now.ok.0 ∙ sym (length-map c.args.texts.now.items string_bytes)) in
@@ -19,7 +19,7 @@ returns-clause-takes c =
     record {
       item = x;
       explains = item-explained c.args.conn.now.state c.args.octets.now c.clear.new.self.items c.take_and_report.new.out.items _ c.args.offset c.take_and_report.new.self x c.take_and_report.ensures.ready first taken
-          number refl c.first_of-own.ensures refl sent before after;
+          number refl c.first_octets-own.ensures refl sent before after;
       used_is = refl;
       text = string_bytes c.in-Ok.text;
       said = c.in-Ok.ensures;

@@ -6,4 +6,4 @@ pub returns : goal.returns
 returns c =
     let h = c.in_ok-head.head in
     let rest = c.behind_head-rest.result.now in
-    rw (c.first_of-payload.ensures, c.octets_from.ensures) (frame-found c.args.octets.now rest h (search rules) c.behind_head-rest.ensures c.if-rest-length.false)
+    rw (c.first_octets-payload.ensures, c.octets_from.ensures) (frame-found c.args.octets.now rest h (search rules) c.behind_head-rest.ensures c.if-rest-length.false)

@@ -19,7 +19,7 @@ pub returns-clause-ok : goal.returns-clause-ok
 returns-clause-ok g c =
     let e = c.args.self.now in
     let k = c.in-Ok-Some.taken in
-    let x : Explained = record { number = e.items + 1; offset = e.offset; octets = c.first_of-own.result; ahead = c.args.octets; used = k.used; what = k.item; part = c.part_in.result; part_is = c.item-1.given.0; cause = k.cause; ignored = k.ignored; sent = c.octets_from.result; before = c.moment_at-before.result; after = c.moment_at.result } in
+    let x : Explained = record { number = e.items + 1; offset = e.offset; octets = c.first_octets-own.result; ahead = c.args.octets; used = k.used; what = k.item; part = c.part_in.result; part_is = c.item-1.given.0; cause = k.cause; ignored = k.ignored; sent = c.octets_from.result; before = c.moment_at-before.result; after = c.moment_at.result } in
     let first = rw c.in-Ok-Some.field-0-is at c.in-Ok-Some.ensures.ok in
     let taken = rw c.in-Ok-Some.field-0-is at c.in-Ok-Some.ensures.report in
     let sent = c.octets_from.ensures ∙ ap₂ (λ (n : ℕ) (l : List ℕ). drop n l) c.start_of-start.ensures.end c.as_slice.ensures.value in
@@ -29,7 +29,7 @@ returns-clause-ok g c =
     record {
       item = x;
       explains = item-explained c.args.conn.now.state c.args.octets.now c.start_of-start.new.out.items c.take_and_report.new.out.items (e.items + 1) e.offset c.take_and_report.new.self x c.take_and_report.ensures.ready first taken
-          refl refl c.first_of-own.ensures refl sent before after;
+          refl refl c.first_octets-own.ensures refl sent before after;
       used_is = refl;
       written = subst (λ (r : Result (Unit {0}) ExplainFault). Gains (IsWritten (λ (t : List ℕ). IsItemText e.form x t) r) (g.O.Output.written c.args.output.now) (g.O.Output.written c.write_item.new.output)) c.in-Ok.is (c.write_item.ensures.gains well);
       tallied = c.in-Ok.ensures.tally;

@@ -2,14 +2,18 @@ use Rattle.std.proofs.Common.{◌∙◌, ◌≡◌, Bool, IfOk, List, ℕ, ap, i
 use Rattle.h2_conn.specs.Connection.{Connection, going}
 use Rattle.h2_serve.specs.Drives.{Drives, drive_state}
 use Rattle.h2_serve.proofs.Exchanges.{taken-no_item}
+use Rattle.h2_serve.specs.Faults.{failed_by}
 use Rattle.h2_serve.specs.ExplainedConns.{whole}
-use Rattle.h2_serve.proofs.Watching.{said-new, shown-read, watched-new}
+use Rattle.h2_serve.proofs.Watching.{flag-read, grew-read, said-new, shown-read, watched-new}
 use Rattle.h2_serve.proofs.explained.explain.explain_over.Goals as goal
 
 pub drive_with-end-requires-clause-ready : goal.drive_with-end-requires-clause-ready
 drive_with-end-requires-clause-ready g c =
     let none = taken-no_item c.args.conn (sym c.failed.ensures.value ∙ c.if-failed.false) (c.failed.ensures.no_item c.if-failed.false) c.failed.ensures.over in
-    watched-new c.args.form c.args.conn c.in-Ok-new.explanation c.requires.new c.in-Ok-new.ensures none
+    let lines = c.new-printer.ensures.lines in (
+      watched-new c.args.form c.args.conn c.in-Ok-new.explanation c.requires.new c.in-Ok-new.ensures none,
+      ap g.O.Output.has_failed c.new-printer.ensures.output ∙ c.requires.writer ∙ sym (ap failed_by lines.3),
+    )
 
 pub returns-clause-drives : goal.returns-clause-drives
 returns-clause-drives g c =
@@ -37,7 +41,7 @@ returns-clause-shows g c =
     let lines = c.new-printer.ensures.lines in
     let same = c.finish-conclusion.ensures.same_reference ∙ went.3 ∙ c.new-printer.ensures.same_reference in
     shown-read c.args.form c.args.number c.finish-conclusion.result.0 _ c.drive_with-end.new.driven.failed c.args.conn.state drove.0 c.args.conn _
-    c.in-Ok-new.explanation _ _ _ _ _ _ _ _ _ (g.W.Write.contents c.new-printer.result.output.now) _ (g.W.Write.contents c.finish-conclusion.result.1.now) _ _ _ _
+    c.in-Ok-new.explanation _ _ _ _ _ _ _ _ _ (g.O.Output.written c.new-printer.result.output.now) _ (g.O.Output.written c.finish-conclusion.result.1.now) _ _ _ _
     (search rules) (search rules) drove.1 went.0 (ap (λ v. v.items) lines.0 ∙ c.in-Ok.ensures) lines.1 lines.2 went.1 went.2
     (said-new c.args.form c.args.conn c.in-Ok-new.explanation c.requires.new c.in-Ok-new.ensures) went.4 c.finish-conclusion.ensures.ended
 
@@ -45,3 +49,16 @@ pub returns-clause-lost : goal.returns-clause-lost
 returns-clause-lost g c =
     let went = c.drive_with-end.ensures.passes.2 refl in
     subst (λ (f : Bool). IfOk c.finish-conclusion.result.0 (λ x. is_none x.summary ≡ f)) went.0 c.finish-conclusion.ensures.lost
+
+pub returns-clause-flag : goal.returns-clause-flag
+returns-clause-flag g c =
+    let went = c.drive_with-end.ensures.passes.2 refl in
+    let same = c.finish-conclusion.ensures.same_reference ∙ went.3 ∙ c.new-printer.ensures.same_reference in
+    flag-read (g.O.Output.has_failed c.finish-conclusion.result.1.now) _ _ (search rules) c.finish-conclusion.ensures.flag
+
+pub returns-clause-grew : goal.returns-clause-grew
+returns-clause-grew g c =
+    let went = c.drive_with-end.ensures.passes.2 refl in
+    let same = c.finish-conclusion.ensures.same_reference ∙ went.3 ∙ c.new-printer.ensures.same_reference in
+    grew-read _ _ (g.O.Output.written c.new-printer.result.output.now) _ (g.O.Output.written c.finish-conclusion.result.1.now) _ _ _
+    (search rules) (search rules) went.5 c.finish-conclusion.ensures.grew

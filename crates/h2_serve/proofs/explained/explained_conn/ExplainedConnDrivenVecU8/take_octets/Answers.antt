@@ -1,6 +1,6 @@
 use Rattle.std.proofs.Common.{Bool, List, ℕ, ap, arith, length, refl, rules}
 use Rattle.h2_serve.specs.Numbered.{PrintsPrefixed, gathered_text}
-use Rattle.h2_serve.specs.Passes.{prints-none}
+use Rattle.h2_serve.specs.Passes.{grows-none, prints-none}
 use Rattle.h2_serve.proofs.Watching.{cut-before, cut-gathered, goes-said, halts-early, watched-more}
 use Rattle.h2_serve.proofs.explained.explained_conn.ExplainedConnDrivenVecU8.take_octets.Goals as goal
 
@@ -13,21 +13,24 @@ pub returns-then-came-ge-MOST-clause-passes : goal.returns-then-came-ge-MOST-cla
 returns-then-came-ge-MOST-clause-passes g c = λ is.
     let w = c.args.self.now in
     let p = w.printer in
-    let known = g.W.Write.contents p.output.now in (
+    let known = g.O.Output.written p.output.now in (
       refl {A = Bool},
       refl {A = List ℕ},
       refl {A = Bool},
       refl {A = ℕ},
       cut-before (λ (more : List ℕ). PrintsPrefixed p.prefix.items p.json p.fresh p.fault known more p.fresh p.fault known)
           w.conn w.conn w.explanation w.explanation c.args.piece.now (prints-none p.prefix.items p.json p.fresh p.fault known),
+      grows-none p.fault known,
     )
 
 pub returns-in-Ok-clause-ready : goal.returns-in-Ok-clause-ready
 returns-in-Ok-clause-ready g c =
-    let w = c.args.self.now in
-    watched-more w.failed w.conn c.feed-fed.new.conn w.explanation c.feed-fed.new.self w.came (length c.args.piece.now) _
-    c.args.piece.now c.args.out.now.items c.feed-fed.new.out.items c.requires.going c.requires.ready c.in-Ok.ensures.ready
-    c.in-Ok.ensures.room (search rules) (omega (arith, c.if-came-ge-MOST.false)) c.in-Ok.ensures.fed
+    let w = c.args.self.now in (
+      watched-more w.failed w.conn c.feed-fed.new.conn w.explanation c.feed-fed.new.self w.came (length c.args.piece.now) _
+          c.args.piece.now c.args.out.now.items c.feed-fed.new.out.items c.requires.going c.requires.ready.0 c.in-Ok.ensures.ready
+          c.in-Ok.ensures.room (search rules) (omega (arith, c.if-came-ge-MOST.false)) c.in-Ok.ensures.fed,
+      c.print_gathered.ensures.flag,
+    )
 
 pub returns-in-Ok-clause-passes : goal.returns-in-Ok-clause-passes
 returns-in-Ok-clause-passes g c = λ is.
@@ -39,6 +42,7 @@ returns-in-Ok-clause-passes g c = λ is.
       goes-said _ _ _ _ _ _ _ _ _ c.in-Ok.ensures.form c.new-text.ensures.0
           (ap (λ f. gathered_text f c.feed-fed.new.output.octets.items) c.in-Ok.ensures.flag)
           c.in-Ok.ensures.goes c.in-Ok.ensures.gains c.print_gathered.ensures.text,
+      c.print_gathered.ensures.grows,
     )
 
 pub returns-clause-passes : goal.returns-clause-passes
@@ -48,5 +52,6 @@ returns-clause-passes g c = λ is.
       ap (λ v. v.items) kept.0,
       kept.1,
       c.print_gathered.ensures.same_reference,
-      cut-gathered _ _ c.feed-fed.new.conn _ c.feed-fed.new.self _ _ _ _ c.new-text.ensures.0 c.in-Err.ensures.cut c.print_gathered.ensures.text,
+      cut-gathered _ _ c.feed-fed.new.conn _ c.feed-fed.new.self c.args.piece.now _ _ _ c.new-text.ensures.0 c.in-Err.ensures.cut c.print_gathered.ensures.text,
+      c.print_gathered.ensures.grows,
     )

@@ -3,8 +3,7 @@
 ghost use Rattle.std.specs.Prelude.{◌≡◌, ◌+◌, ◌≤◌, length, IfSome};
 
 use crate::plain::{is_all_plain, is_plain};
-use crate::sent::first_of;
-use h2_spec::octets::octets_from;
+use h2_spec::octets::{first_octets, octets_from};
 use itoa::Buffer;
 use std::alloc::{AllocError, Allocator, Global};
 
@@ -58,7 +57,7 @@ impl<A: Allocator> TextBuilder<A> {
 
     /// What is shown of octets: the first of them, or all.
     pub fn shown_of<'o>(&self, octets: &'o [u8]) -> &'o [u8] {
-        first_of(octets, self.shown)
+        first_octets(octets, self.shown)
     }
 
     /// The text.
@@ -96,7 +95,7 @@ impl<A: Allocator> TextBuilder<A> {
         if self.refused {
             return Err(AllocError);
         }
-        Ok(first_of(self.octets.as_slice(), self.len))
+        Ok(first_octets(self.octets.as_slice(), self.len))
     }
 
     /// As if no part had been put: the memory stays. Long texts are shown whole where this is asked for.
@@ -214,7 +213,7 @@ impl<A: Allocator> TextBuilder<A> {
 
     /// The octets from a place on.
     pub(crate) fn octets_from(&self, start: usize) -> &[u8] {
-        let octets = first_of(self.octets.as_slice(), self.len);
+        let octets = first_octets(self.octets.as_slice(), self.len);
         octets_from(octets, start.min(octets.len()))
     }
 

@@ -1,0 +1,463 @@
+#!/usr/bin/env python3
+"""Tests tests/dialogues.py by clients of its own: one that does what each dialogue wants, and others that do something else.
+
+    tests/dialogues_test.py PROGRAM
+
+It needs nothing but Python. The last line is `N passed, M failed`; the status is 1 where one failed.
+"""
+
+import concurrent.futures
+import contextlib
+import glob
+import io
+import os
+import re
+import socket
+import subprocess
+import sys
+import tempfile
+import types
+
+sys.dont_write_bytecode = True
+import dialogues as under_test  # noqa: E402
+from dialogues import ACK, CODES, DATA, END_HEADERS, END_STREAM, GOAWAY, HEADERS, PING, PROBE, RST_STREAM, SETTINGS, WINDOW_UPDATE, Frame, frames_of, number_at, octets_of  # noqa: E402
+
+TOP = under_test.TOP
+# Method, scheme, path of requests, without Huffman coding: GET /, GET /1, GET /2, POST /p.
+GET, POST = bytes.fromhex("828684"), bytes.fromhex("838604022f70")
+FIRST, SECOND = bytes.fromhex("828604022f31"), bytes.fromhex("828604022f32")
+
+passed = failed = 0
+
+
+def expect(well, what):
+    global passed, failed
+    if well:
+        passed += 1
+    else:
+        failed += 1
+        print(f"dialogues_test.py: {what}", flush=True)
+
+
+# ---- a client
+
+
+class Client:
+    """A client of one dialogue. It reads frame by frame, acknowledges SETTINGS, answers PING, keeps to limits, and does `reaction` of each PING behind a step first.
+    `reaction` gets the number of the PING and what the dialogue wants there, and returns that or something else: (`-`, `connection CODE`, `stream N CODE`, ..)."""
+
+    def __init__(self, dialogue, kind, reaction, first=1, acknowledgements=1):
+        self.wanted = [step.wanted[0] for step in dialogue.steps if step.wanted]
+        self.kind, self.reaction, self.first, self.acknowledgements = kind, reaction, first, acknowledgements
+        self.closed, self.failed = set(), False
+        self.probes, self.has_left, self.ended, self.opened, self.streams, self.table, self.has_goaway, self.acknowledged = 0, False, set(), 0, 100, b"", False, 0
+
+    def send(self, *frame):
+        self.socket.sendall(octets_of(Frame(*frame)))
+
+    def request(self, flags, block):
+        self.send(HEADERS, flags, self.first + 2 * self.opened, self.table + block)
+        self.opened, self.table = self.opened + 1, b""
+
+    def run(self, port, _=None):
+        with socket.create_connection(("127.0.0.1", port), 10) as self.socket:
+            self.socket.sendall(under_test.PREFACE)
+            self.send(SETTINGS, 0, 0, bytes.fromhex("000200000000") + (bytes.fromhex("000400000578") if self.kind == "small-window" else b""))
+            self.begin()
+            inbox = b""
+            try:
+                while not self.has_left:
+                    got = self.socket.recv(1 << 16)
+                    frames, inbox = frames_of(inbox + got)
+                    self.has_left = not got
+                    for frame in frames:
+                        self.take(frame) if not self.has_left else None
+            except OSError:
+                pass
+        return 0
+
+    def begin(self):
+        """The requests that a client makes at once."""
+        if self.kind == "upload":
+            self.request(END_HEADERS, POST)
+            self.send(DATA, 0, self.first, bytes(1000))
+            self.go_on()
+        elif self.kind == "two-requests":
+            self.request(END_HEADERS | END_STREAM, FIRST)
+        else:
+            self.request(END_HEADERS | END_STREAM, FIRST if self.kind == "next-request" else GET)
+
+    def take(self, frame):
+        stream = frame.stream & ~(1 << 31)
+        if frame.kind == SETTINGS and not frame.flags & ACK and stream == 0 and len(frame.payload) % 6 == 0:
+            values = dict(under_test.settings_of(frame))
+            self.streams, self.table = values.get(3, self.streams), b"\x20" if values.get(1) == 0 else self.table
+            for _ in range(self.acknowledgements):
+                self.send(SETTINGS, ACK, 0, b"")
+            self.acknowledged += 1
+            self.go_on()
+        elif frame.kind == PING and not frame.flags & ACK and stream == 0 and len(frame.payload) == 8:
+            self.asked(frame.payload)
+        elif frame.kind == GOAWAY:
+            self.has_goaway, self.failed = True, any(frame.payload[4:8])
+        elif frame.kind in (DATA, HEADERS) and frame.flags & END_STREAM or frame.kind == RST_STREAM:
+            self.ended.add(stream)
+            self.closed |= {stream} if frame.kind == RST_STREAM else set()
+            self.go_on()
+
+    def asked(self, payload):
+        if payload != PROBE:
+            return self.send(PING, ACK, 0, payload)
+        self.probes += 1
+        words = self.reaction(self.probes, self.wanted[self.probes - 1]).split(" ")
+        if words[0] == "connection":
+            self.send(GOAWAY, 0, 0, bytes(4) + CODES.index(words[1]).to_bytes(4, "big"))
+        if words[0] == "stream":
+            self.send(RST_STREAM, 0, int(words[1]) + self.first - 1, CODES.index(words[2]).to_bytes(4, "big"))
+            self.ended.add(int(words[1]) + self.first - 1)
+            self.closed.add(int(words[1]) + self.first - 1)
+        if words[0] in ("connection", "leaves"):
+            self.has_left = True
+        elif words[0] != "silent":
+            self.send(PING, ACK, 0, PROBE)
+            self.go_on()
+        return None
+
+    def go_on(self):
+        """The rest of an upload, once all PINGs are answered; the next request, where limits and GOAWAY allow it; the end, where nothing is awaited."""
+        if self.kind == "upload" and self.probes == len(self.wanted) and self.opened == 1:
+            self.opened = 2
+            if self.first not in self.closed:
+                self.send(DATA, END_STREAM, self.first, bytes(10))
+        may_open = self.acknowledged and not self.has_goaway and self.streams > self.opened - len(self.ended)
+        if self.kind == "two-requests" and self.opened == 1 and may_open or self.kind == "next-request" and self.opened == 1 and self.ended and may_open:
+            self.request(END_HEADERS | END_STREAM, SECOND)
+        requests = 2 if self.kind in ("two-requests", "upload") or self.kind == "next-request" and may_open else 1
+        done = self.ended >= {self.first + 2 * at for at in range(1 if self.kind == "upload" else requests)}
+        if (self.failed or done and self.opened >= requests) and self.probes == len(self.wanted):
+            self.has_left = True
+
+
+def options(**more):
+    return types.SimpleNamespace(**{"program": PROGRAM, "patience": 3, "limit": 20, "command": [], **more})
+
+
+def found(dialogue, kind, reaction, status=None, how=None, client=Client, **more):
+    """The verdicts on a dialogue with a client; its command's status is `status`."""
+    made = client(dialogue, kind, reaction, **more)
+    run = lambda port, connections: made.run(port, connections) and None or status
+    return under_test.verdicts(dialogue, *under_test.play(dialogue, 0, how or options(), run))
+
+
+def obeys(_, wanted):
+    return wanted.text.split(" ", 1)[1]
+
+
+def right_status(dialogue):
+    return next(number for number in range(4) if all((number == line.number) == line.is_wanted for line in dialogue.statuses))
+
+
+# ---- all dialogues
+
+
+def files():
+    """Each file of dialogues: its kind of client, its text, its dialogues."""
+    with tempfile.TemporaryDirectory() as folder:
+        long = f"{folder}/long.h2"
+        with open(long, "w", encoding="utf-8") as file:
+            subprocess.run([f"{TOP}/dialogues/long.sh"], stdout=file, check=True)
+        for path in [*sorted(glob.glob(f"{TOP}/dialogues/*.h2")), long]:
+            with open(path, encoding="utf-8") as file:
+                yield os.path.basename(path)[:-3], file.read(), under_test.read_file(path, PROGRAM)
+
+
+def kinds(verdicts):
+    return sorted({one.kind for one in verdicts})
+
+
+def for_all(dialogues, reaction, status, how=None):
+    """The kinds of verdicts for each dialogue."""
+    with concurrent.futures.ThreadPoolExecutor(4) as pool:
+        return list(pool.map(lambda pair: found(pair[1], pair[0], reaction, status(pair[1]), how), dialogues))
+
+
+def duties(dialogue):
+    return [(step.wanted[0].duty, step.wanted[0].scope) for step in dialogue.steps if step.wanted]
+
+
+def test_all(dialogues):
+    expect(len(dialogues) == 108, f"{len(dialogues)} dialogues, not 108")
+    for (_, dialogue), verdicts in zip(dialogues, for_all(dialogues, obeys, right_status)):
+        # It leaves after a GOAWAY with an error, as it may.
+        expect(not verdicts or [(one.wanted, one.found) for one in verdicts] == [("MAY -", "closed")], f"the client that obeys: {dialogue.title}: {verdicts}")
+    dialogues = [(name, dialogue) for name, dialogue in dialogues if name != "long"]
+    for (_, dialogue), verdicts in zip(dialogues, for_all(dialogues, lambda *_: "-", right_status)):
+        # A stream error need not be on the wire where the client's user sees a failure.
+        broken = [duty for duty, scope in duties(dialogue) if scope == "connection" or scope == "stream" and right_status(dialogue) == 0]
+        expect(("broken" in kinds(verdicts)) == ("MUST" in broken), f"the client that goes on: {dialogue.title}: {verdicts}")
+        expect(("open" in kinds(verdicts)) == ("MUST?" in broken), f"the client that goes on: {dialogue.title}: {verdicts}")
+    refuses = for_all(dialogues, lambda *_: "connection INTERNAL_ERROR", right_status)
+    for (_, dialogue), verdicts in zip(dialogues, refuses):
+        expect(("broken" in kinds(verdicts)) == (("MUST", "-") in duties(dialogue)[:1]), f"the client that refuses all: {dialogue.title}: {verdicts}")
+
+
+def rules():
+    """The rows of docs/RULES.md by name, each with its cells by the names of the columns."""
+    found, names = {}, []
+    with open(f"{TOP}/docs/RULES.md", encoding="utf-8") as file:
+        for line in file:
+            cells = [cell.strip() for cell in line.strip().strip("|").split(" | ")]
+            if line.startswith("| Name |"):
+                names = cells
+            elif line.startswith("| `"):
+                found[cells[0].strip("` ")] = dict(zip(names, cells))
+    return found
+
+
+def test_rules(text, name, rows):
+    """A dialogue that names a rule of docs/RULES.md has its section in the title; one that wants an error of it has a code, a scope and a duty of its row."""
+    for one in re.split(r"^;# ", text, flags=re.M)[1:]:
+        title, rule, wanted = one.split("\n")[0], re.search(r"^; Rule: (.*)$", one, re.M), re.search(r"^;! (\S+) (connection|stream) (?:\d+ )?(\S+)$", one, re.M)
+        expect(re.search(r"RFC \d{4}, \d", title), f"{name}: {title}: no section")
+        if not rule:
+            continue
+        row = rows.get(rule[1], {"Rule": "", "Server": ""})
+        sections = re.findall(r"RFC \d+ ([\d.]+\d)", row["Rule"] + row["Server"])
+        expect(any(re.search(rf"\b{re.escape(section)}\b", title) for section in sections), f"{name}: {title}: {rule[1]} is of {sections}")
+        may = row.get("A server may", "") + row.get("Open", "")
+        if wanted and may:
+            codes = {(letter, int(code)) for letter, several in re.findall(r"\b([CS]) (\d+(?: or \d+)*)", may) for code in several.split(" or ")}
+            expect((wanted[2][0].upper(), CODES.index(wanted[3])) in codes or "; Open: " in one, f"{name}: {title}: {wanted[0]} and {may}")
+            expect((wanted[1] == "MUST") == (row["Server"] == "server MUST"), f"{name}: {title}: {wanted[0]} and {row['Server']}")
+        elif wanted and rule[1] != "list-too-large":
+            expect(f"{wanted[3]}:" in row["Rule"], f"{name}: {title}: {wanted[0]} and {row['Rule']}")
+
+
+# ---- verdicts of one dialogue each
+
+ERROR = ";# An error\n;- HEADERS 05 1\nDATA 00 0 x61\n;! MUST connection PROTOCOL_ERROR\n;+ pong\nHEADERS 05 1 hi8\n"
+STREAM = ";# A stream error\n;- HEADERS 05 1\nHEADERS 04 1 hi8,i8\n;! MUST stream 1 PROTOCOL_ERROR\n;+ pong\nDATA 01 1 x61\n;$ !0\n"
+TWO = ";# A stream error beside a request\n;- HEADERS 05 1\n;- HEADERS 05 3\nHEADERS 04 1 hi8,i8\n;! MUST stream 1 PROTOCOL_ERROR\n"
+EITHER = STREAM.replace(";+ pong", ";! MUST connection COMPRESSION_ERROR\n;+ pong").replace(";$ !0\n", "")
+WHOLE = ";# An error in a whole response\n;- HEADERS 05 1\nHEADERS 05 1 x8880\n;! MUST connection COMPRESSION_ERROR\n"
+LAWFUL = ";# Lawful\n;- HEADERS 05 1\nSETTINGS 00 0 s3=5\n;< SETTINGS 01 0 -\n;! MUST -\n;+ pong\nHEADERS 05 1 hi8\n;$ 0\n"
+PINGS = ";# A PING, and no DATA\n;- HEADERS 05 1\nPING 00 0 x0102030405060708\n;< PING 01 0 x0102030405060708\n;< ! DATA 00 1\n;! MUST -\n;+ pong\nHEADERS 05 1 hi8\n"
+LATER = ";# An item that never comes\n;- HEADERS 05 1\n;+ RST_STREAM 00 1\nPING 00 0 x0102030405060708\n"
+WARNS = ";# May\n;- HEADERS 05 1\nPING 01 0 x0102030405060708\n;! MAY -\n;+ pong\nHEADERS 05 1 hi8\n"
+# A dialogue, what the client does at the PING, the status of its command, and each verdict: its kind and what was found.
+REACTIONS = [
+    (ERROR, "connection PROTOCOL_ERROR", None, []),
+    (ERROR, "connection INTERNAL_ERROR", None, [("allowed", "connection INTERNAL_ERROR: another code, 5.4")]),
+    (ERROR, "connection NO_ERROR", None, [("allowed", "closed: no GOAWAY; 5.4.1 has SHOULD")]),
+    (ERROR, "leaves", None, [("allowed", "closed: no GOAWAY; 5.4.1 has SHOULD")]),
+    (ERROR, "stream 1 PROTOCOL_ERROR", None, [("broken", "stream 1 PROTOCOL_ERROR")]),
+    (ERROR, "-", None, [("broken", "goes on")]),
+    (ERROR, "silent", None, [("broken", "silent: no error, no answer to the PING, no end")]),
+    (STREAM, "stream 1 PROTOCOL_ERROR", 1, []),
+    (STREAM, "stream 1 PROTOCOL_ERROR", 0, [("user", "exit status 0")]),
+    (STREAM, "stream 1 INTERNAL_ERROR", 1, [("allowed", "stream 1 INTERNAL_ERROR: a generic code, 5.4")]),
+    (STREAM, "stream 1 CANCEL", 1, [("open", "stream 1 CANCEL")]),
+    (EITHER, "stream 1 PROTOCOL_ERROR", None, []),
+    (EITHER, "connection COMPRESSION_ERROR", None, []),
+    (EITHER, "-", None, [("broken", "goes on")]),
+    (TWO, "stream 3 PROTOCOL_ERROR", 1, [("broken", "stream 3 PROTOCOL_ERROR")]),
+    (STREAM, "connection PROTOCOL_ERROR", 1, [("allowed", "connection PROTOCOL_ERROR: a connection error for a stream error, 5.4.2")]),
+    (STREAM, "-", 1, [("allowed", "goes on: nothing was sent, and the command fails")]),
+    (STREAM, "-", 0, [("broken", "goes on"), ("user", "exit status 0")]),
+    (LAWFUL, "-", 0, []),
+    (WHOLE, "leaves", None, [("allowed", "closed: no GOAWAY; 5.4.1 has SHOULD")]),
+    (WHOLE, "-", None, [("broken", "goes on")]),
+    (LAWFUL + ";- DATA 01 1\n", "-", 0, []),
+    (LAWFUL, "-", 7, [("user", "exit status 7")]),
+    (LAWFUL, "-", "killed", [("broken", "it had to be killed")]),
+    (LAWFUL, "leaves", 0, [("broken", "closed")]),
+    (LAWFUL, "stream 1 CANCEL", 0, [("broken", "stream 1 CANCEL")]),
+    (LAWFUL, "connection PROTOCOL_ERROR", 0, [("broken", "connection PROTOCOL_ERROR")]),
+    (PINGS, "-", None, []),
+    (WARNS, "connection PROTOCOL_ERROR", None, [("allowed", "connection PROTOCOL_ERROR")]),
+    (LATER, "-", None, [("missing", "no such item came; silent")]),
+]
+
+
+def read(text):
+    """The dialogue of a text."""
+    with tempfile.NamedTemporaryFile("w", suffix=".h2") as file:
+        file.write(text)
+        file.flush()
+        return under_test.read_file(file.name, PROGRAM)[0]
+
+
+def test_reactions():
+    def one(row):
+        text, words, status, wanted = row
+        patience = 0.3 if "silent" in str(wanted) else 3
+        return [(it.kind, it.found) for it in found(read(text), "two-requests" if text == TWO else "get", lambda *_: words, status, options(patience=patience))]
+
+    with concurrent.futures.ThreadPoolExecutor(4) as pool:
+        for (text, words, status, wanted), got in zip(REACTIONS, pool.map(one, REACTIONS)):
+            expect(got == wanted, f"{text.splitlines()[0]}: {words}, status {status}: {got}")
+    for first in (3, 13):
+        expect(found(read(STREAM), "get", obeys, 1, first=first) == [], f"a client whose first stream is {first}")
+
+
+# ---- clients that are none
+
+
+class Raw:
+    """A client that sends octets, and then does as it is asked: `leaves`, `waits`, or `goes on` with PINGs."""
+
+    def __init__(self, _, octets, then):
+        self.octets, self.then = octets, then
+
+    def run(self, port, connections):
+        if self.then == "stays away":
+            return
+        with socket.create_connection(("127.0.0.1", port), 10) as one:
+            one.sendall(self.octets)
+            try:
+                while self.then == "goes on":
+                    one.sendall(octets_of(Frame(PING, ACK, 0, bytes(8))) * 10)
+                while self.then == "waits" and one.recv(1 << 16):
+                    pass
+                one.settimeout(0.05)
+                while one.recv(1 << 16):
+                    pass
+            except OSError:
+                pass
+
+
+START = under_test.PREFACE + octets_of(Frame(SETTINGS, 0, 0, b""))
+ACKNOWLEDGES = octets_of(Frame(SETTINGS, ACK, 0, b""))
+ASKS = START + octets_of(Frame(HEADERS, 5, 1, GET)) + ACKNOWLEDGES
+RAW = [
+    (b"GET / HTTP/1.1\r\n\r\n", "waits", "broken", "octets that are no frames: 'GET / HTTP/1.1\\r\\n\\r\\n'"),
+    (START + b"\xff" * 9, "waits", "broken", "octets that are no frames, or a frame of 16777215 octets: ffffffffffffffffff"),
+    (START + b"\0\0\5\0", "leaves", "missing", "no such item came; closed"),
+    (START, "leaves", "missing", "no such item came; closed"),
+    (START, "waits", "missing", "no such item came; silent"),
+    (START, "goes on", "broken", "the dialogue has not ended after 0.5 s"),
+    (ASKS, "leaves", "broken", "closed"),
+    (START + octets_of(Frame(DATA, 0, 1, b"a")), "waits", "broken", "ended by the server: data-on-idle"),
+    (ASKS + octets_of(Frame(WINDOW_UPDATE, 0, 0, bytes(4))), "waits", "broken", "ended by the server: connection-increment-zero"),
+    (b"", "stays away", "broken", "no connection came"),
+]
+
+
+def test_raw():
+    for octets, then, kind, wanted in RAW:
+        got = found(read(LAWFUL), octets, then, None, options(patience=0.3, limit=0.5), Raw)
+        expect(got and (got[0].kind, got[0].found) == (kind, wanted), f"{octets[24:60]} {then}: {got}")
+
+
+def test_waiting():
+    """A client that answers the PING and then waits, until the runner ends the connection: its command fails too late."""
+    octets = ASKS + octets_of(Frame(PING, ACK, 0, PROBE))
+    got = found(read(STREAM), octets, "waits", 1, options(patience=0.3), Raw)
+    expect([(one.kind, one.found) for one in got] == [("broken", "goes on")], f"a client that waits: {got}")
+
+
+def test_limits():
+    for times, wanted in ((0, "2 SETTINGS frames are not acknowledged"), (2, "SETTINGS ACK without SETTINGS")):
+        got = found(read(LAWFUL.replace(";< SETTINGS 01 0 -\n", "")), "get", obeys, 0, acknowledgements=times)
+        expect([one.found for one in got] == [wanted], f"SETTINGS acknowledged {times} times: {got}")
+    late = types.SimpleNamespace(base=0, log=[("step", 1), ("item", Frame(PING, ACK, 0, PROBE)), ("step", 2), ("item", Frame(SETTINGS, ACK, 0, b""))])
+    late.shifted = lambda frame: frame
+    [sends] = read(LAWFUL).steps[0].sends
+    expect(under_test.sends_verdict(late, 1, sends) is None, "an acknowledgement behind the answer to the PING")
+    never = sends._replace(is_sent=False, what=under_test.Pattern(SETTINGS, 0, 0, b""))
+    expect(under_test.sends_verdict(late, 1, never) is None and under_test.sends_verdict(late, 2, never) == "it is sent", "a frame that must not come before the next step")
+    got = found(read(LAWFUL), "get", obeys, 0, acknowledgements=0)
+    expect([(one.line, one.found) for one in got] == [(4, "-")], f"a line ;< that does not hold: {got}")
+    limits = under_test.Limits()
+    limits.sent(0, Frame(SETTINGS, 0, 0, bytes.fromhex("000300000001 000500005000")))
+    for frame in (Frame(HEADERS, 5, 1, GET), Frame(SETTINGS, ACK, 0, b""), Frame(HEADERS, 5, 3, GET), Frame(DATA, 1, 3, bytes(20481))):
+        limits.took(frame)
+    limits.sent(1, Frame(HEADERS, 5, 1, b"\x88"))
+    limits.sent(2, Frame(HEADERS, 5, 3, b"\x88"))
+    limits.took(Frame(HEADERS, 5, 5, GET))
+    wanted = ["HEADERS on stream 3, where 1 streams are allowed and 1 are live", "DATA of 20481 octets, where 20480 are allowed"]
+    expect(limits.faults == wanted, f"limits: {limits.faults}")
+
+
+def test_reset():
+    """On a stream that a script has reset nothing of the server goes out: here it grants an octet for each one of DATA, on the connection alone."""
+    dialogue = read(";# A reset\n;@ --credit 1\n;+ DATA 00 1\nRST_STREAM 00 1 c0\n")
+    octets = START + octets_of(Frame(HEADERS, END_HEADERS, 1, POST)) + octets_of(Frame(DATA, 0, 1, b"a")) * 3
+    made = Raw(None, octets, "leaves")
+    connections, _ = under_test.play(dialogue, 0, options(patience=0.3), made.run)
+    sent = [(frame.kind, frame.stream) for kind, frame in connections[0].log if kind == "sent"]
+    wanted = [(WINDOW_UPDATE, 0), (WINDOW_UPDATE, 1), (RST_STREAM, 1), (WINDOW_UPDATE, 0), (WINDOW_UPDATE, 0)]
+    expect(sent[2:] == wanted, f"a stream that is reset: {sent}")
+
+
+# ---- lines
+
+BAD = [
+    ("PING 00 0 x0102030405060708\n", 1, "a dialogue begins with a line ;# TITLE"),
+    (";+ start\n", 1, "a dialogue begins with a line ;# TITLE"),
+    (";# a\nPING 00 0 x0102030405060708\n", 2, "a step begins with a line ;+ ITEM or ;- ITEM"),
+    (";# a\n;! MUST -\n", 2, "a step begins with a line ;+ ITEM or ;- ITEM"),
+    (";# a\n; text\n;+ began\n", 3, "an item is start, pong, or NAME FLAGS STREAM"),
+    (";# a\n;+ PINGS 00 0\n", 2, "an item is start, pong, or NAME FLAGS STREAM"),
+    (";# a\n;+ PING 0 0\n", 2, "an item is start, pong, or NAME FLAGS STREAM"),
+    (";# a\n;+ start\n;! HAS -\n", 3, "a duty is MUST, MUST?, SHOULD, MAY"),
+    (";# a\n;+ start\n;! MUST connection\n", 3, "a reaction is -, connection CODE or stream N CODE"),
+    (";# a\n;+ start\n;! MUST stream 1 WRONG\n", 3, "a reaction is -, connection CODE or stream N CODE"),
+    (";# a\n;+ start\n;$ none\n", 3, "a status is N or !N"),
+    (";# a\n;+ start\n;= phase open\n", 3, "a mark of a dialogue is ;# ;@ ;+ ;- ;< ;! or ;$, and a space behind it"),
+    (";# a\n;+start\n", 2, "a mark of a dialogue is ;# ;@ ;+ ;- ;< ;! or ;$, and a space behind it"),
+    (";# a\n;+ start\nRAW 00\n", 3, "a line of a dialogue is one frame"),
+    (";# a\n;+ start\n;< ! DATA\n", 3, "an item is start, pong, or NAME FLAGS STREAM"),
+    (";# a\n;+ start\n\nPING 0 0 -\n", 4, "column 6: `0`: flags are two hex digits."),
+    (";# a\n;+ start\n;< HEADERS 04 1 hi8,j9\n", 3, "column "),
+    (";# a\n;+ start\n;# b\n;@ --streams none\n", 3, "the words of ;@ are refused: "),
+]
+
+
+def test_bad_lines():
+    with socket.socket() as port, tempfile.TemporaryDirectory() as folder:
+        # Nothing listens before a file is read: the port is taken, so listening would fail.
+        port.bind(("127.0.0.1", 0))
+        port.listen()
+        for text, line, wanted in BAD:
+            with open(f"{folder}/bad.h2", "w", encoding="utf-8") as file:
+                file.write(text)
+            with contextlib.redirect_stdout(io.StringIO()) as out, contextlib.redirect_stderr(io.StringIO()) as said:
+                status = under_test.main(["--program", PROGRAM, f"{folder}/bad.h2", str(port.getsockname()[1]), "true"])
+            got = (status, out.getvalue(), said.getvalue())
+            expect(got[:2] == (2, "") and got[2].startswith(f"{folder}/bad.h2:{line}: {wanted}"), f"{text!r}: {got}")
+
+
+def test_command():
+    """A run as an author makes it: TAP, a command that is killed, and the status."""
+    with tempfile.TemporaryDirectory() as folder:
+        with open(f"{folder}/two.h2", "w", encoding="utf-8") as file:
+            file.write(ERROR + STREAM)
+        words = [sys.executable, "-B", f"{TOP}/tests/dialogues.py", "--program", PROGRAM, "--patience", "0.2", "--limit", "0.5", "two.h2", "0"]
+        ran = subprocess.run([*words, "sh", "-c", "exec sleep 60"], cwd=folder, capture_output=True, text=True, timeout=60, check=False)
+        block = '  ---\n  - line: {}\n    wanted: "a connection"\n    found: "no connection came; exit status killed"\n  ...\n'
+        tap = f"TAP version 13\nnot ok 1 - two.h2: An error\n{block.format(1)}not ok 2 - two.h2: A stream error\n{block.format(7)}1..2\n"
+        expect(ran.returncode == 1 and ran.stdout == tap, f"a command that never connects: {ran}")
+
+
+def main():
+    all_files, rows = list(files()), rules()
+    for name, text, _ in all_files:
+        test_rules(text, name, rows)
+    test_bad_lines()
+    test_command()
+    test_reactions()
+    test_raw()
+    test_waiting()
+    test_limits()
+    test_reset()
+    test_all([(name, dialogue) for name, _, dialogues in all_files for dialogue in dialogues])
+    print(f"{passed} passed, {failed} failed")
+    return 1 if failed else 0
+
+
+if __name__ == "__main__":
+    if len(sys.argv) != 2:
+        sys.exit(__doc__)
+    PROGRAM = os.path.abspath(sys.argv[1])
+    sys.exit(main())
