@@ -30,7 +30,6 @@ use crate::places::place::Place;
 use crate::places::source::Source;
 use h2_conn::view::View;
 use h2_conn::{Conn, ConnFault};
-use h2_explain_item::diagnosis::special::case_by;
 use h2_explain_step::case_finder::{CaseFinder, Grounds};
 use h2_request_book::book::Book;
 use h2_spec::causes::Cause;
@@ -634,15 +633,16 @@ impl<'b, A: Allocator + Copy> Debugger<'b, A> {
         ensures fault { IfErr result (λ fault. fault ≡ NoMemory) }
         ensures same { self.new ≡ self.old }
     {
-        let (cause, ignored) = (self.cause(), self.ignored());
-        if cause.is_none() && ignored.is_none() {
-            return Ok(None);
-        }
-        let grounds = match self.grounds()? {
-            Some(grounds) => grounds,
-            None => Grounds::none(),
+        let reasons = self.present.reasons();
+        let grounds = if reasons.is_some() {
+            self.grounds()?
+        } else {
+            None
         };
-        Ok(case_by(cause, ignored, grounds.seen, grounds.facts))
+        match grounds {
+            Some(grounds) => Ok(reasons.special_case(grounds)),
+            None => Ok(reasons.special_case(Grounds::none())),
+        }
     }
 
     /// The present position: how many items came before it. It takes no memory.
