@@ -1,5 +1,5 @@
 -- What this server does conforms: each row by computation. And what a row allows, it allows in other forms too.
-use Rattle.std.proofs.Common.{◌≡◌, ◌×◌, ℕ, Bool, true, false, ◌||◌, refl}
+use Rattle.std.proofs.Common.{◌≡◌, ℕ, Bool, true, false, ◌||◌, refl}
 use Rattle.std.specs.Prelude.{if◌then◌else◌}
 use Rattle.h2_spec.specs.declared.accepted.Accepted.{Accepted}
 use Rattle.h2_spec.specs.declared.accepted.Accepted.TheVariants as accepted
@@ -23,37 +23,21 @@ use Rattle.h2_spec.specs.Causes.IgnoredWords.{reason_row}
 use Rattle.h2_spec.specs.Causes.SpecialCases.{special_row}
 use Rattle.h2_spec_laws.specs.Conformance.{has_its_least, permission_of_case, permission_to_accept, seen_of, seen_of_case}
 
-pub error-conforms : (it : Cause) → allows (row_of it).conforming (seen_of it) ≡ Allowed
+pub cause-row : (it : Cause) → (allows (row_of it).conforming (seen_of it) ≡ Allowed) × (has_its_least (row_of it).conforming ≡ true)
 unfolding row_of
-error-conforms it = elim it [ cause.BadPreface ↦ refl | cause.FirstNotSettings ↦ refl | cause.FirstIsSettingsAck ↦ refl | cause.FrameTooLarge ↦ refl | cause.StreamFrameTooLarge ↦ refl | cause.BlockInterrupted ↦ refl | cause.DataOnStreamZero ↦ refl | cause.HeadersOnStreamZero ↦ refl | cause.PriorityOnStreamZero ↦ refl | cause.RstStreamOnStreamZero ↦ refl | cause.ContinuationOnStreamZero ↦ refl | cause.SettingsOnStream ↦ refl | cause.PingOnStream ↦ refl | cause.GoawayOnStream ↦ refl | cause.DataLength ↦ refl | cause.HeadersLength ↦ refl | cause.PriorityLength ↦ refl | cause.RstStreamLength ↦ refl | cause.SettingsLength ↦ refl | cause.SettingsAckLength ↦ refl | cause.PingLength ↦ refl | cause.GoawayLength ↦ refl | cause.WindowUpdateLength ↦ refl | cause.DataPadding ↦ refl | cause.HeadersPadding ↦ refl | cause.PushPromiseFromClient ↦ refl | cause.ContinuationOutsideBlock ↦ refl | cause.DataOnIdle ↦ refl | cause.DataOnSkipped ↦ refl | cause.DataAfterEndStream ↦ refl | cause.DataOnClosed ↦ refl | cause.HeadersOnEven ↦ refl | cause.HeadersOnSkipped ↦ refl | cause.HeadersAfterEndStream ↦ refl | cause.HeadersOnClosed ↦ refl | cause.RstStreamOnIdle ↦ refl | cause.WindowUpdateOnIdle ↦ refl | cause.ConnectionWindowExceeded ↦ refl | cause.StreamWindowExceeded ↦ refl | cause.ConnectionIncrementZero ↦ refl | cause.StreamIncrementZero ↦ refl | cause.ConnectionWindowOverflow ↦ refl | cause.StreamWindowOverflow ↦ refl | cause.EnablePushValue ↦ refl | cause.InitialWindowSizeValue ↦ refl | cause.MaxFrameSizeValue ↦ refl | cause.InitialWindowSizeOverflow ↦ refl | cause.BlockTooLarge ↦ refl | cause.BlockTruncated ↦ refl | cause.IntegerTooLong ↦ refl | cause.IndexZero ↦ refl | cause.IndexOutOfTables ↦ refl | cause.HuffmanString ↦ refl | cause.SizeUpdateLate ↦ refl | cause.SizeUpdateTooLarge ↦ refl | cause.SizeUpdateMissing ↦ refl | cause.TooManyStreams ↦ refl | cause.ListTooLarge ↦ refl | cause.BadName ↦ refl | cause.BadValue ↦ refl | cause.LatePseudoField ↦ refl | cause.UnknownPseudoField ↦ refl | cause.DoublePseudoField ↦ refl | cause.LackingPseudoField ↦ refl | cause.ConnectionField ↦ refl | cause.BadTe ↦ refl | cause.BadContentLength ↦ refl | cause.ContentMissing ↦ refl | cause.ContentTooLong ↦ refl | cause.ContentTooShort ↦ refl | cause.TrailersWithoutEndStream ↦ refl | cause.TrailersBadName ↦ refl | cause.TrailersBadValue ↦ refl | cause.TrailersPseudoField ↦ refl | cause.TrailersConnectionField ↦ refl | cause.TrailersBadTe ↦ refl ]
+cause-row it = elim it as (λ it. (allows (row_of it).conforming (seen_of it) ≡ Allowed) × (has_its_least (row_of it).conforming ≡ true)) [ cause.BadPreface ↦ (refl, refl) | cause.FirstNotSettings ↦ (refl, refl) | cause.FirstIsSettingsAck ↦ (refl, refl) | cause.FrameTooLarge ↦ (refl, refl) | cause.StreamFrameTooLarge ↦ (refl, refl) | cause.BlockInterrupted ↦ (refl, refl) | cause.DataOnStreamZero ↦ (refl, refl) | cause.HeadersOnStreamZero ↦ (refl, refl) | cause.PriorityOnStreamZero ↦ (refl, refl) | cause.RstStreamOnStreamZero ↦ (refl, refl) | cause.ContinuationOnStreamZero ↦ (refl, refl) | cause.SettingsOnStream ↦ (refl, refl) | cause.PingOnStream ↦ (refl, refl) | cause.GoawayOnStream ↦ (refl, refl) | cause.DataLength ↦ (refl, refl) | cause.HeadersLength ↦ (refl, refl) | cause.PriorityLength ↦ (refl, refl) | cause.RstStreamLength ↦ (refl, refl) | cause.SettingsLength ↦ (refl, refl) | cause.SettingsAckLength ↦ (refl, refl) | cause.PingLength ↦ (refl, refl) | cause.GoawayLength ↦ (refl, refl) | cause.WindowUpdateLength ↦ (refl, refl) | cause.DataPadding ↦ (refl, refl) | cause.HeadersPadding ↦ (refl, refl) | cause.PushPromiseFromClient ↦ (refl, refl) | cause.ContinuationOutsideBlock ↦ (refl, refl) | cause.DataOnIdle ↦ (refl, refl) | cause.DataOnSkipped ↦ (refl, refl) | cause.DataAfterEndStream ↦ (refl, refl) | cause.DataOnClosed ↦ (refl, refl) | cause.HeadersOnEven ↦ (refl, refl) | cause.HeadersOnSkipped ↦ (refl, refl) | cause.HeadersAfterEndStream ↦ (refl, refl) | cause.HeadersOnClosed ↦ (refl, refl) | cause.RstStreamOnIdle ↦ (refl, refl) | cause.WindowUpdateOnIdle ↦ (refl, refl) | cause.ConnectionWindowExceeded ↦ (refl, refl) | cause.StreamWindowExceeded ↦ (refl, refl) | cause.ConnectionIncrementZero ↦ (refl, refl) | cause.StreamIncrementZero ↦ (refl, refl) | cause.ConnectionWindowOverflow ↦ (refl, refl) | cause.StreamWindowOverflow ↦ (refl, refl) | cause.EnablePushValue ↦ (refl, refl) | cause.InitialWindowSizeValue ↦ (refl, refl) | cause.MaxFrameSizeValue ↦ (refl, refl) | cause.InitialWindowSizeOverflow ↦ (refl, refl) | cause.BlockTooLarge ↦ (refl, refl) | cause.BlockTruncated ↦ (refl, refl) | cause.IntegerTooLong ↦ (refl, refl) | cause.IndexZero ↦ (refl, refl) | cause.IndexOutOfTables ↦ (refl, refl) | cause.HuffmanString ↦ (refl, refl) | cause.SizeUpdateLate ↦ (refl, refl) | cause.SizeUpdateTooLarge ↦ (refl, refl) | cause.SizeUpdateMissing ↦ (refl, refl) | cause.TooManyStreams ↦ (refl, refl) | cause.ListTooLarge ↦ (refl, refl) | cause.BadName ↦ (refl, refl) | cause.BadValue ↦ (refl, refl) | cause.LatePseudoField ↦ (refl, refl) | cause.UnknownPseudoField ↦ (refl, refl) | cause.DoublePseudoField ↦ (refl, refl) | cause.LackingPseudoField ↦ (refl, refl) | cause.ConnectionField ↦ (refl, refl) | cause.BadTe ↦ (refl, refl) | cause.BadContentLength ↦ (refl, refl) | cause.ContentMissing ↦ (refl, refl) | cause.ContentTooLong ↦ (refl, refl) | cause.ContentTooShort ↦ (refl, refl) | cause.TrailersWithoutEndStream ↦ (refl, refl) | cause.TrailersBadName ↦ (refl, refl) | cause.TrailersBadValue ↦ (refl, refl) | cause.TrailersPseudoField ↦ (refl, refl) | cause.TrailersConnectionField ↦ (refl, refl) | cause.TrailersBadTe ↦ (refl, refl) ]
 
-pub ignored-conforms : (it : Ignored) → allows (reason_row it).conforming Ignore ≡ Allowed
+pub reason-row : (it : Ignored) → (allows (reason_row it).conforming Ignore ≡ Allowed) × (has_its_least (reason_row it).conforming ≡ true)
 unfolding reason_row
-ignored-conforms it = elim it [ ignored.Priority ↦ refl | ignored.UnknownType ↦ refl | ignored.SecondAcknowledgement ↦ refl | ignored.PingAcknowledgement ↦ refl | ignored.RstStreamOnSkipped ↦ refl | ignored.RstStreamOnClosed ↦ refl | ignored.RstStreamOnPeerReset ↦ refl | ignored.RstStreamOnReset ↦ refl | ignored.WindowUpdateOnSkipped ↦ refl | ignored.WindowUpdateOnClosed ↦ refl | ignored.WindowUpdateOnPeerReset ↦ refl | ignored.WindowUpdateOnReset ↦ refl | ignored.WindowUpdateByZero ↦ refl | ignored.DataOnReset ↦ refl | ignored.TableOnlyBlock ↦ refl ]
+reason-row it = elim it as (λ it. (allows (reason_row it).conforming Ignore ≡ Allowed) × (has_its_least (reason_row it).conforming ≡ true)) [ ignored.Priority ↦ (refl, refl) | ignored.UnknownType ↦ (refl, refl) | ignored.SecondAcknowledgement ↦ (refl, refl) | ignored.PingAcknowledgement ↦ (refl, refl) | ignored.RstStreamOnSkipped ↦ (refl, refl) | ignored.RstStreamOnClosed ↦ (refl, refl) | ignored.RstStreamOnPeerReset ↦ (refl, refl) | ignored.RstStreamOnReset ↦ (refl, refl) | ignored.WindowUpdateOnSkipped ↦ (refl, refl) | ignored.WindowUpdateOnClosed ↦ (refl, refl) | ignored.WindowUpdateOnPeerReset ↦ (refl, refl) | ignored.WindowUpdateOnReset ↦ (refl, refl) | ignored.WindowUpdateByZero ↦ (refl, refl) | ignored.DataOnReset ↦ (refl, refl) | ignored.TableOnlyBlock ↦ (refl, refl) ]
 
-pub case-conforms : (it : SpecialCase) → allows (special_row it).conforming (seen_of_case it) ≡ permission_of_case it
+pub case-row : (it : SpecialCase) → (allows (special_row it).conforming (seen_of_case it) ≡ permission_of_case it) × (has_its_least (special_row it).conforming ≡ true)
 unfolding special_row
-case-conforms it = elim it [ special.LimitNotAcknowledged ↦ refl | special.BehindContinuation ↦ refl | special.UnknownTypeInBlock ↦ refl | special.EmptyName ↦ refl | special.ConnectPseudoFields ↦ refl | special.EmptyPathOfOtherScheme ↦ refl | special.ContentLengthsDiffer ↦ refl | special.ContentLengthTooLong ↦ refl | special.UnfollowedWindow ↦ refl | special.EvenStream ↦ refl | special.DataAfterEnd ↦ refl | special.BlockAfterEnd ↦ refl ]
+case-row it = elim it as (λ it. (allows (special_row it).conforming (seen_of_case it) ≡ permission_of_case it) × (has_its_least (special_row it).conforming ≡ true)) [ special.LimitNotAcknowledged ↦ (refl, refl) | special.BehindContinuation ↦ (refl, refl) | special.UnknownTypeInBlock ↦ (refl, refl) | special.EmptyName ↦ (refl, refl) | special.ConnectPseudoFields ↦ (refl, refl) | special.EmptyPathOfOtherScheme ↦ (refl, refl) | special.ContentLengthsDiffer ↦ (refl, refl) | special.ContentLengthTooLong ↦ (refl, refl) | special.UnfollowedWindow ↦ (refl, refl) | special.EvenStream ↦ (refl, refl) | special.DataAfterEnd ↦ (refl, refl) | special.BlockAfterEnd ↦ (refl, refl) ]
 
-pub accepted-conforms : (it : Accepted) → allows (accepted_row it).conforming Accept ≡ permission_to_accept it
+pub accepted-row : (it : Accepted) → (allows (accepted_row it).conforming Accept ≡ permission_to_accept it) × (has_its_least (accepted_row it).conforming ≡ true)
 unfolding accepted_row
-accepted-conforms it = elim it [ accepted.Lawful ↦ refl | accepted.Settings ↦ refl | accepted.UnknownSetting ↦ refl | accepted.SettingTwice ↦ refl | accepted.UndefinedFlags ↦ refl | accepted.ReservedBit ↦ refl | accepted.Ping ↦ refl | accepted.PaddingNotZero ↦ refl | accepted.EmptyFragments ↦ refl | accepted.EmptyData ↦ refl | accepted.NoAuthority ↦ refl | accepted.HostDiffers ↦ refl | accepted.HostTwice ↦ refl | accepted.Userinfo ↦ refl | accepted.BadPath ↦ refl | accepted.BadMethod ↦ refl | accepted.BadScheme ↦ refl | accepted.NameNoToken ↦ refl | accepted.ValueControlOctet ↦ refl | accepted.ContentLengthTwice ↦ refl | accepted.TeCase ↦ refl | accepted.Trailers ↦ refl | accepted.TrailersEmpty ↦ refl | accepted.PriorityFlag ↦ refl | accepted.DependsOnItself ↦ refl | accepted.Goaway ↦ refl | accepted.GoawayOddStream ↦ refl | accepted.RequestAfterGoaway ↦ refl | accepted.UnknownCode ↦ refl | accepted.SettingsNotAcknowledged ↦ refl | accepted.LongInteger ↦ refl | accepted.SizeUpdates ↦ refl | accepted.ManySizeUpdates ↦ refl | accepted.Connect ↦ refl | accepted.OptionsStar ↦ refl | accepted.SkippedPriorityFlood ↦ refl | accepted.EmptyDataBelowZero ↦ refl | accepted.LargeFieldSection ↦ refl ]
-
-pub cause-least : (it : Cause) → has_its_least (row_of it).conforming ≡ true
-unfolding row_of
-cause-least it = elim it [ cause.BadPreface ↦ refl | cause.FirstNotSettings ↦ refl | cause.FirstIsSettingsAck ↦ refl | cause.FrameTooLarge ↦ refl | cause.StreamFrameTooLarge ↦ refl | cause.BlockInterrupted ↦ refl | cause.DataOnStreamZero ↦ refl | cause.HeadersOnStreamZero ↦ refl | cause.PriorityOnStreamZero ↦ refl | cause.RstStreamOnStreamZero ↦ refl | cause.ContinuationOnStreamZero ↦ refl | cause.SettingsOnStream ↦ refl | cause.PingOnStream ↦ refl | cause.GoawayOnStream ↦ refl | cause.DataLength ↦ refl | cause.HeadersLength ↦ refl | cause.PriorityLength ↦ refl | cause.RstStreamLength ↦ refl | cause.SettingsLength ↦ refl | cause.SettingsAckLength ↦ refl | cause.PingLength ↦ refl | cause.GoawayLength ↦ refl | cause.WindowUpdateLength ↦ refl | cause.DataPadding ↦ refl | cause.HeadersPadding ↦ refl | cause.PushPromiseFromClient ↦ refl | cause.ContinuationOutsideBlock ↦ refl | cause.DataOnIdle ↦ refl | cause.DataOnSkipped ↦ refl | cause.DataAfterEndStream ↦ refl | cause.DataOnClosed ↦ refl | cause.HeadersOnEven ↦ refl | cause.HeadersOnSkipped ↦ refl | cause.HeadersAfterEndStream ↦ refl | cause.HeadersOnClosed ↦ refl | cause.RstStreamOnIdle ↦ refl | cause.WindowUpdateOnIdle ↦ refl | cause.ConnectionWindowExceeded ↦ refl | cause.StreamWindowExceeded ↦ refl | cause.ConnectionIncrementZero ↦ refl | cause.StreamIncrementZero ↦ refl | cause.ConnectionWindowOverflow ↦ refl | cause.StreamWindowOverflow ↦ refl | cause.EnablePushValue ↦ refl | cause.InitialWindowSizeValue ↦ refl | cause.MaxFrameSizeValue ↦ refl | cause.InitialWindowSizeOverflow ↦ refl | cause.BlockTooLarge ↦ refl | cause.BlockTruncated ↦ refl | cause.IntegerTooLong ↦ refl | cause.IndexZero ↦ refl | cause.IndexOutOfTables ↦ refl | cause.HuffmanString ↦ refl | cause.SizeUpdateLate ↦ refl | cause.SizeUpdateTooLarge ↦ refl | cause.SizeUpdateMissing ↦ refl | cause.TooManyStreams ↦ refl | cause.ListTooLarge ↦ refl | cause.BadName ↦ refl | cause.BadValue ↦ refl | cause.LatePseudoField ↦ refl | cause.UnknownPseudoField ↦ refl | cause.DoublePseudoField ↦ refl | cause.LackingPseudoField ↦ refl | cause.ConnectionField ↦ refl | cause.BadTe ↦ refl | cause.BadContentLength ↦ refl | cause.ContentMissing ↦ refl | cause.ContentTooLong ↦ refl | cause.ContentTooShort ↦ refl | cause.TrailersWithoutEndStream ↦ refl | cause.TrailersBadName ↦ refl | cause.TrailersBadValue ↦ refl | cause.TrailersPseudoField ↦ refl | cause.TrailersConnectionField ↦ refl | cause.TrailersBadTe ↦ refl ]
-
-pub ignored-least : (it : Ignored) → has_its_least (reason_row it).conforming ≡ true
-unfolding reason_row
-ignored-least it = elim it [ ignored.Priority ↦ refl | ignored.UnknownType ↦ refl | ignored.SecondAcknowledgement ↦ refl | ignored.PingAcknowledgement ↦ refl | ignored.RstStreamOnSkipped ↦ refl | ignored.RstStreamOnClosed ↦ refl | ignored.RstStreamOnPeerReset ↦ refl | ignored.RstStreamOnReset ↦ refl | ignored.WindowUpdateOnSkipped ↦ refl | ignored.WindowUpdateOnClosed ↦ refl | ignored.WindowUpdateOnPeerReset ↦ refl | ignored.WindowUpdateOnReset ↦ refl | ignored.WindowUpdateByZero ↦ refl | ignored.DataOnReset ↦ refl | ignored.TableOnlyBlock ↦ refl ]
-
-pub case-least : (it : SpecialCase) → has_its_least (special_row it).conforming ≡ true
-unfolding special_row
-case-least it = elim it [ special.LimitNotAcknowledged ↦ refl | special.BehindContinuation ↦ refl | special.UnknownTypeInBlock ↦ refl | special.EmptyName ↦ refl | special.ConnectPseudoFields ↦ refl | special.EmptyPathOfOtherScheme ↦ refl | special.ContentLengthsDiffer ↦ refl | special.ContentLengthTooLong ↦ refl | special.UnfollowedWindow ↦ refl | special.EvenStream ↦ refl | special.DataAfterEnd ↦ refl | special.BlockAfterEnd ↦ refl ]
-
-pub accepted-least : (it : Accepted) → has_its_least (accepted_row it).conforming ≡ true
-unfolding accepted_row
-accepted-least it = elim it [ accepted.Lawful ↦ refl | accepted.Settings ↦ refl | accepted.UnknownSetting ↦ refl | accepted.SettingTwice ↦ refl | accepted.UndefinedFlags ↦ refl | accepted.ReservedBit ↦ refl | accepted.Ping ↦ refl | accepted.PaddingNotZero ↦ refl | accepted.EmptyFragments ↦ refl | accepted.EmptyData ↦ refl | accepted.NoAuthority ↦ refl | accepted.HostDiffers ↦ refl | accepted.HostTwice ↦ refl | accepted.Userinfo ↦ refl | accepted.BadPath ↦ refl | accepted.BadMethod ↦ refl | accepted.BadScheme ↦ refl | accepted.NameNoToken ↦ refl | accepted.ValueControlOctet ↦ refl | accepted.ContentLengthTwice ↦ refl | accepted.TeCase ↦ refl | accepted.Trailers ↦ refl | accepted.TrailersEmpty ↦ refl | accepted.PriorityFlag ↦ refl | accepted.DependsOnItself ↦ refl | accepted.Goaway ↦ refl | accepted.GoawayOddStream ↦ refl | accepted.RequestAfterGoaway ↦ refl | accepted.UnknownCode ↦ refl | accepted.SettingsNotAcknowledged ↦ refl | accepted.LongInteger ↦ refl | accepted.SizeUpdates ↦ refl | accepted.ManySizeUpdates ↦ refl | accepted.Connect ↦ refl | accepted.OptionsStar ↦ refl | accepted.SkippedPriorityFlood ↦ refl | accepted.EmptyDataBelowZero ↦ refl | accepted.LargeFieldSection ↦ refl ]
+accepted-row it = elim it as (λ it. (allows (accepted_row it).conforming Accept ≡ permission_to_accept it) × (has_its_least (accepted_row it).conforming ≡ true)) [ accepted.Lawful ↦ (refl, refl) | accepted.Settings ↦ (refl, refl) | accepted.UnknownSetting ↦ (refl, refl) | accepted.SettingTwice ↦ (refl, refl) | accepted.UndefinedFlags ↦ (refl, refl) | accepted.ReservedBit ↦ (refl, refl) | accepted.Ping ↦ (refl, refl) | accepted.PaddingNotZero ↦ (refl, refl) | accepted.EmptyFragments ↦ (refl, refl) | accepted.EmptyData ↦ (refl, refl) | accepted.NoAuthority ↦ (refl, refl) | accepted.HostDiffers ↦ (refl, refl) | accepted.HostTwice ↦ (refl, refl) | accepted.Userinfo ↦ (refl, refl) | accepted.BadPath ↦ (refl, refl) | accepted.BadMethod ↦ (refl, refl) | accepted.BadScheme ↦ (refl, refl) | accepted.NameNoToken ↦ (refl, refl) | accepted.ValueControlOctet ↦ (refl, refl) | accepted.ContentLengthTwice ↦ (refl, refl) | accepted.TeCase ↦ (refl, refl) | accepted.Trailers ↦ (refl, refl) | accepted.TrailersEmpty ↦ (refl, refl) | accepted.PriorityFlag ↦ (refl, refl) | accepted.DependsOnItself ↦ (refl, refl) | accepted.Goaway ↦ (refl, refl) | accepted.GoawayOddStream ↦ (refl, refl) | accepted.RequestAfterGoaway ↦ (refl, refl) | accepted.UnknownCode ↦ (refl, refl) | accepted.SettingsNotAcknowledged ↦ (refl, refl) | accepted.LongInteger ↦ (refl, refl) | accepted.SizeUpdates ↦ (refl, refl) | accepted.ManySizeUpdates ↦ (refl, refl) | accepted.Connect ↦ (refl, refl) | accepted.OptionsStar ↦ (refl, refl) | accepted.SkippedPriorityFlood ↦ (refl, refl) | accepted.EmptyDataBelowZero ↦ (refl, refl) | accepted.LargeFieldSection ↦ (refl, refl) ]
 
 -- ---- what a row allows
 

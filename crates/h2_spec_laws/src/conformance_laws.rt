@@ -2,7 +2,7 @@
 //! RFC says (RFC 9113, 5.4). Each law is the contract of a function with an empty body; definitions:
 //! `h2_spec/specs/Causes/Conforming.antt`, `specs/Conformance.antt`.
 
-ghost use Rattle.std.specs.Prelude.{◌≡◌, ◌×◌, ℕ, true};
+ghost use Rattle.std.specs.Prelude.{◌≡◌, ℕ, true};
 ghost use Rattle.h2_spec.specs.declared.accepted.Accepted.{Accepted};
 ghost use Rattle.h2_spec.specs.declared.causes.Cause.{Cause};
 ghost use Rattle.h2_spec.specs.declared.conforming.Conforming.{Conforming};
