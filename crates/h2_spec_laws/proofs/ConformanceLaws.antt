@@ -10,7 +10,6 @@ use Rattle.h2_spec.specs.declared.conforming.Codes.TheVariants as code
 use Rattle.h2_spec.specs.declared.conforming.Conforming.{Conforming}
 use Rattle.h2_spec.specs.declared.conforming.Observed.{Observed}
 use Rattle.h2_spec.specs.declared.conforming.Observed.TheVariants.{Accept, ConnectionError, Ignore, StreamError}
-use Rattle.h2_spec.specs.declared.conforming.Permission.{Permission}
 use Rattle.h2_spec.specs.declared.conforming.Permission.TheVariants.{Allowed, Open, NotAllowed}
 use Rattle.h2_spec.specs.declared.ignored.Ignored.{Ignored}
 use Rattle.h2_spec.specs.declared.ignored.Ignored.TheVariants as ignored
@@ -18,7 +17,7 @@ use Rattle.h2_spec.specs.declared.special_cases.SpecialCase.{SpecialCase}
 use Rattle.h2_spec.specs.declared.special_cases.SpecialCase.TheVariants as special
 use Rattle.h2_spec.specs.Causes.AcceptedWords.{accepted_row}
 use Rattle.h2_spec.specs.Causes.CauseWords.{row_of}
-use Rattle.h2_spec.specs.Causes.Conforming.{allows, conforms, is_open, names_code, takes_code}
+use Rattle.h2_spec.specs.Causes.Conforming.{allows, conforms, is_open, takes_code}
 use Rattle.h2_spec.specs.Causes.IgnoredWords.{reason_row}
 use Rattle.h2_spec.specs.Causes.SpecialCases.{special_row}
 use Rattle.h2_spec_laws.specs.Conformance.{has_its_least, permission_of_case, permission_to_accept, seen_of, seen_of_case}

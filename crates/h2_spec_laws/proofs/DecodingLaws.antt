@@ -1,12 +1,12 @@
 -- A field block is its instructions, up to the first that is refused.
-use Rattle.std.proofs.Common.{◌≡◌, ◌∙◌, ◌⊎◌, inl, inr, ℕ, zero, suc, ◌+◌, ◌<◌, ◌≤◌, List, [], ◌∷◌, ◌++◌, length, drop, Result, Ok, Err, refl, sym, ap, subst, arith, length-drop}
+use Rattle.std.proofs.Common.{◌≡◌, ◌∙◌, inl, inr, ℕ, zero, suc, ◌+◌, ◌<◌, ◌≤◌, List, [], ◌∷◌, ◌++◌, length, drop, Result, Ok, Err, refl, sym, ap, subst, arith, length-drop}
 use Rattle.h2_spec.specs.Hpack.Block.{Decoded, Fault, Integer, Outcome, Unfinished, Faulty, Progress, applied, decoded}
 use Rattle.h2_spec.specs.Hpack.Instruction.{IsNone, Shape, instr_at, split}
 use Rattle.h2_spec.specs.Frames.Parse.{Parsed, after_one}
 use Rattle.h2_spec.specs.Read.{Read, Whole, More, TooLong}
-use Rattle.h2_spec.proofs.BlockLaws.{LeadsTo, decoded-more, decoded-too_long, leads-refused, leads-start, leads-step}
+use Rattle.h2_spec.proofs.BlockLaws.{decoded-more, decoded-too_long, leads-refused, leads-start, leads-step}
 use Rattle.h2_spec.proofs.InstructionLaws.{whole-takes}
-use Rattle.h2_spec_laws.specs.Blocks.{Decodes, EndsWith, Lead, RefusesOne, TakesAll}
+use Rattle.h2_spec_laws.specs.Blocks.{Decodes, EndsWith, Lead}
 use Rattle.h2_spec_laws.proofs.SplitLaws.{split-none, split-whole}
 
 -- what a block results in, whose octets split so

@@ -1,5 +1,5 @@
 -- What is said about the special cases of a cause or of a reason: their rows of the table of rules.
-use Rattle.std.specs.Prelude.{ℕ, List, [], ◌∷◌, true, codes}
+use Rattle.std.specs.Prelude.{List, [], ◌∷◌, true, codes}
 use Rattle.h2_spec.specs.declared.special_cases.SpecialCase.{SpecialCase}
 use Rattle.h2_spec.specs.declared.special_cases.SpecialCase.TheVariants.{LimitNotAcknowledged, BehindContinuation, UnknownTypeInBlock, EmptyName, ConnectPseudoFields, EmptyPathOfOtherScheme, ContentLengthsDiffer, ContentLengthTooLong, UnfollowedWindow, EvenStream, DataAfterEnd, BlockAfterEnd}
 use Rattle.h2_spec.specs.declared.conforming.Codes.TheVariants as code
