@@ -3,12 +3,13 @@
 #
 #   tools/new-cause.sh NAME AFTER     both as in docs/TABLE.md, such as ping-too-often ping-length
 #
-# The new cause gets a copy of the other's code, sections and duties, and a sentence that is to be replaced; CONTRIBUTING.md says how to go on.
+# The new cause gets a copy of the other's code, scope and row, and a sentence that is to be replaced; CONTRIBUTING.md says how to go on.
 set -euo pipefail
 cd "$(dirname "$0")/.."
 name=${1:?a name such as ping-too-often} after=${2:?the cause after which it is listed}
 code=crates/h2_spec/src/causes.rt words=crates/h2_spec/specs/Causes/CauseWords.antt codes=crates/h2_spec/specs/Causes/Cause.antt
 places=crates/h2_spec/proofs/causes/place_of/Answers.antt known=crates/h2_cmd_check/src/names.rt example=examples/causes/$name.h2
+law=crates/h2_spec_laws/specs/Conformance.antt laws=crates/h2_spec_laws/proofs/ConformanceLaws.antt
 
 variant_of() { sed -E 's/(^|-)([a-z])/\U\2/g' <<<"$1"; }
 variant=$(variant_of "$name") before=$(variant_of "$after")
@@ -34,19 +35,21 @@ sed -i "s/^\(static .*; \)$count\] = causes!/\1$((count + 1))] = causes!/" "$cod
 sed -i "s|^    Cause::$before,\$|&\n    Cause::$variant,|; s/^\(static .*; \)$count\] = \[\$/\1$((count + 1))] = [/" "$known"
 sed -i "/pub fn code(self)/,/^    }/s/Cause::$before\b/& | Cause::$variant/" "$code"
 
-for file in "$words" "$codes" "$places"; do
+for file in "$words" "$codes" "$places" "$law"; do
     sed -i "/^use .*causes\.Cause\.TheVariants\.{/s/\b$before\b/&, $variant/" "$file"
 done
 sed -i "s/^code_of $before = \(.*\)\$/&\ncode_of $variant = \1/" "$codes"
 sed -i "s/^row_of $before = \(.*\) name = codes \"[^\"]*\";\(.*\) sentence = codes \".*\" }\$/&\nrow_of $variant = \1 name = codes \"$name\";\2 sentence = codes \"$name: say the rule\" }/" "$words"
 sed -i "/^all_causes =\$/,/\[\]/s/\b$before ∷/& $variant ∷/" "$words"
 sed -i "s/\b$before ↦ refl/& | $variant ↦ refl/" "$places"
+sed -i "s/\bcause\.$before ↦ (refl, refl)/& | cause.$variant ↦ (refl, refl)/" "$laws"
+sed -i "s/^is_of_stream $before = true\$/&\nis_of_stream $variant = true/" "$law"
 
 printf ';# %s: say in a sentence what the client does (RFC 9113, 0)\nPREFACE\nSETTINGS 00 0 -\n' "$name" >"$example"
 
 cat <<TEXT
-Written: $code, $words, $codes, $places, $known, $example.
-Each has a sentence to replace (grep -rn '$name:' crates examples), and the code, sections and duties of $after to compare with the RFC.
+Written: $code, $words, $codes, $places, $known, $law, $laws, $example.
+Each has a sentence to replace (grep -rn '$name:' crates examples), and the code, the scope and the row of $after to compare with the RFC.
 Then, in this order:
   the definition that answers cause.$variant, by this name (crates/h2_spec/specs), and its laws in crates/h2_spec_laws
   the function that answers Cause::$variant (crates/h2_conn_rules, or crates/h2_frame for a payload)

@@ -2,6 +2,7 @@ mod AppendixRows
 mod BlockRows
 mod BookRows
 mod CauseRows
+mod ConformingRows
 mod DebugRows
 mod EarlyRows
 mod FrameRows

@@ -1,7 +1,7 @@
 -- A field block by its instructions: those that its octets split into, up to the first that is refused (RFC 7541, 3.2
 -- and 6).
 -- `decoded` of Block computes it: a law of this crate.
-use Rattle.std.specs.Prelude.{◌≡◌, ◌⊎◌, ℕ, List, [], ◌∷◌, ◌++◌, Result, Ok, Err}
+use Rattle.std.specs.Prelude.{◌≡◌, ◌⊎◌, ℕ, List, [], ◌∷◌, ◌++◌, Ok, Err}
 use Rattle.h2_spec.specs.Hpack.Block.{Decoded, Fault, Integer, Outcome, Unfinished, Faulty, Progress, applied}
 use Rattle.h2_spec.specs.Hpack.Instruction.{Shape, instr_at}
 use Rattle.h2_spec.specs.Read.{More, TooLong}

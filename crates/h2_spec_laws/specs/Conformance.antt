@@ -1,5 +1,5 @@
 -- What this server does where a rule applies, as a peer sees it, and the least that a row of the table of rules lets it do.
-use Rattle.std.specs.Prelude.{ℕ, Bool, true, false, not, if◌then◌else◌, ◌&&◌}
+use Rattle.std.specs.Prelude.{Bool, true, false, not, if◌then◌else◌, ◌&&◌}
 use Rattle.h2_spec.specs.declared.accepted.Accepted.{Accepted}
 use Rattle.h2_spec.specs.declared.accepted.Accepted.TheVariants.{BadPath, BadMethod, BadScheme}
 use Rattle.h2_spec.specs.declared.causes.Cause.{Cause}
