@@ -111,6 +111,10 @@ class Client:
             return self.send(PING, ACK, 0, payload)
         self.probes += 1
         words = self.reaction(self.probes, self.wanted[self.probes - 1]).split(" ")
+        is_late = words[0] == "late"
+        if is_late:
+            self.send(PING, ACK, 0, PROBE)
+            words = words[1:]
         if words[0] == "connection":
             self.send(GOAWAY, 0, 0, bytes(4) + CODES.index(words[1]).to_bytes(4, "big"))
         if words[0] == "stream":
@@ -120,7 +124,8 @@ class Client:
         if words[0] in ("connection", "leaves"):
             self.has_left = True
         elif words[0] != "silent":
-            self.send(PING, ACK, 0, PROBE)
+            if not is_late:
+                self.send(PING, ACK, 0, PROBE)
             self.has_left = words == ["answers", "and", "leaves"]
             self.go_on()
         return None
@@ -254,6 +259,7 @@ WARNS = ";# May\n;- HEADERS 05 1\nPING 01 0 x0102030405060708\n;! MAY -\n;+ pong
 # A dialogue, what the client does at the PING, the status of its command, and each verdict: its kind and what was found.
 REACTIONS = [
     (ERROR, "connection PROTOCOL_ERROR", None, []),
+    (ERROR, "late connection PROTOCOL_ERROR", None, []),
     (ERROR, "connection INTERNAL_ERROR", None, [("allowed", "connection INTERNAL_ERROR: another code, 5.4")]),
     (ERROR, "connection NO_ERROR", None, [("allowed", "closed: no GOAWAY; 5.4.1 has SHOULD")]),
     (ERROR, "leaves", None, [("allowed", "closed: no GOAWAY; 5.4.1 has SHOULD")]),
@@ -262,6 +268,7 @@ REACTIONS = [
     (ERROR, "answers and leaves", None, [("broken", "goes on")]),
     (ERROR, "silent", None, [("broken", "silent: no error, no answer to the PING, no end")]),
     (STREAM, "stream 1 PROTOCOL_ERROR", 1, []),
+    (STREAM, "late stream 1 PROTOCOL_ERROR", 1, []),
     (STREAM, "stream 1 PROTOCOL_ERROR", 0, [("user", "exit status 0")]),
     (STREAM, "stream 1 INTERNAL_ERROR", 1, [("allowed", "stream 1 INTERNAL_ERROR: a generic code, 5.4")]),
     (STREAM, "stream 1 CANCEL", 1, [("open", "stream 1 CANCEL")]),
@@ -276,6 +283,8 @@ REACTIONS = [
     (WHOLE, "leaves", None, [("allowed", "closed: no GOAWAY; 5.4.1 has SHOULD")]),
     (WHOLE, "-", None, [("broken", "goes on")]),
     (LAWFUL + ";- DATA 01 1\n", "-", 0, []),
+    (LAWFUL, "late stream 1 CANCEL", 0, []),
+    (LAWFUL, "late stream 1 PROTOCOL_ERROR", 0, [("broken", "stream 1 PROTOCOL_ERROR")]),
     (LAWFUL, "-", 7, [("user", "exit status 7")]),
     (LAWFUL, "-", "killed", [("broken", "it had to be killed")]),
     (LAWFUL, "leaves", 0, [("broken", "closed")]),
@@ -304,8 +313,18 @@ def test_reactions():
     with concurrent.futures.ThreadPoolExecutor(4) as pool:
         for (text, words, status, wanted), got in zip(REACTIONS, pool.map(one, REACTIONS)):
             expect(got == wanted, f"{text.splitlines()[0]}: {words}, status {status}: {got}")
-    for first in (3, 13):
-        expect(found(read(STREAM), "get", obeys, 1, first=first) == [], f"a client whose first stream is {first}")
+
+
+def test_first_stream():
+    """Odd streams of a script count from the client's first one: in heads, in items, in lines, and in the last stream of GOAWAY."""
+    expect(found(read(STREAM), "get", obeys, 1, first=13) == [], "a client whose first stream is 13")
+    lasts = "GOAWAY 00 0 x7fffffff00000000\nGOAWAY 00 0 x0000000200000000\nGOAWAY 00 0 x0000000100000000\n"
+    dialogue = read(f";# Streams\n;- HEADERS 05 1\nPRIORITY 00 2 x0000000010\n{lasts}HEADERS 05 1R hi8\n")
+    connections, _ = under_test.play(dialogue, 0, options(), Client(dialogue, "get", obeys, first=13).run)
+    log = connections[0].log
+    sent = [(frame.kind, frame.stream, frame.payload[:4].hex()) for kind, frame in log[log.index(("step", 1)):] if kind == "sent"]
+    wanted = [(2, 2, "00000000"), (GOAWAY, 0, "7fffffff"), (GOAWAY, 0, "00000002"), (GOAWAY, 0, "0000000d"), (HEADERS, (1 << 31) + 13, "88")]
+    expect(sent == wanted, f"frames for a client whose first stream is 13: {sent}")
 
 
 # ---- clients that are none
@@ -457,6 +476,7 @@ def main():
     test_command()
     test_reactions()
     test_raw()
+    test_first_stream()
     test_waiting()
     test_limits()
     test_reset()
