@@ -299,11 +299,13 @@ class Bench:
         self.questions += 1
         payload = self.questions.to_bytes(8, "big")
         answer = Frame(PING, ACK, 0, payload)
+        # A PING is an error inside a block; for an acknowledgement nothing is sent.
+        asks = not (self.in_block or item == Frame(SETTINGS, ACK, 0, b"") or item == Frame(PING, ACK, 0, PROBE))
         try:
-            self.socket.sendall(octets_of(item) + (b"" if self.in_block else octets_of(Frame(PING, 0, 0, payload))))
+            self.socket.sendall(octets_of(item) + (octets_of(Frame(PING, 0, 0, payload)) if asks else b""))
         except OSError:
             pass
-        if self.in_block:
+        if not asks:
             return []
         while not self.has_ended and answer not in frames_of(self.inbox)[0]:
             self.receive()
@@ -512,7 +514,8 @@ def waits(log):
 
 def reaction_to(connection, number, wanted):
     """What the client did with the octets of a step, from there to the end of the connection: the first GOAWAY with an error, or else the first reset of a stream, or else
-    whether it left with a request unanswered. Where it has to go on, a reset by NO_ERROR or CANCEL after the answer to the PING is none: it gives up a stream at its end."""
+    whether it left: with a request unanswered where it has to go on, without an answer to the PING where an error is wanted. Where it has to go on, a reset by NO_ERROR or
+    CANCEL after the answer to the PING is none: it gives up a stream at its end."""
     log, is_alive, resets = after(connection.log, number), False, []
     for frame in of_client(log):
         if frame.kind == GOAWAY and len(frame.payload) >= 8 and number_at(frame.payload, 4):
@@ -523,12 +526,12 @@ def reaction_to(connection, number, wanted):
         is_alive = is_alive or frame == Frame(PING, ACK, 0, PROBE)
     if resets:
         return resets[0]
-    if connection.ended == "closed" and not is_alive and wanted[0].scope != "-":
-        return CLOSED
-    if connection.ended == "closed":
+    if connection.ended == "closed" and wanted[0].scope == "-":
         goes_on = any(kind == "step" for kind, _ in log) or not waits(connection.log)
         return GOES_ON if goes_on else CLOSED
-    return GOES_ON if is_alive else SILENT
+    if is_alive:
+        return GOES_ON
+    return CLOSED if connection.ended == "closed" else SILENT
 
 
 # ---- verdicts

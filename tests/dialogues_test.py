@@ -100,6 +100,7 @@ class Client:
             self.asked(frame.payload)
         elif frame.kind == GOAWAY:
             self.has_goaway, self.failed = True, any(frame.payload[4:8])
+            self.ended |= {stream for stream in (self.first, self.first + 2) if stream > number_at(frame.payload, 0)}
         elif frame.kind in (DATA, HEADERS) and frame.flags & END_STREAM or frame.kind == RST_STREAM:
             self.ended.add(stream)
             self.closed |= {stream} if frame.kind == RST_STREAM else set()
@@ -110,6 +111,10 @@ class Client:
             return self.send(PING, ACK, 0, payload)
         self.probes += 1
         words = self.reaction(self.probes, self.wanted[self.probes - 1]).split(" ")
+        is_late = words[0] == "late"
+        if is_late:
+            self.send(PING, ACK, 0, PROBE)
+            words = words[1:]
         if words[0] == "connection":
             self.send(GOAWAY, 0, 0, bytes(4) + CODES.index(words[1]).to_bytes(4, "big"))
         if words[0] == "stream":
@@ -119,7 +124,9 @@ class Client:
         if words[0] in ("connection", "leaves"):
             self.has_left = True
         elif words[0] != "silent":
-            self.send(PING, ACK, 0, PROBE)
+            if not is_late:
+                self.send(PING, ACK, 0, PROBE)
+            self.has_left = words == ["answers", "and", "leaves"]
             self.go_on()
         return None
 
@@ -139,7 +146,8 @@ class Client:
 
 
 def options(**more):
-    return types.SimpleNamespace(**{"program": PROGRAM, "patience": 3, "limit": 20, "command": [], **more})
+    """The runner's options. Only where a client is to be silent its patience is short, so that a slow machine has no effect."""
+    return types.SimpleNamespace(**{"program": PROGRAM, "patience": 30, "limit": 60, "command": [], **more})
 
 
 def found(dialogue, kind, reaction, status=None, how=None, client=Client, **more):
@@ -151,6 +159,10 @@ def found(dialogue, kind, reaction, status=None, how=None, client=Client, **more
 
 def obeys(_, wanted):
     return wanted.text.split(" ", 1)[1]
+
+
+def goes_on(_, wanted):
+    return "-" if wanted.scope == "-" else "answers and leaves"
 
 
 def right_status(dialogue):
@@ -191,7 +203,7 @@ def test_all(dialogues):
         # It leaves after a GOAWAY with an error, as it may.
         expect(not verdicts or [(one.wanted, one.found) for one in verdicts] == [("MAY -", "closed")], f"the client that obeys: {dialogue.title}: {verdicts}")
     dialogues = [(name, dialogue) for name, dialogue in dialogues if name != "long"]
-    for (_, dialogue), verdicts in zip(dialogues, for_all(dialogues, lambda *_: "-", right_status)):
+    for (_, dialogue), verdicts in zip(dialogues, for_all(dialogues, goes_on, right_status)):
         # A stream error need not be on the wire where the client's user sees a failure.
         broken = [duty for duty, scope in duties(dialogue) if scope == "connection" or scope == "stream" and right_status(dialogue) == 0]
         expect(("broken" in kinds(verdicts)) == ("MUST" in broken), f"the client that goes on: {dialogue.title}: {verdicts}")
@@ -237,7 +249,7 @@ def test_rules(text, name, rows):
 
 ERROR = ";# An error\n;- HEADERS 05 1\nDATA 00 0 x61\n;! MUST connection PROTOCOL_ERROR\n;+ pong\nHEADERS 05 1 hi8\n"
 STREAM = ";# A stream error\n;- HEADERS 05 1\nHEADERS 04 1 hi8,i8\n;! MUST stream 1 PROTOCOL_ERROR\n;+ pong\nDATA 01 1 x61\n;$ !0\n"
-TWO = ";# A stream error beside a request\n;- HEADERS 05 1\n;- HEADERS 05 3\nHEADERS 04 1 hi8,i8\n;! MUST stream 1 PROTOCOL_ERROR\n"
+TWO = ";# A stream error beside a request\n;- HEADERS 05 1\n;- HEADERS 05 3\nHEADERS 04 1 hi8,i8\n;! MUST stream 1 PROTOCOL_ERROR\n;+ pong\nDATA 01 1 x61\n"
 EITHER = STREAM.replace(";+ pong", ";! MUST connection COMPRESSION_ERROR\n;+ pong").replace(";$ !0\n", "")
 WHOLE = ";# An error in a whole response\n;- HEADERS 05 1\nHEADERS 05 1 x8880\n;! MUST connection COMPRESSION_ERROR\n"
 LAWFUL = ";# Lawful\n;- HEADERS 05 1\nSETTINGS 00 0 s3=5\n;< SETTINGS 01 0 -\n;! MUST -\n;+ pong\nHEADERS 05 1 hi8\n;$ 0\n"
@@ -247,13 +259,16 @@ WARNS = ";# May\n;- HEADERS 05 1\nPING 01 0 x0102030405060708\n;! MAY -\n;+ pong
 # A dialogue, what the client does at the PING, the status of its command, and each verdict: its kind and what was found.
 REACTIONS = [
     (ERROR, "connection PROTOCOL_ERROR", None, []),
+    (ERROR, "late connection PROTOCOL_ERROR", None, []),
     (ERROR, "connection INTERNAL_ERROR", None, [("allowed", "connection INTERNAL_ERROR: another code, 5.4")]),
     (ERROR, "connection NO_ERROR", None, [("allowed", "closed: no GOAWAY; 5.4.1 has SHOULD")]),
     (ERROR, "leaves", None, [("allowed", "closed: no GOAWAY; 5.4.1 has SHOULD")]),
     (ERROR, "stream 1 PROTOCOL_ERROR", None, [("broken", "stream 1 PROTOCOL_ERROR")]),
     (ERROR, "-", None, [("broken", "goes on")]),
+    (ERROR, "answers and leaves", None, [("broken", "goes on")]),
     (ERROR, "silent", None, [("broken", "silent: no error, no answer to the PING, no end")]),
     (STREAM, "stream 1 PROTOCOL_ERROR", 1, []),
+    (STREAM, "late stream 1 PROTOCOL_ERROR", 1, []),
     (STREAM, "stream 1 PROTOCOL_ERROR", 0, [("user", "exit status 0")]),
     (STREAM, "stream 1 INTERNAL_ERROR", 1, [("allowed", "stream 1 INTERNAL_ERROR: a generic code, 5.4")]),
     (STREAM, "stream 1 CANCEL", 1, [("open", "stream 1 CANCEL")]),
@@ -268,6 +283,8 @@ REACTIONS = [
     (WHOLE, "leaves", None, [("allowed", "closed: no GOAWAY; 5.4.1 has SHOULD")]),
     (WHOLE, "-", None, [("broken", "goes on")]),
     (LAWFUL + ";- DATA 01 1\n", "-", 0, []),
+    (LAWFUL, "late stream 1 CANCEL", 0, []),
+    (LAWFUL, "late stream 1 PROTOCOL_ERROR", 0, [("broken", "stream 1 PROTOCOL_ERROR")]),
     (LAWFUL, "-", 7, [("user", "exit status 7")]),
     (LAWFUL, "-", "killed", [("broken", "it had to be killed")]),
     (LAWFUL, "leaves", 0, [("broken", "closed")]),
@@ -290,14 +307,24 @@ def read(text):
 def test_reactions():
     def one(row):
         text, words, status, wanted = row
-        patience = 0.3 if "silent" in str(wanted) else 3
+        patience = 2 if "silent" in str(wanted) else 30
         return [(it.kind, it.found) for it in found(read(text), "two-requests" if text == TWO else "get", lambda *_: words, status, options(patience=patience))]
 
     with concurrent.futures.ThreadPoolExecutor(4) as pool:
         for (text, words, status, wanted), got in zip(REACTIONS, pool.map(one, REACTIONS)):
             expect(got == wanted, f"{text.splitlines()[0]}: {words}, status {status}: {got}")
-    for first in (3, 13):
-        expect(found(read(STREAM), "get", obeys, 1, first=first) == [], f"a client whose first stream is {first}")
+
+
+def test_first_stream():
+    """Odd streams of a script count from the client's first one: in heads, in items, in lines, and in the last stream of GOAWAY."""
+    expect(found(read(STREAM), "get", obeys, 1, first=13) == [], "a client whose first stream is 13")
+    lasts = "GOAWAY 00 0 x7fffffff00000000\nGOAWAY 00 0 x0000000200000000\nGOAWAY 00 0 x0000000100000000\n"
+    dialogue = read(f";# Streams\n;- HEADERS 05 1\nPRIORITY 00 2 x0000000010\n{lasts}HEADERS 05 1R hi8\n")
+    connections, _ = under_test.play(dialogue, 0, options(), Client(dialogue, "get", obeys, first=13).run)
+    log = connections[0].log
+    sent = [(frame.kind, frame.stream, frame.payload[:4].hex()) for kind, frame in log[log.index(("step", 1)):] if kind == "sent"]
+    wanted = [(2, 2, "00000000"), (GOAWAY, 0, "7fffffff"), (GOAWAY, 0, "00000002"), (GOAWAY, 0, "0000000d"), (HEADERS, (1 << 31) + 13, "88")]
+    expect(sent == wanted, f"frames for a client whose first stream is 13: {sent}")
 
 
 # ---- clients that are none
@@ -345,14 +372,15 @@ RAW = [
 
 def test_raw():
     for octets, then, kind, wanted in RAW:
-        got = found(read(LAWFUL), octets, then, None, options(patience=0.3, limit=0.5), Raw)
+        limits = {"limit": 0.5} if then in ("goes on", "stays away") else {"patience": 2} if "silent" in wanted else {}
+        got = found(read(LAWFUL), octets, then, None, options(**limits), Raw)
         expect(got and (got[0].kind, got[0].found) == (kind, wanted), f"{octets[24:60]} {then}: {got}")
 
 
 def test_waiting():
     """A client that answers the PING and then waits, until the runner ends the connection: its command fails too late."""
     octets = ASKS + octets_of(Frame(PING, ACK, 0, PROBE))
-    got = found(read(STREAM), octets, "waits", 1, options(patience=0.3), Raw)
+    got = found(read(STREAM), octets, "waits", 1, options(patience=2), Raw)
     expect([(one.kind, one.found) for one in got] == [("broken", "goes on")], f"a client that waits: {got}")
 
 
@@ -384,7 +412,7 @@ def test_reset():
     dialogue = read(";# A reset\n;@ --credit 1\n;+ DATA 00 1\nRST_STREAM 00 1 c0\n")
     octets = START + octets_of(Frame(HEADERS, END_HEADERS, 1, POST)) + octets_of(Frame(DATA, 0, 1, b"a")) * 3
     made = Raw(None, octets, "leaves")
-    connections, _ = under_test.play(dialogue, 0, options(patience=0.3), made.run)
+    connections, _ = under_test.play(dialogue, 0, options(), made.run)
     sent = [(frame.kind, frame.stream) for kind, frame in connections[0].log if kind == "sent"]
     wanted = [(WINDOW_UPDATE, 0), (WINDOW_UPDATE, 1), (RST_STREAM, 1), (WINDOW_UPDATE, 0), (WINDOW_UPDATE, 0)]
     expect(sent[2:] == wanted, f"a stream that is reset: {sent}")
@@ -448,6 +476,7 @@ def main():
     test_command()
     test_reactions()
     test_raw()
+    test_first_stream()
     test_waiting()
     test_limits()
     test_reset()
