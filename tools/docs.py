@@ -235,7 +235,7 @@ def made_page(known, wrong):
             out.append(f"| `{row.name}` | {row.section}; {code}{row.sentence} | {CLIENT[row.client]}, {row.client_section} | {SERVER[row.server]} | {'; '.join(decided)} | {', '.join(files)} |")
     out += ["", "## Special cases", "", "Here `explain` prints other duties than those of the cause or reason.", "", "| Name | Of | Rule | The client broke | Server |", "|---|---|---|---|---|"]
     out += [f"| `{row.name}` | {row.said.rstrip('.')} | {row.section} | {CLIENT[row.client]}, {row.client_section} | {SERVER[row.server]} |" for row in special]
-    out += ["", "## Warnings", "", "What `explain` [warns](EXPLAIN.md#warnings) of. A note is no broken rule, so it leaves the verdict of `--strict` as it is.", "",
+    out += ["", "## Warnings", "", "What `explain` [warns](EXPLAIN.md#warnings) of. A note is no broken rule: `--strict` has no status 5 for it.", "",
             "| Name | Section | Sentence | Is |", "|---|---|---|---|"]
     out += [f"| `{name}` | {section} | {sentence} | {'a note' if is_note else 'a broken rule'} |" for name, section, sentence, is_note in warning_rows()]
     out += ["", "## Rules without a cause", "", "| Topic | Definitions | Functions and types |", "|---|---|---|"]
