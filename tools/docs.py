@@ -254,7 +254,7 @@ def made_page(known, wrong):
     out += [f"| `{row.name}` | {row.said.rstrip('.')} | {row.section} | {duties(row)} |" for row in special]
     out += ["", "## What is accepted", "", "Items without an error for which the RFC says more than that they are lawful.", "", f"| Name | Rule | {head} |", "|---|---|---|---|---|---|---|"]
     out += [f"| `{row.name}` | {row.section}; {row.sentence} | {duties(row)} |" for row in rows_of("accepted")]
-    out += ["", "## Warnings", "", "What `explain` [warns](EXPLAIN.md#warnings) of. A note is no broken rule, so it leaves the verdict of `--strict` as it is.", "",
+    out += ["", "## Warnings", "", "What `explain` [warns](EXPLAIN.md#warnings) of. A note is no broken rule: `--strict` has no status 5 for it.", "",
             "| Name | Section | Sentence | Is |", "|---|---|---|---|"]
     out += [f"| `{name}` | {section} | {sentence} | {'a note' if is_note else 'a broken rule'} |" for name, section, sentence, is_note in warning_rows()]
     out += ["", "## Rules without a cause", "", "| Topic | Definitions | Functions and types |", "|---|---|---|"]

@@ -5,16 +5,14 @@ use Rattle.std.proofs.lemmas.Fmt.{decimal_injective}
 use Rattle.std.proofs.lemmas.List.{append_cancel_right}
 use Rattle.h2_debug.specs.Debugging.{Debugging}
 use Rattle.h2_debug.specs.Places.{at, cause_at, ignored_at}
-use Rattle.h2_debug.specs.Commands.{Command, command_of, Step, Back, Go, Run, BreakOn, Clear, Show, Why}
-use Rattle.h2_debug.specs.Replies.{IsAnswer, Obeys, answer, fault_line, number_line, place_text, reply_text}
+use Rattle.h2_debug.specs.Commands.{Command, command_of}
+use Rattle.h2_debug.specs.Replies.{Obeys, answer, fault_line, number_line, place_text, reply_text}
 use Rattle.h2_debug.specs.declared.commands.reply.Reply.{Reply}
 use Rattle.h2_debug.specs.declared.commands.reply.Reply.TheVariants as code
+use Rattle.h2_spec.specs.State.{ended_code}
 use Rattle.h2_spec.specs.declared.causes.Cause.{Cause}
-use Rattle.h2_spec.specs.declared.connection.Phase.{Phase}
-use Rattle.h2_spec.specs.declared.connection.Phase.TheVariants.{Preface, Settings, Running, Ended}
 use Rattle.h2_spec.specs.declared.ignored.Ignored.{Ignored}
-use Rattle.h2_spec.specs.declared.special_cases.SpecialCase.{SpecialCase}
-use Rattle.h2_explain_text.specs.Why.{error_why, ignored_why, why_lines}
+use Rattle.h2_explain_words.specs.Why.{error_lines, ignored_lines, why_lines}
 use Rattle.h2_cmd_check.specs.Cases.{Start, closes, debugger_at, sight_above}
 use Rattle.h2_cmd_check.specs.Commands.{answered, fault_in, is_memory_fault, is_refusal}
 use Rattle.h2_cmd_cases.specs.Lines as line
@@ -27,14 +25,12 @@ use Rattle.h2_cmd_check.proofs.Going.{closes_is}
 
 -- ---- what is replied
 
-no_refusal : (phase : Phase) (cause : Option Cause) (ignored : Option Ignored) (case : Option SpecialCase) → false ≡ is_refusal (why_lines phase cause ignored case)
-unfolding error_why ignored_why
-no_refusal (Ended code) (Some cause) ignored case = refl
-no_refusal Preface (Some cause) ignored case = refl
-no_refusal Settings (Some cause) ignored case = refl
-no_refusal Running (Some cause) ignored case = refl
-no_refusal phase None (Some reason) case = refl
-no_refusal phase None None case = refl
+no_refusal : (ended : Bool) (cause : Option Cause) (ignored : Option Ignored) → false ≡ is_refusal (why_lines ended cause ignored)
+unfolding error_lines ignored_lines
+no_refusal true (Some cause) ignored = refl
+no_refusal false (Some cause) ignored = refl
+no_refusal ended None (Some reason) = refl
+no_refusal ended None None = refl
 
 -- a reply is a fault where its text is the line of one
 refusal_is : (d : Debugging) (reply : Reply) → is_some (fault_in reply) ≡ is_refusal (reply_text d reply)
@@ -43,7 +39,7 @@ refusal_is d (code.At position) = refl
 refusal_is d code.Done = refl
 refusal_is d (code.Refused fault) = refl
 refusal_is d code.Shown = refl
-refusal_is d (code.Explained case) = no_refusal (at d.run d.position).core.phase (cause_at d.run d.position) (ignored_at d.run d.position) case
+refusal_is d code.Explained = no_refusal (is_some (ended_code (at d.run d.position).core.phase)) (cause_at d.run d.position) (ignored_at d.run d.position)
 
 -- only one reply is the line of refused memory
 number_is : (n m : ℕ) → n < 256 → m < 256 → fault_line n ≡ fault_line m → n ≡ m
@@ -56,36 +52,16 @@ memory_is d (code.Refused n) few e = eq-eqb n 0 (number_is n 0 few (omega arith)
 memory_is d (code.At position) few e = absurd (true≢false (sym (refusal_is d (code.At position) ∙ ap is_refusal e ∙ sym (refusal_is d (code.Refused 0)))))
 memory_is d code.Done few e = absurd (true≢false (sym (refusal_is d code.Done ∙ ap is_refusal e ∙ sym (refusal_is d (code.Refused 0)))))
 memory_is d code.Shown few e = absurd (true≢false (sym (refusal_is d code.Shown ∙ ap is_refusal e ∙ sym (refusal_is d (code.Refused 0)))))
-memory_is d (code.Explained case) few e = absurd (true≢false (sym (refusal_is d (code.Explained case) ∙ ap is_refusal e ∙ sym (refusal_is d (code.Refused 0)))))
-
--- a text is a fault where the answer is one, and the debugger after it is that of the answer, whatever special case it names
-Alike : Debugging → Option Command → List ℕ → Debugging → Type 0
-Alike d command text after = (is_refusal text ≡ is_refusal (answer d None command).text) × (after ≡ (answer d None command).after)
-
-alike : (d after : Debugging) (command : Option Command) (text : List ℕ) → IsAnswer d command text after → Alike d command text after
-alike d after None text x = (ap is_refusal x.0, x.1)
-alike d after (Some (Step n)) text x = (ap is_refusal x.0, x.1)
-alike d after (Some (Back n)) text x = (ap is_refusal x.0, x.1)
-alike d after (Some (Go p)) text x = (ap is_refusal x.0, x.1)
-alike d after (Some Run) text x = (ap is_refusal x.0, x.1)
-alike d after (Some (BreakOn b)) text x = (ap is_refusal x.0, x.1)
-alike d after (Some Clear) text x = (ap is_refusal x.0, x.1)
-alike d after (Some Show) text x = (ap is_refusal x.0, x.1)
-alike d after (Some Why) text x =
-    let phase = (at d.run d.position).core.phase in
-    let cause = cause_at d.run d.position in
-    let ignored = ignored_at d.run d.position in
-    (ap is_refusal x.1.1.0 ∙ sym (no_refusal phase cause ignored x.0) ∙ no_refusal phase cause ignored None, x.1.1.1)
+memory_is d code.Explained few e = absurd (true≢false (sym (refusal_is d code.Explained ∙ ap is_refusal e ∙ sym (refusal_is d (code.Refused 0)))))
 
 -- a line was given to a debugger, and memory was not refused
 pub line_given : (d after : Debugging) (text : List ℕ) (command : Option Command) (reply : Reply) (fault : Option ℕ) → command ≡ command_of text → Obeys d command (reply_text after reply) after
     → fault ≡ fault_in reply → IfSome fault (λ n. n < 256) → is_memory_fault fault ≡ false → (is_some fault ≡ is_refusal (answered d text).text) × (after ≡ (answered d text).after)
 unfolding answered
-line_given d after text command reply fault is (inl x) said few well =
-    let same = alike d after command (reply_text after reply) x in (
-      ap (λ (f : Option ℕ). is_some f) said ∙ refusal_is after reply ∙ same.0 ∙ ap (λ (c : Option Command). is_refusal (answer d None c).text) is,
-      same.1 ∙ ap (λ (c : Option Command). (answer d None c).after) is,
-    )
+line_given d after text command reply fault is (inl x) said few well = (
+  ap (λ (f : Option ℕ). is_some f) said ∙ refusal_is after reply ∙ ap is_refusal (x.0 ∙ ap (λ (c : Option Command). (answer d c).text) is),
+  x.1 ∙ ap (λ (c : Option Command). (answer d c).after) is,
+)
 line_given d after text command reply fault is (inr x) said few well =
     let small = subst (λ (f : Option ℕ). IfSome f (λ n. n < 256)) said few in
     absurd (true≢false (sym (memory_is after reply small x.1) ∙ ap is_memory_fault (sym said) ∙ well))

@@ -9,10 +9,9 @@ use Rattle.h2_debug.specs.declared.commands.reply.Reply.TheVariants as code
 use Rattle.h2_cmd_check.specs.declared.case_debugger.CaseDebugger.{CaseDebugger}
 use Rattle.h2_cmd_check.specs.declared.case_debugger.CaseDebugger.TheVariants.{Absent, Present, Left}
 
--- what a debugger answers to a line where memory is given, and the debugger after it; of `why` the words of no special case,
--- since it is looked at no further than whether it is a fault
+-- what a debugger answers to a line where memory is given, and the debugger after it
 unfoldable pub answered : Debugging → List ℕ → Answer
-answered d line = answer d None (command_of line)
+answered d line = answer d (command_of line)
 
 -- an answer is the line of a fault
 abbrev pub is_refusal : List ℕ → Bool
@@ -52,7 +51,7 @@ fault_in (code.Refused fault) = Some fault
 fault_in (code.At position) = None
 fault_in code.Done = None
 fault_in code.Shown = None
-fault_in (code.Explained case) = None
+fault_in code.Explained = None
 
 -- memory was refused
 abbrev pub is_memory_fault : Option ℕ → Bool

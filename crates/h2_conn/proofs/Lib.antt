@@ -20,4 +20,4 @@ pub mod Runs
 pub mod Shortest
 mod ShownLaws
 mod TentativeLaws
-mod WindowLaws
+mod QuietLaws

@@ -10,7 +10,6 @@ pub mod Follows
 pub mod Fragments
 pub mod OpenBlocks
 pub mod Parted
-pub mod Raised
 pub mod Records
 pub mod Reports
 pub mod Runs

@@ -1,4 +1,5 @@
 mod CreditLaws
 mod PlainLaws
+pub mod RaisedLaws
 mod SettingsLaws
 pub mod SoundLaws

@@ -19,12 +19,8 @@ use Rattle.h2_spec.specs.ReactionTable.{Cell, DataRule, Rule, Take, data_cell, r
 use Rattle.h2_spec.specs.Stream.{is_live, is_peer_open}
 use Rattle.h2_spec.specs.Requests.StreamEnds.{peer_ended}
 use Rattle.h2_spec.proofs.Computed.{and-left, and-right}
-use Rattle.h2_conn_rules.specs.Plain.{only_raises, only_takes}
+use Rattle.h2_conn_rules.specs.Plain.{only_takes}
 use Rattle.h2_conn_rules.proofs.SoundLaws.{no-cause, peer-open-live}
-
--- an increment that only raises a window is one of a live stream
-pub raises-live : (increment : ℕ) (st : Stream) → only_raises increment st ≡ true → is_live st.kind ≡ true
-raises-live increment st h = and-left _ _ (and-left _ _ h)
 
 -- a stream on which the peer may still send takes DATA
 open-takes : (kind : StreamState) → is_peer_open kind ≡ true → data_cell kind ≡ Rule Take

@@ -7,7 +7,7 @@ ghost use Rattle.h2_spec.specs.Requests.Answer.{Entry, picked};
 ghost use Rattle.h2_spec.specs.Causes.Cause.{first_of};
 ghost use Rattle.h2_spec.specs.Data.{length_broken};
 ghost use Rattle.h2_request_book.specs.Lent.{IsPickOf};
-ghost use Rattle.h2_conn_rules.specs.Plain.{is_well_formed, opened};
+ghost use Rattle.h2_conn_rules.specs.Plain.{opened};
 ghost use Rattle.h2_conn_rules.specs.Sound.{HasBody, InForce, IsSoundConnectionState, IsSoundStream, in_force, is_recorded};
 
 use crate::change::{outcome_without_frame, stream_error};
@@ -107,15 +107,6 @@ fn trailers_broken(malformed: Option<Cause>, ends: bool, numbers: Numbers) -> Op
 {
     let length = length_broken(numbers.declared, numbers.content_received, true);
     first_of(malformed, first_of(unended(ends), length))
-}
-
-/// Whether the fields of a request are neither too many nor malformed, and it has the content that it declares, as far
-/// as its block says (RFC 9113, 8.1.1).
-#[inline(always)]
-pub fn is_well_formed(ends: bool, summary: &BlockSummary) -> bool
-    ensures { result ≡ is_well_formed ends summary.now }
-{
-    !is_too_large(summary.size) && request_broken(ends, *summary).is_none()
 }
 
 /// What becomes of the stream that a well-formed request opens: it is answered where the request has ended or its answer

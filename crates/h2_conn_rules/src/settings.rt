@@ -95,7 +95,8 @@ pub fn settings_rule(
     part: SettingsPart<'_>,
 ) -> Reaction
     ensures rule { (streams : List Stream) → IsGreatest greatest.now streams → result ≡ rule.settings_rule streams core (settings_in part.entry) }
-    ensures sound { (book : List Entry) (r : Records) → IsGreatest greatest.now r.streams → IsSoundState book core r → IsSound book r (in_force core) result }
+    ensures sound { (book : List Entry) (r : Records) → IsGreatest greatest.now r.streams → IsSoundState book core r
+        → IsSound book r (in_force core) result }
 {
     let before = core.peer.window;
     match settings_applied(greatest, core.peer, part) {

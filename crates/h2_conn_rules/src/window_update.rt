@@ -1,16 +1,16 @@
 //! The rule for WINDOW_UPDATE (RFC 9113, 6.9 and 6.9.1). Definitions: h2_spec's `specs/WindowUpdate.antt`, and
 //! `on_window` of `specs/Effect.antt`.
 
-ghost use Rattle.std.specs.Prelude.{◌≡◌, ◌==◌, ℕ, ◌≤◌, pos, ◌+ℤ◌, false, true, List};
+ghost use Rattle.std.specs.Prelude.{◌≡◌, ◌==◌, ℕ, ◌≤◌, true, IsTrue, List};
 ghost use Rattle.h2_spec.specs.Change as changes;
 ghost use Rattle.h2_spec.specs.WindowUpdate as rule;
 ghost use Rattle.h2_spec.specs.Effect as effect;
 ghost use Rattle.h2_spec.specs.ReactionTable.{unless_zero};
 ghost use Rattle.h2_spec.specs.Stream.{Records};
-ghost use Rattle.h2_spec.specs.Window.{is_above_max};
 ghost use Rattle.h2_spec.specs.Requests.Answer.{Entry};
 ghost use Rattle.h2_conn_rules.specs.Plain.{only_raises};
 ghost use Rattle.h2_conn_rules.specs.Sound.{HasBody, InForce, IsSound, IsSoundAt, IsSoundConnectionState, IsSoundStream, in_force, is_recorded};
+ghost use Rattle.h2_streams.specs.Raised.{can_rise, raised};
 
 use crate::change::{only_counts, outcome_without_frame, stream_error, with_outcome};
 use crate::control::ignore;
@@ -18,25 +18,23 @@ use h2_spec::causes::Cause;
 use h2_spec::connection::ConnectionState;
 use h2_spec::ignored::Ignored;
 use h2_spec::reactions::{Reaction, StreamOutcome};
-use h2_spec::streams::{Numbers, Stream, StreamState, is_live};
+use h2_spec::streams::{Stream, StreamState, is_live};
+use h2_streams::raise;
 
 /// The send window of a stream with an increment, and nothing sent.
 #[inline(always)]
 #[tactic(auto, unfolding(h2_spec::specs::Stream::octets_waiting))]
 fn raised(increment: u32, stream: Stream) -> StreamOutcome
-    requires fits { is_above_max (stream.numbers.send +ℤ pos increment) ≡ false }
-    ensures rule { result ≡ changes.outcome_without_frame (changes.with_send stream (stream.numbers.send +ℤ pos increment)) }
+    requires { IsTrue (can_rise increment stream) }
+    ensures rule { result ≡ changes.outcome_without_frame (raised increment stream) }
     ensures id { result.stream.id ≡ stream.id }
     ensures sound { (f : InForce) → f.window ≤ 2147483647 → IsSoundStream f stream → IsSoundStream f result.stream }
     ensures waits { (book : List Entry) → HasBody book stream → HasBody book result.stream }
     ensures recorded { is_recorded stream.kind ≡ true → is_recorded result.stream.kind ≡ true }
 {
-    let numbers = stream.numbers;
-    let numbers = Numbers {
-        send: numbers.send.plus(increment),
-        ..numbers
-    };
-    outcome_without_frame(Stream { numbers, ..stream })
+    let mut stream = stream;
+    raise(&mut stream, increment);
+    outcome_without_frame(stream)
 }
 
 /// An increment of a live stream's send window.
@@ -109,20 +107,6 @@ pub fn only_raises(increment: u32, stream: &Stream) -> bool
     ensures { result ≡ only_raises increment stream.now }
 {
     is_live(stream.kind) && increment != 0 && !stream.numbers.send.overflows(increment)
-}
-
-/// WINDOW_UPDATE on a stream, as `on_window`, where it only raises the stream's send window.
-#[inline(always)]
-#[tactic(auto, unfolding(h2_spec::specs::Effect::on_window, h2_spec::specs::WindowUpdate::window_outcome))]
-pub fn raise(core: ConnectionState, increment: u32, stream: Stream) -> Reaction
-    requires core { IsSoundConnectionState core }
-    requires stream { IsSoundStream (in_force core) stream }
-    requires raises { only_raises increment stream ≡ true }
-    ensures rule { result ≡ effect.on_window core increment stream }
-    ensures sound { (book : List Entry) (r : Records) → IsSoundAt book r core stream result }
-{
-    let outcome = raised(increment, stream);
-    Reaction::Continues(with_outcome(only_counts(core), outcome))
 }
 
 /// WINDOW_UPDATE on the connection (RFC 9113, 6.9): its send window rises by `increment`, 0 to 2147483647.

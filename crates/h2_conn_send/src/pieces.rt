@@ -30,7 +30,8 @@ pub fn write_allowance<'b, A: Allocator, O: Outgoing<'b, A>>(
     requires waits { allowance ≤ octets_waiting stream.now }
     requires made { IsData prepared.now }
     requires left { octets_waiting stream.now ≤ length (content prepared.now) }
-    ensures ok { OnOk result (O.octets out.new ≡ O.octets out.old ++ frames_octets (rule.data_frames stream.now.id (octets_waiting stream.now == allowance) size
+    ensures ok { OnOk result (O.octets out.new ≡ O.octets out.old ++ frames_octets
+        (rule.data_frames stream.now.id (octets_waiting stream.now == allowance) size
         (take allowance (drop (length (content prepared.now) - octets_waiting stream.now) (content prepared.now))))) }
     ensures kept { take (length (O.octets out.old)) (O.octets out.new) ≡ O.octets out.old }
 {

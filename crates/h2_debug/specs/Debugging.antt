@@ -1,7 +1,7 @@
 -- What a debugger represents, and what its moves result in.
-use Rattle.std.specs.Prelude.{◌≡◌, ℕ, zero, suc, ◌+◌, ◌-◌, ◌*◌, ◌/◌, ◌≤◌, ◌&&◌, ◌||◌, Bool, nat_le, min, max, if◌then◌else◌, List, length, Option, Some, None, is_some}
+use Rattle.std.specs.Prelude.{◌≡◌, ℕ, zero, suc, ◌+◌, ◌-◌, ◌*◌, ◌/◌, ◌≤◌, ◌&&◌, nat_le, min, max, if◌then◌else◌, List, length, Option, Some, None}
 use Rattle.h2_spec.specs.Texts.Debug.{Break}
-use Rattle.h2_debug.specs.Places.{AreKept, IsAt, KeptPlace, Placed, Source, cause_at, end, ignored_at, longer}
+use Rattle.h2_debug.specs.Places.{AreKept, IsAt, KeptPlace, Placed, Source, end, longer}
 
 -- a run, the breakpoints, the present position, the greatest one that was reached, how many items were run to the
 -- present position since the last `back` or `go` began, or since the start, and how many of its items that `back` or
@@ -42,10 +42,6 @@ replay_count p d = min p d.reached - replay_start p d
 -- at another position after `back` or `go`: the items from where the move starts were run, and no others
 abbrev pub moved_counting : ℕ → Debugging → Debugging
 moved_counting p d = record (moved_by (p - replay_start p d) p d) { replayed = replay_count p d }
-
--- whether the item at the position was an error, or was ignored
-abbrev pub has_rule : Debugging → Bool
-has_rule d = is_some (cause_at d.run d.position) || is_some (ignored_at d.run d.position)
 
 -- over more octets, at the same position
 abbrev pub fed : List ℕ → Debugging → Debugging

@@ -3,13 +3,11 @@ use Rattle.std.specs.Prelude.{◌≡◌, ◌⊎◌, ℕ, ◌+◌, ◌-◌, ◌++
 use Rattle.h2_spec.specs.Texts.Debug.{stop}
 use Rattle.h2_spec.specs.Texts.Show.{joined, octets_text, show}
 use Rattle.h2_spec.specs.Texts.View.{view}
-use Rattle.h2_debug.specs.Debugging.{Debugging, has_rule, moved_counting, moved}
+use Rattle.h2_debug.specs.Debugging.{Debugging, moved_counting, moved}
 use Rattle.h2_debug.specs.Faults.{fault_number}
 use Rattle.h2_debug.specs.Places.{at, cause_at, end, events, ignored_at, sent_octets_at}
 use Rattle.h2_debug.specs.declared.fault.DebugFault.{DebugFault}
 use Rattle.h2_debug.specs.Commands.{Command, Step, Back, Go, Run, BreakOn, Clear, Show, Why}
-use Rattle.h2_spec.specs.declared.special_cases.SpecialCase.{SpecialCase}
-use Rattle.h2_explain_item.specs.Special.{IsCaseOf}
 use Rattle.h2_explain_text.specs.Why.{why_lines}
 use Rattle.h2_debug.specs.declared.commands.reply.Reply.{Reply}
 use Rattle.h2_debug.specs.declared.commands.reply.Reply.TheVariants as code
@@ -34,9 +32,9 @@ place_text position sent state = joined (codes "at " ∷ decimal position ∷ co
 abbrev pub shown_text : Debugging → List ℕ
 shown_text d = place_text d.position (sent_octets_at d.run d.position) (show (view (at d.run d.position)))
 
--- why the item at the position of a debugger was an error, or was ignored, and which special case that is
-abbrev pub why_text : Debugging → Option SpecialCase → List ℕ
-why_text d case = why_lines (at d.run d.position).core.phase (cause_at d.run d.position) (ignored_at d.run d.position) case
+-- why the item at the position of a debugger was an error, or was ignored
+abbrev pub why_text : Debugging → List ℕ
+why_text d = why_lines (at d.run d.position).core.phase (cause_at d.run d.position) (ignored_at d.run d.position) None
 
 -- a text, and the debugger after it
 pub record Answer : Type 0 where
@@ -52,41 +50,24 @@ refused fault d = record { text = fault_line fault; after = d }
 abbrev pub done : Debugging → Answer
 done d = record { text = codes "ok\n"; after = d }
 
--- the answer to a line where memory is given, where the item at the position is this special case: 27 where it is no
--- command
-abbrev pub answer : Debugging → Option SpecialCase → Option Command → Answer
-answer d case None = refused 27 d
-answer d case (Some (Step n)) =
+-- the answer to a line where memory is given: 27 where it is no command
+abbrev pub answer : Debugging → Option Command → Answer
+answer d None = refused 27 d
+answer d (Some (Step n)) =
     if nat_lt 0 n && d.position == end d.run then refused 19 d
     else arrived (min (d.position + n) (end d.run)) (moved (min (d.position + n) (end d.run)) d)
-answer d case (Some (Back n)) =
+answer d (Some (Back n)) =
     if nat_lt 0 n && d.position == 0 then refused 20 d else arrived (d.position - n) (moved_counting (d.position - n) d)
-answer d case (Some (Go p)) = if nat_lt (end d.run) p then refused 21 d else arrived p (moved_counting p d)
-answer d case (Some Run) =
+answer d (Some (Go p)) = if nat_lt (end d.run) p then refused 21 d else arrived p (moved_counting p d)
+answer d (Some Run) =
     if d.position == end d.run then refused 19 d
     else arrived (stop d.breaks (events d.run) d.position) (moved (stop d.breaks (events d.run) d.position) d)
-answer d case (Some (BreakOn b)) = done (record d { breaks = d.breaks ++ b ∷ [] })
-answer d case (Some Clear) = done (record d { breaks = [] })
-answer d case (Some Show) = record { text = shown_text d; after = d }
-answer d case (Some Why) = record { text = why_text d case; after = d }
+answer d (Some (BreakOn b)) = done (record d { breaks = d.breaks ++ b ∷ [] })
+answer d (Some Clear) = done (record d { breaks = [] })
+answer d (Some Show) = record { text = shown_text d; after = d }
+answer d (Some Why) = record { text = why_text d; after = d }
 
--- a text, and the debugger after it, are an answer
-abbrev pub Gives : Answer → List ℕ → Debugging → Type 0
-Gives a text after = (text ≡ a.text) × (after ≡ a.after)
-
--- they are the answer to a command; that to `why` is of the special case that the item is
-abbrev pub IsAnswer : Debugging → Option Command → List ℕ → Debugging → Type 0
-IsAnswer d None = Gives (answer d None None)
-IsAnswer d (Some (Step n)) = Gives (answer d None (Some (Step n)))
-IsAnswer d (Some (Back n)) = Gives (answer d None (Some (Back n)))
-IsAnswer d (Some (Go p)) = Gives (answer d None (Some (Go p)))
-IsAnswer d (Some Run) = Gives (answer d None (Some Run))
-IsAnswer d (Some (BreakOn b)) = Gives (answer d None (Some (BreakOn b)))
-IsAnswer d (Some Clear) = Gives (answer d None (Some Clear))
-IsAnswer d (Some Show) = Gives (answer d None (Some Show))
-IsAnswer d (Some Why) = λ text after. (case : Option SpecialCase) × IsCaseOf (cause_at d.run d.position) (ignored_at d.run d.position) case × Gives (answer d case (Some Why)) text after
-
--- whether a command takes memory: a move that is not refused, a breakpoint, and the rule of an item; no other text does
+-- whether a command takes memory: a move that is not refused and a breakpoint; no text does
 abbrev pub takes_memory : Debugging → Option Command → Bool
 takes_memory d None = false
 takes_memory d (Some (Step n)) = nat_lt 0 n && not (d.position == end d.run)
@@ -96,11 +77,11 @@ takes_memory d (Some Run) = not (d.position == end d.run)
 takes_memory d (Some (BreakOn b)) = true
 takes_memory d (Some Clear) = false
 takes_memory d (Some Show) = false
-takes_memory d (Some Why) = has_rule d
+takes_memory d (Some Why) = false
 
 -- the answer, or memory was refused and the debugger is as it was
 abbrev pub Obeys : Debugging → Option Command → List ℕ → Debugging → Type 0
-Obeys d command text after = IsAnswer d command text after
+Obeys d command text after = ((text ≡ (answer d command).text) × (after ≡ (answer d command).after))
     ⊎ ((takes_memory d command ≡ true) × (text ≡ fault_line 0) × (after ≡ d))
 
 -- the text of a reply of this debugger
@@ -109,7 +90,7 @@ reply_text d (code.At position) = at_line position
 reply_text d code.Done = codes "ok\n"
 reply_text d (code.Refused fault) = fault_line fault
 reply_text d code.Shown = shown_text d
-reply_text d (code.Explained case) = why_text d case
+reply_text d code.Explained = why_text d
 
 -- the reply to a move, and to a breakpoint
 abbrev pub moved_reply : Result ℕ DebugFault → Reply

@@ -13,8 +13,7 @@ ghost use Rattle.std.specs.String.{string_bytes};
 ghost use Rattle.h2_spec.specs.State.{is_allowed};
 ghost use Rattle.h2_debug.specs.Breakpoints.{break_of};
 ghost use Rattle.h2_debug.specs.Debugging as spec;
-ghost use Rattle.h2_debug.specs.Debugging.{farthest_or, fed, has_rule, moved, moved_by, moved_counting, replay_start};
-ghost use Rattle.h2_explain_item.specs.Special.{IsCaseOf};
+ghost use Rattle.h2_debug.specs.Debugging.{farthest_or, fed, moved, moved_by, moved_counting, replay_start};
 ghost use Rattle.h2_debug.specs.Faults.{IsRefused, end_fault, load_fault, start_fault};
 ghost use Rattle.h2_debug.specs.Places.{IsAt, at, cause_at, end, events, ignored_at, sent_octets_at};
 ghost use Rattle.h2_debug.specs.Stops.{IsStop};
@@ -30,12 +29,10 @@ use crate::places::place::Place;
 use crate::places::source::Source;
 use h2_conn::view::View;
 use h2_conn::{Conn, ConnFault};
-use h2_explain_step::case_finder::{CaseFinder, Grounds};
 use h2_request_book::book::Book;
 use h2_spec::causes::Cause;
 use h2_spec::connection::Config;
 use h2_spec::ignored::Ignored;
-use h2_spec::special_cases::SpecialCase;
 use std::alloc::{AllocError, Allocator};
 use std::marker::Model;
 use std::mem;
@@ -57,8 +54,6 @@ pub struct Debugger<'b, A: Allocator> {
     kept: Vec<KeptPlace<'b, A>, A>,
     reached: usize,
     replayed: usize,
-    /// The special cases of the run, as far as one was asked for.
-    finder: Option<CaseFinder<'b, A>>,
 }
 
 impl<'b, A: Allocator> Model for Debugger<'b, A> {
@@ -86,7 +81,6 @@ impl<'b, A: Allocator> Drop for Debugger<'b, A> {
             kept: _,
             reached: _,
             replayed: _,
-            finder: _,
         } = self;
     }
 }
@@ -172,7 +166,6 @@ impl<'b, A: Allocator + Copy> Debugger<'b, A> {
             kept,
             reached: 0,
             replayed: 0,
-            finder: None,
         })
     }
 
@@ -604,45 +597,6 @@ impl<'b, A: Allocator + Copy> Debugger<'b, A> {
         ensures { result ≡ ignored_at self.now.run self.now.position }
     {
         self.present.reasons().ignored
-    }
-
-    /// What decides which special case the rule of the item at the present position is, if it is one. The items up to it
-    /// are explained, but for those that were for a call before.
-    fn grounds(&mut self) -> Result<Option<Grounds>, AllocError>
-        ensures same { self.new ≡ self.old }
-    {
-        let alloc = *self.octets.allocator();
-        let mut finder = match self.finder.take() {
-            Some(finder) => finder,
-            None => match CaseFinder::new(alloc, self.book, self.config) {
-                Ok(finder) => finder,
-                Err(_) => return Err(AllocError),
-            },
-        };
-        let number = self.present.position() as u64;
-        let grounds = finder.grounds(alloc, self.octets.as_slice(), number)?;
-        self.finder = Some(finder);
-        Ok(grounds)
-    }
-
-    /// Which special case the error of the item that leads to the present position is, or why it was ignored, if it is one;
-    /// `explain` names the same. `NoMemory` leaves the debugger as it was, and comes only where the item has a rule.
-    pub fn special_case(&mut self) -> Result<Option<SpecialCase>, DebugFault>
-        ensures case { IfOk result (IsCaseOf (cause_at self.old.run self.old.position) (ignored_at self.old.run self.old.position)) }
-        ensures rule { OnErr result (has_rule self.old ≡ true) }
-        ensures fault { IfErr result (λ fault. fault ≡ NoMemory) }
-        ensures same { self.new ≡ self.old }
-    {
-        let reasons = self.present.reasons();
-        let grounds = if reasons.is_some() {
-            self.grounds()?
-        } else {
-            None
-        };
-        match grounds {
-            Some(grounds) => Ok(reasons.special_case(grounds)),
-            None => Ok(reasons.special_case(Grounds::none())),
-        }
     }
 
     /// The present position: how many items came before it. It takes no memory.

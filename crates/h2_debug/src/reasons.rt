@@ -1,15 +1,11 @@
 //! Why an item was an error, or was ignored (RFC 9113, 5.4). Definitions: `specs/Reasons.antt`.
 
-ghost use Rattle.std.specs.Prelude.{◌≡◌, ◌||◌, is_some};
-ghost use Rattle.h2_explain_item.specs.Special.{IsCaseOf};
+ghost use Rattle.std.specs.Prelude.{◌≡◌};
 ghost use Rattle.h2_debug.specs.Reasons.{no_reasons, reasons_by};
 
 use h2_conn::TakenItem;
-use h2_explain_item::diagnosis::special::case_by;
-use h2_explain_step::case_finder::Grounds;
 use h2_spec::causes::Cause;
 use h2_spec::ignored::Ignored;
-use h2_spec::special_cases::SpecialCase;
 
 /// Why an item was an error, or was ignored.
 #[derive(Clone, Copy)]
@@ -39,19 +35,5 @@ impl Reasons {
             cause: taken.cause,
             ignored: taken.ignored,
         }
-    }
-
-    /// Whether there is one.
-    pub fn is_some(self) -> bool
-        ensures { result ≡ (is_some self.cause || is_some self.ignored) }
-    {
-        self.cause.is_some() || self.ignored.is_some()
-    }
-
-    /// The special case that this is on these grounds, if it is one.
-    pub fn special_case(self, grounds: Grounds) -> Option<SpecialCase>
-        ensures { IsCaseOf self.cause self.ignored result }
-    {
-        case_by(self.cause, self.ignored, grounds.seen, grounds.facts)
     }
 }

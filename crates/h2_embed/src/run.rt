@@ -3,15 +3,14 @@
 ghost use Rattle.std.specs.Prelude.{◌≡◌, ◌≤◌, length, IfOk, IfErr};
 ghost use Rattle.h2_cmd_run.specs.Memory.{printed_in};
 ghost use Rattle.h2_embed.specs.Embed.{Gives, IsRefusedFor, RunsAs, RunsSaid, one_file, words_said};
-ghost use Rattle.h2_embed.specs.declared.fault.RunFault.TheVariants.{NoMemory};
 
 use crate::fault::{RunEnd, RunFault, refused};
 use crate::put::put_printed;
 use crate::sentence::sentence_of;
-use crate::words::words_in;
+use crate::words::{WordsFault, words_in};
 use h2_cmd_args::Words;
 use h2_cmd_run::{Ran, run_in_memory};
-use std::alloc::Global;
+use std::alloc::{AllocError, Global};
 use std::str;
 
 /// What a command printed, and the sentence about it.
@@ -28,16 +27,16 @@ fn run_words(
     name: &str,
     file: &[u8],
     input: &[u8],
-) -> Result<Said, RunFault>
-    ensures ok { IfOk result (λ said. RunsAs words.now (one_file name.now file.now) input.now (printed_in said.ran)) }
-    ensures err { IfErr result (λ fault. fault ≡ NoMemory) }
+) -> Result<Said, AllocError>
+    ensures { IfOk result (λ said. RunsAs words.now (one_file name.now file.now) input.now (printed_in said.ran)) }
 {
-    let Ok(ran) = run_in_memory(alloc, words, &[(name, file)], input) else {
-        return Err(RunFault::NoMemory);
+    let ran = match run_in_memory(alloc, words, &[(name, file)], input) {
+        Ok(ran) => ran,
+        Err(error) => return Err(error),
     };
     match sentence_of(alloc, words, input, &ran) {
         Ok(sentence) => Ok(Said { ran, sentence }),
-        Err(_) => Err(RunFault::NoMemory),
+        Err(error) => Err(error),
     }
 }
 
@@ -56,8 +55,12 @@ fn run_lines(
         return Err(RunFault::NoText);
     };
     match words_in(alloc, lines) {
-        Ok(words) => run_words(alloc, &words, path, file, input),
-        Err(fault) => Err(fault),
+        Ok(words) => match run_words(alloc, &words, path, file, input) {
+            Ok(said) => Ok(said),
+            Err(_) => Err(RunFault::NoMemory),
+        },
+        Err(WordsFault::NoMemory) => Err(RunFault::NoMemory),
+        Err(WordsFault::NoText) => Err(RunFault::NoText),
     }
 }
 

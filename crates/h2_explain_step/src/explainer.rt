@@ -24,7 +24,7 @@ use h2_explain_item::diagnosis::facts::{facts_of, others_of, wider_of};
 use h2_explain_item::diagnosis::request_facts::{
     BlockFacts, RequestFacts, block_facts, request_facts,
 };
-use h2_explain_item::diagnosis::run_facts::run_facts;
+use h2_explain_item::diagnosis::run_facts::{empties_after, run_facts};
 use h2_explain_item::diagnosis::special::CaseFacts;
 use h2_explain_item::diagnosis::warning::{opens_stream, warnings_of};
 use h2_explain_item::item::Explained;
@@ -458,7 +458,8 @@ impl<A: Allocator + Copy> ItemExplainer<A> {
         ensures notes { OnOk result (NotesItem item.now conn.now.state self.old.notes self.new.notes) }
         ensures full { self.new.is_full ≡ self.old.is_full }
     {
-        let run = run_facts(&mut self.granted, &mut self.empties, item)?;
+        let empties = self.empties;
+        let run = run_facts(&mut self.granted, empties, item)?;
         account.is_full = self.is_full;
         account.shows_fields = self.read_block(alloc, item)?;
         self.follow_refused(alloc, item)?;
@@ -480,6 +481,7 @@ impl<A: Allocator + Copy> ItemExplainer<A> {
         self.note_rest(conn, item, &sent)?;
         self.put_entries(alloc, item, &mut account.entries)?;
         put_opening(alloc, conn, item.number == 1, &mut account.opening)?;
+        self.empties = empties_after(empties, item.head());
         Ok(())
     }
 

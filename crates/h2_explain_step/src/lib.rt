@@ -3,7 +3,6 @@
 //! The values are those of h2_explain_item, h2_explain_item and h2_explain_item; h2_explain_text shows them as text.
 #![tactic(auto)]
 
-pub mod case_finder;
 pub mod explainer;
 pub mod taking;
 mod unshown_changes;

@@ -12,7 +12,7 @@ use Rattle.h2_spec.specs.Stream.{record_of, put, AreRising, stream_at, kind_of, 
 use Rattle.h2_streams.specs.Put.{can_become}
 use Rattle.h2_streams.specs.Kept.{Rise, passes_at, place_of}
 
-eqb-same : (a b : ℕ) → eqb a b ≡ true → a ≡ b
+pub eqb-same : (a b : ℕ) → eqb a b ≡ true → a ≡ b
 eqb-same a b h = grind (arith, nat_tests, h)
 
 pub rise : (low last : ℕ) (rs : List Stream) → AreRising low last rs → Rise low rs
@@ -146,15 +146,30 @@ added-is-put st r h l =
     let streams = sym (put-new 0 r.last r.streams st h l) in
     ap (λ (xs : List Stream). let s : Records = record { streams = xs; last = st.id } in s) streams ∙ ap (λ n. let s : Records = record { streams = put st r.streams; last = n } in s) top
 
--- a live stream's record has its identifier
-pub live-id : (last : ℕ) (rs : List Stream) (id : ℕ) → is_live (kind_of last rs id) ≡ true → (stream_at last rs id).id ≡ id
+-- a live stream's record is found
+pub live-found : (last : ℕ) (rs : List Stream) (id : ℕ) → is_live (kind_of last rs id) ≡ true → record_of rs id ≡ Some (stream_at last rs id)
 unfolding stream_at
-live-id last rs id h = by_test (eqb (id % 2) 0) (nat_lt last id) (record_of rs id) (found-id rs id) where
-  by_test : (a b : Bool) (o : Option Stream) → ((st : Stream) → o ≡ Some st → st.id ≡ id) → (cond a (not_live id Idle) (cond b (not_live id Idle) (recorded id o))).id ≡ id
-  by_test true b o f = refl
-  by_test false true o f = refl
-  by_test false false None f = refl
-  by_test false false (Some st) f = f st refl
+live-found last rs id h = by_test (eqb (id % 2) 0) (nat_lt last id) (record_of rs id) h where
+  by_test : (a b : Bool) (o : Option Stream) → is_live (cond a (not_live id Idle) (cond b (not_live id Idle) (recorded id o))).kind ≡ true → o ≡ Some (cond a (not_live id Idle) (cond b (not_live id Idle) (recorded id o)))
+  by_test true b o k = absurd (true≢false (sym k))
+  by_test false true o k = absurd (true≢false (sym k))
+  by_test false false None k = absurd (true≢false (sym k))
+  by_test false false (Some st) k = refl
+
+-- and it has its identifier
+pub live-id : (last : ℕ) (rs : List Stream) (id : ℕ) → is_live (kind_of last rs id) ≡ true → (stream_at last rs id).id ≡ id
+live-id last rs id h = found-id rs id (stream_at last rs id) (live-found last rs id h)
+
+-- a test is passed at a place in the list, and there it is passed by the record
+pub passes-within : (test : Stream → Bool) (rs : List Stream) (p : ℕ) → passes_at test rs p ≡ true → p < length rs
+passes-within test [] p h = absurd (true≢false (sym h))
+passes-within test (x ∷ xs) zero h = omega arith
+passes-within test (x ∷ xs) (suc p) h = let rest = passes-within test xs p h in omega (arith, rest)
+
+pub passes-is : (test : Stream → Bool) (rs : List Stream) (p : ℕ) (d : Stream) → p < length rs → passes_at test rs p ≡ test (slice_index_or rs p d)
+passes-is test [] p d l = absurd (omega (arith, l))
+passes-is test (x ∷ xs) zero d l = refl
+passes-is test (x ∷ xs) (suc p) d l = passes-is test xs p d (omega (arith, l))
 
 -- a record with this identifier is at the place
 pub place-found : (id low : ℕ) (rs : List Stream) (p : ℕ) → Rise low rs → passes_at (λ st. eqb st.id id) rs p ≡ true → (low < id) × (p ≡ place_of id rs)

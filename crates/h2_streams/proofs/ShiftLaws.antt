@@ -1,5 +1,6 @@
 -- Laws of the windows that settings move.
-use Rattle.std.proofs.Common.{◌≡◌, ℕ, zero, suc, ◌<◌, ◌≤◌, ◌%◌, Bool, true, false, ◌&&◌, ◌||◌, not, cond, ℤ, pos, negsuc, ◌+ℤ◌, ◌≤ℤ◌, int_lt, List, [], ◌∷◌, length, map, Some, None, refl, ap, ◌∙◌, sym, arith, subst, true≢false, unwrap_or}
+use Rattle.std.proofs.Common.{◌≡◌, ℕ, zero, suc, ◌<◌, ◌≤◌, ◌%◌, Bool, true, false, ◌&&◌, ◌||◌, not, cond, ℤ, pos, negsuc, ◌+ℤ◌, ◌≤ℤ◌, int_lt, eqb, nat_lt, List, [], ◌∷◌, length, map, Some, None, refl, ap, ◌∙◌, sym, arith, subst, true≢false, unwrap_or}
+use Rattle.std.proofs.lemmas.Bool.Decides.{nat_tests}
 use Rattle.std.proofs.lemmas.Int.{ints}
 use Rattle.std.specs.List.{AllByRecursion, list_any}
 use Rattle.std.specs.Prelude.{slice_index_or, slice_set}
@@ -10,10 +11,11 @@ use Rattle.h2_spec.specs.declared.streams.StreamState.TheVariants.{Idle, Skipped
 use Rattle.h2_spec.specs.declared.streams.Stream.{Stream}
 use Rattle.h2_spec.specs.Change.{follows_initial_window, received, received_one, shifted, shifted_one, overflows, overflows_one, with_recv, with_send}
 use Rattle.h2_spec.specs.Window.{max_window, is_above_max}
-use Rattle.h2_spec.specs.Stream.{is_live, live_count, octets_waiting, AreRising}
-use Rattle.h2_streams.specs.Kept.{entries_of, places_of, ids_of, ids_at, is_entered, is_ready, next_entry, passes_at, IsKept}
+use Rattle.h2_spec.specs.Stream.{is_live, live_count, octets_waiting, put, record_of, AreRising}
+use Rattle.h2_streams.specs.Kept.{entries_of, places_of, ids_of, ids_at, is_entered, is_ready, next_entry, passes_at, place_of, IsKept, Rise}
 use Rattle.h2_streams.specs.Shift.{CanReceive, CanShift, is_window, moved, moved_or_same, moved_window, received_or_same, update, update_each}
 use Rattle.h2_streams.proofs.IdsLaws.{idle-ready}
+use Rattle.h2_streams.proofs.PlaceLaws.{eqb-same, none-below}
 use Rattle.h2_streams.proofs.LiveLaws.{any-live, as_count, count-cons, each-live, entered-places, ids-live, kept-places, unentered}
 
 -- a record that is written at its place is changed there
@@ -26,6 +28,26 @@ pub update-absent : (f : Stream → Stream) (place : ℕ) (rs : List Stream) →
 update-absent f place [] le = refl
 update-absent f zero (x ∷ xs) le = absurd (omega arith)
 update-absent f (suc place) (x ∷ xs) le = ap (λ ys. x ∷ ys) (update-absent f place xs (omega arith))
+
+-- the record with an identifier is changed at its place
+pub update-put : (f : Stream → Stream) (id low : ℕ) (rs : List Stream) (st : Stream) → Rise low rs → record_of rs id ≡ Some st → (f st).id ≡ id → update f (place_of id rs) rs ≡ put (f st) rs
+update-put f id low [] st h found same = cc
+update-put f id low (x ∷ xs) st h found same =
+    subst (λ (i : ℕ). update f (place_of id (x ∷ xs)) (x ∷ xs) ≡ cond (eqb x.id i) (f st ∷ xs) (x ∷ put (f st) xs)) (sym same)
+    (by (nat_lt x.id id) (eqb x.id id) refl refl found (λ more. update-put f id x.id xs st h.1 more same))
+  where
+    by : (t b : Bool) → nat_lt x.id id ≡ t → eqb x.id id ≡ b → cond b (Some x) (record_of xs id) ≡ Some st → (record_of xs id ≡ Some st → update f (place_of id xs) xs ≡ put (f st) xs)
+        → update f (cond t (suc (place_of id xs)) 0) (x ∷ xs) ≡ cond b (f st ∷ xs) (x ∷ put (f st) xs)
+    by true true e d k more =
+        let one = eqb-same x.id id d in
+        let here : nat_lt x.id id ≡ false = grind (arith, nat_tests, one) in
+        absurd (true≢false (sym e ∙ here))
+    by true false e d k more = ap (λ ys. x ∷ ys) (more k)
+    by false true e d k more = let is : x ≡ st = cc in ap (λ (y : Stream). f y ∷ xs) is
+    by false false e d k more =
+        let le : id ≤ x.id = grind (arith, nat_tests, e) in
+        let none = none-below id x.id xs le h.1 in
+        let g : None ≡ Some st = sym none ∙ k in cc
 
 -- ---- streams that settings move
 

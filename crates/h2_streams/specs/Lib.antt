@@ -4,6 +4,7 @@ pub mod Joined
 pub mod Kept
 pub mod Patches
 pub mod Put
+pub mod Raised
 pub mod Rebuilt
 pub mod Sends
 pub mod Shift

@@ -1,10 +1,11 @@
 //! What the kind of a stream says (RFC 9113, 5.1). Definitions: its `specs/Stream.antt`, and `is_ready` of
 //! `specs/Kept.antt`.
 
-ghost use Rattle.std.specs.Prelude.{◌≡◌};
+ghost use Rattle.std.specs.Prelude.{◌≡◌, IsTrue};
 ghost use Rattle.h2_spec.specs.Stream as spec;
 ghost use Rattle.h2_spec.specs.Requests.StreamEnds as ends;
 ghost use Rattle.h2_streams.specs.Kept as kept;
+ghost use Rattle.h2_streams.specs.Raised.{can_rise, raised};
 
 use h2_spec::flow::{Credit, Window};
 use h2_spec::streams::{Numbers, Pick, Stream, StreamState, is_live};
@@ -27,6 +28,15 @@ pub(crate) fn is_ready(stream: &Stream) -> bool
     ensures { result ≡ kept.is_ready stream.now }
 {
     octets_waiting(stream) > 0 && stream.numbers.send.value() > 0
+}
+
+/// Raises the stream's send window, which stays at most 2147483647 (RFC 9113, 6.9 and 6.9.1).
+#[inline(always)]
+pub fn raise(stream: &mut Stream, increment: u32)
+    requires { IsTrue (can_rise increment stream.old) }
+    ensures { stream.new ≡ raised increment stream.old }
+{
+    stream.numbers.send = stream.numbers.send.plus(increment);
 }
 
 /// A stream that is not live: its identifier and its state alone.

@@ -12,6 +12,6 @@ mod windows;
 
 pub use h2_spec::errors::FlowFault;
 pub use h2_spec::streams::{Numbers, Pick, Stream, StreamState, is_live};
-pub use kinds::{not_live, octets_waiting, server_ended};
+pub use kinds::{not_live, octets_waiting, raise, server_ended};
 pub use records::Streams;
 pub use sharing::kept::KeptStreams;

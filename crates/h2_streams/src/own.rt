@@ -11,13 +11,14 @@ ghost use Rattle.h2_streams.specs.Greatest.{IsGreatest};
 ghost use Rattle.h2_streams.specs.Joined.{IsJoined, joined};
 ghost use Rattle.h2_streams.specs.Kept as kept;
 ghost use Rattle.h2_streams.specs.Put.{can_become};
+ghost use Rattle.h2_streams.specs.Raised.{can_rise, raised};
 ghost use Rattle.h2_streams.specs.Shift as shift;
 
 use crate::kinds::is_ready;
 use crate::lookup::hash::IdHash;
 use crate::lookup::ids::{append, ids_above, list};
 use crate::lookup::live::{enter, enter_each, note_ended, place_in, record_in};
-use crate::lookup::places::{join, write};
+use crate::lookup::places::{join, raise_at, write};
 use crate::lookup::walks::{first_waiting, list_ready};
 use crate::sharing::rebuilt::live_records;
 use crate::windows::greatest::greatest_of;
@@ -327,6 +328,18 @@ impl<A: Allocator> OwnRecords<A> {
         if has_ended(was_live, live) {
             self.ended = note_ended(&mut self.live, self.records.as_slice(), self.ended);
         }
+    }
+
+    /// Raises the send window of a live stream, in place.
+    #[inline(always)]
+    pub(crate) fn raise(&mut self, id: u32, increment: u32)
+        requires live { IsTrue (spec.is_live (spec.kind_of self.old.last self.old.streams id)) }
+        requires fits { IsTrue (can_rise increment (spec.stream_at self.old.last self.old.streams id)) }
+        ensures { self.new ≡ spec.changed id (raised increment) self.old }
+    {
+        let place = place_in(&self.live, self.records.as_slice(), self.recent, id);
+        let ready = raise_at(&mut self.records, place, increment);
+        list(&mut self.ready, id, ready);
     }
 }
 

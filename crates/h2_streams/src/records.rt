@@ -1,7 +1,7 @@
 //! The records: what opens, changes and ends a stream. They are a list of their own, or the first of them are shared with
 //! other lists, those at an earlier or a later time. The program does not call `open_stream`, `open_reset`, `set`,
-//! `end_remote`, `end_local`, `reset` and `next_waiting`, which are for users of the library: its rules return the
-//! whole record after a frame, which `put` puts in place, and `next_ready` finds the next stream that can send.
+//! `end_remote`, `end_local` and `next_waiting`, which are for users of the library: its rules return the whole record
+//! after a frame, which `put` puts in place, and `next_ready` finds the next stream that can send.
 //! Definitions: `h2_spec/specs/Stream.antt`; what is shared: `specs/Joined.antt`.
 
 ghost use Rattle.std.specs.Prelude.{◌≡◌, false, not, take, ◌<◌, ◌≤◌, ◌%◌, ◌==◌, ◌||◌, nat_lt, length, IsOk, OnOk, OnErr, IfOk, IfErr, IfSome, IsTrue, is_err, slice_get};
@@ -13,10 +13,11 @@ ghost use Rattle.h2_spec.specs.Change as changes;
 ghost use Rattle.h2_streams.specs.Greatest.{IsGreatest};
 ghost use Rattle.h2_streams.specs.Kept as kept;
 ghost use Rattle.h2_streams.specs.Put.{CanPut, can_become};
+ghost use Rattle.h2_streams.specs.Raised.{can_rise, raised};
 ghost use Rattle.h2_streams.specs.Rebuilt as earlier;
 ghost use Rattle.h2_streams.specs.Shift as shift;
 
-use crate::kinds::{not_live, peer_closed, reset_kind, server_ended};
+use crate::kinds::{not_live, peer_closed, raise, reset_kind, server_ended};
 use crate::own::OwnRecords;
 use crate::sharing::base::{Base, replace, share_again, share_first};
 use crate::sharing::rebuilt::insert_closed;
@@ -247,6 +248,22 @@ impl<A: Allocator> Streams<A> {
     {
         let stream = self.stream_at(id);
         self.replace(Stream { numbers, ..stream });
+    }
+
+    /// Raises the send window of a live stream, which stays at most 2147483647 (RFC 9113, 6.9 and 6.9.1).
+    #[inline(always)]
+    pub fn raise(&mut self, id: u32, increment: u32)
+        requires live { IsTrue (spec.is_live (spec.kind_of self.old.last self.old.streams id)) }
+        requires fits { IsTrue (can_rise increment (spec.stream_at self.old.last self.old.streams id)) }
+        ensures { self.new ≡ spec.changed id (raised increment) self.old }
+    {
+        if self.base.is_some() {
+            let mut risen = self.stream_at(id);
+            raise(&mut risen, increment);
+            self.replace(risen);
+        } else {
+            self.own.raise(id, increment);
+        }
     }
 
     /// The peer's side ends: a stream that was open on both sides is half-closed then, a half-closed one has ended.

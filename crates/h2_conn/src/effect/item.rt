@@ -12,15 +12,15 @@ ghost use Rattle.h2_spec.specs.Frames.FrameType.{DATA, PADDED, has};
 ghost use Rattle.h2_spec.specs.Requests.Headers.{makes};
 ghost use Rattle.h2_spec.specs.Causes.Ignored.{ignored_of};
 ghost use Rattle.h2_spec.specs.Frames.Payload.{part_of};
-ghost use Rattle.h2_spec.specs.Stream.{octets_waiting, put, stream_at};
+ghost use Rattle.h2_spec.specs.Stream.{is_live, kind_of, octets_waiting, put, reset_as, stream_at};
 ghost use Rattle.h2_spec.specs.WindowUpdate as window;
 ghost use Rattle.h2_spec.specs.Trace.{step};
 ghost use Rattle.h2_conn.specs.Blocks.{IsStopped};
 ghost use Rattle.h2_conn.specs.Does.{Does, IsShort, Settles};
-ghost use Rattle.h2_conn.specs.Raised.{raised};
 ghost use Rattle.h2_conn.specs.Shown.{Shows, fields_at_hand, item_fields, part_fields};
 ghost use Rattle.h2_conn_rules.specs.Plain.{only_raises};
 ghost use Rattle.h2_streams.specs.Kept.{is_ready};
+ghost use Rattle.h2_streams.specs.Raised.{raised};
 
 use crate::effect::data_frame::{incoming, plain_incoming};
 use crate::field_block::scratch::Scratch;
@@ -30,14 +30,14 @@ use h2_conn_rules::checks::{oversize, refusal};
 use h2_conn_rules::control::{ignore, on_goaway, on_ping};
 use h2_conn_rules::reset::on_reset;
 use h2_conn_rules::settings::settings_rule;
-use h2_conn_rules::window_update::{connection_window, on_window, only_raises, raise};
+use h2_conn_rules::window_update::{connection_window, on_window, only_raises};
 use h2_frame::{FrameRef, Item, Outgoing, Part, SettingsPart, part_of};
 use h2_spec::causes::Cause;
 use h2_spec::connection::{ConnectionState, Phase};
 use h2_spec::frames::{ACK, Head};
 use h2_spec::ignored::Ignored;
 use h2_spec::reactions::Verdict;
-use h2_spec::streams::{Numbers, Stream};
+use h2_spec::streams::is_live;
 use h2_streams::octets_waiting;
 use std::alloc::{AllocError, Allocator};
 
@@ -59,8 +59,34 @@ impl<'b, A: Allocator + Copy> State<'b, A> {
         ensures { Settles self.old (O.octets out.old) (makes self.old (rule.reset_at self.old id)) result self.new (O.octets out.new) }
     {
         self.look_up(id);
+        if self.only_resets(id) {
+            self.reset(id);
+            return Ok(Verdict {
+                cause: None,
+                ignored: None,
+            });
+        }
         let reaction = on_reset(self.core(), self.stream_at(id));
         self.conclude_leaving_counts(reaction, out)
+    }
+
+    /// Whether a stream is live, and no stream can send.
+    #[inline(always)]
+    fn only_resets(&self, id: u32) -> bool
+        ensures live { IsTrue result → is_live (kind_of self.now.core.last self.now.streams id) ≡ true }
+        ensures idle { IsTrue result → list_any is_ready self.now.streams ≡ false }
+    {
+        is_live(self.stream_at(id).kind) && self.streams.none_ready()
+    }
+
+    /// The peer resets a live stream.
+    #[inline(always)]
+    fn reset(&mut self, id: u32)
+        requires stopped { IsStopped self.old.block }
+        requires live { is_live (kind_of self.old.core.last self.old.streams id) ≡ true }
+        ensures { self.new ≡ record self.old { streams = put (reset_as true (stream_at self.old.core.last self.old.streams id)) self.old.streams } }
+    {
+        self.streams.reset(id, true);
     }
 
     /// SETTINGS without ACK.
@@ -154,47 +180,38 @@ impl<'b, A: Allocator + Copy> State<'b, A> {
         ensures { Settles self.old (O.octets out.old) (makes self.old (rule.window_at self.old id increment)) result self.new (O.octets out.new) }
     {
         self.look_up(id);
-        let stream = self.stream_at(id);
-        if !only_raises(increment, &stream) {
-            return self.on_other_window(id, increment, out);
-        }
-        if self.is_quiet(&stream) {
-            self.raise_quietly(increment, &stream);
+        if self.only_raises(id, increment) {
+            self.raise(id, increment);
             return Ok(Verdict {
                 cause: None,
                 ignored: None,
             });
         }
-        let reaction = raise(self.core(), increment, stream);
-        self.conclude_leaving_counts(reaction, out)
+        self.on_other_window(id, increment, out)
     }
 
-    /// Whether nothing can be sent, from no stream and not from one with this record.
+    /// Whether an increment raises the send window of a stream and does nothing else: nothing can be sent, before and then.
     #[inline(always)]
-    fn is_quiet(&self, stream: &Stream) -> bool
+    fn only_raises(&self, id: u32, increment: u32) -> bool
+        ensures raises { IsTrue result → only_raises increment (stream_at self.now.core.last self.now.streams id) ≡ true }
         ensures idle { IsTrue result → list_any is_ready self.now.streams ≡ false }
-        ensures nothing { IsTrue result → octets_waiting stream.now ≡ 0 }
+        ensures nothing { IsTrue result → octets_waiting (stream_at self.now.core.last self.now.streams id) ≡ 0 }
     {
-        self.streams.none_ready() && octets_waiting(stream) == 0
+        let stream = self.stream_at(id);
+        only_raises(increment, &stream) && self.streams.none_ready() && octets_waiting(&stream) == 0
     }
 
-    /// Raises the send window of a stream, which has this record; nothing is sent.
+    /// Raises the send window of a stream in place.
     #[inline(always)]
-    fn raise_quietly(&mut self, increment: u32, stream: &Stream)
+    fn raise(&mut self, id: u32, increment: u32)
         requires stopped { IsStopped self.old.block }
-        requires raises { only_raises increment stream.now ≡ true }
-        requires found { stream.now ≡ stream_at self.old.core.last self.old.streams stream.now.id }
-        ensures { self.new ≡ record self.old { streams = put (raised increment stream.now) self.old.streams } }
+        requires raises { only_raises increment (stream_at self.old.core.last self.old.streams id) ≡ true }
+        ensures { self.new ≡ record self.old { streams = put (raised increment (stream_at self.old.core.last self.old.streams id)) self.old.streams } }
     {
-        let numbers = stream.numbers;
-        let numbers = Numbers {
-            send: numbers.send.plus(increment),
-            ..numbers
-        };
-        self.streams.set(stream.id, numbers);
+        self.streams.raise(id, increment);
     }
 
-    /// WINDOW_UPDATE on a stream that is refused or ignored, which is seldom, so this is apart.
+    /// WINDOW_UPDATE on a stream that does more or less than that, which is seldom, so this is apart.
     #[inline(never)]
     fn on_other_window<O: Outgoing<'b, A>>(
         &mut self,

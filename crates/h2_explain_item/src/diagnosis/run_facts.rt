@@ -1,8 +1,7 @@
 //! What a client did wrong with an item, by what came before it in the run: what it was granted, and the empty frames of
 //! its field block. Definitions: `specs/RunFacts.antt`.
 
-ghost use Rattle.std.specs.Prelude.{◌≡◌, IfOk, OnOk};
-ghost use Rattle.h2_explain_item.specs.Item.{head_in};
+ghost use Rattle.std.specs.Prelude.{◌≡◌, IfOk};
 ghost use Rattle.h2_explain_item.specs.RunFacts.{empties_after, is_empty_continuation, is_headers, is_one_too_many, run_facts};
 
 use crate::change::granted::Granted;
@@ -54,7 +53,7 @@ fn is_headers(head: Option<Head>) -> bool
 }
 
 /// How many CONTINUATION frames of the last field block are empty, after this frame; stays at 2^64 - 1 once there.
-fn empties_after(empties: u64, head: Option<Head>) -> u64
+pub fn empties_after(empties: u64, head: Option<Head>) -> u64
     ensures { result ≡ empties_after empties head }
 {
     if is_headers(head) {
@@ -73,26 +72,22 @@ fn is_one_too_many(empties: u64, head: Option<Head>) -> bool
     empties == 100 && is_empty_continuation(head)
 }
 
-/// What is wrong with an item by what came before it; then it is taken into that. `empties` is how many CONTINUATION
-/// frames of the last field block are empty.
+/// What is wrong with an item by what came before it; `empties` is how many CONTINUATION frames of the last field block
+/// are empty. Its octets are taken from what was granted.
 ///
 /// `AllocError` where memory is refused.
 pub fn run_facts<A: Allocator + Copy>(
     granted: &mut Granted<A>,
-    empties: &mut u64,
+    empties: u64,
     item: &Explained<'_>,
 ) -> Result<RunFacts, AllocError>
-    ensures facts { IfOk result (λ facts. facts ≡ run_facts granted.old empties.old item.now) }
-    ensures empties { OnOk result (empties.new ≡ empties_after empties.old (head_in item.now.what)) }
+    ensures { IfOk result (λ facts. facts ≡ run_facts granted.old empties item.now) }
 {
-    let head = item.head();
     let needs_answer = granted.take_unasked(item);
     let sent_early = granted.take(item)?;
-    let many_empty = is_one_too_many(*empties, head);
-    *empties = empties_after(*empties, head);
     Ok(RunFacts {
         sent_early,
         sent_unacknowledged: needs_answer && !sent_early,
-        many_empty,
+        many_empty: is_one_too_many(empties, item.head()),
     })
 }

@@ -7,8 +7,11 @@ ghost use Rattle.std.specs.Vec.{vec_capacity};
 ghost use Rattle.h2_spec.specs.Stream as spec;
 ghost use Rattle.h2_streams.specs.Joined.{joined};
 ghost use Rattle.h2_streams.specs.Kept as kept;
+ghost use Rattle.h2_streams.specs.Raised.{can_rise, raised};
 ghost use Rattle.h2_streams.specs.Rebuilt as rebuilt;
+ghost use Rattle.h2_streams.specs.Shift.{update};
 
+use crate::kinds::{is_ready, raise};
 use h2_spec::streams::{Stream, is_live};
 use std::alloc::Allocator;
 
@@ -66,6 +69,22 @@ pub(crate) fn write<A: Allocator>(
     let was_live = is_live_at(records.as_slice(), place);
     records[place] = stream;
     was_live
+}
+
+/// Raises the send window of the record at this place, and returns whether its stream can send then.
+#[inline(always)]
+pub(crate) fn raise_at<A: Allocator>(
+    records: &mut Vec<Stream, A>,
+    place: usize,
+    increment: u32,
+) -> bool
+    requires { IsTrue (kept.passes_at (can_rise increment) records.old.items place) }
+    ensures items { records.new.items ≡ update (raised increment) place records.old.items }
+    ensures ready { result ≡ kept.passes_at (λ st. kept.is_ready (raised increment st)) records.old.items place }
+{
+    let stream = &mut records[place];
+    raise(stream, increment);
+    is_ready(stream)
 }
 
 /// Writes records in the places of those with their identifiers.
