@@ -9,10 +9,11 @@ use Rattle.h2_debug.specs.Commands.{Command, command_of}
 use Rattle.h2_debug.specs.Replies.{Obeys, answer, fault_line, number_line, place_text, reply_text}
 use Rattle.h2_debug.specs.declared.commands.reply.Reply.{Reply}
 use Rattle.h2_debug.specs.declared.commands.reply.Reply.TheVariants as code
-use Rattle.h2_spec.specs.State.{ended_code}
 use Rattle.h2_spec.specs.declared.causes.Cause.{Cause}
+use Rattle.h2_spec.specs.declared.connection.Phase.{Phase}
+use Rattle.h2_spec.specs.declared.connection.Phase.TheVariants.{Preface, Settings, Running, Ended}
 use Rattle.h2_spec.specs.declared.ignored.Ignored.{Ignored}
-use Rattle.h2_explain_words.specs.Why.{error_lines, ignored_lines, why_lines}
+use Rattle.h2_explain_text.specs.Why.{error_why, ignored_why, why_lines}
 use Rattle.h2_cmd_check.specs.Cases.{Start, closes, debugger_at, sight_above}
 use Rattle.h2_cmd_check.specs.Commands.{answered, fault_in, is_memory_fault, is_refusal}
 use Rattle.h2_cmd_cases.specs.Lines as line
@@ -25,12 +26,14 @@ use Rattle.h2_cmd_check.proofs.Going.{closes_is}
 
 -- ---- what is replied
 
-no_refusal : (ended : Bool) (cause : Option Cause) (ignored : Option Ignored) → false ≡ is_refusal (why_lines ended cause ignored)
-unfolding error_lines ignored_lines
-no_refusal true (Some cause) ignored = refl
-no_refusal false (Some cause) ignored = refl
-no_refusal ended None (Some reason) = refl
-no_refusal ended None None = refl
+no_refusal : (phase : Phase) (cause : Option Cause) (ignored : Option Ignored) → false ≡ is_refusal (why_lines phase cause ignored None)
+unfolding error_why ignored_why
+no_refusal (Ended code) (Some cause) ignored = refl
+no_refusal Preface (Some cause) ignored = refl
+no_refusal Settings (Some cause) ignored = refl
+no_refusal Running (Some cause) ignored = refl
+no_refusal phase None (Some reason) = refl
+no_refusal phase None None = refl
 
 -- a reply is a fault where its text is the line of one
 refusal_is : (d : Debugging) (reply : Reply) → is_some (fault_in reply) ≡ is_refusal (reply_text d reply)
@@ -39,7 +42,7 @@ refusal_is d (code.At position) = refl
 refusal_is d code.Done = refl
 refusal_is d (code.Refused fault) = refl
 refusal_is d code.Shown = refl
-refusal_is d code.Explained = no_refusal (is_some (ended_code (at d.run d.position).core.phase)) (cause_at d.run d.position) (ignored_at d.run d.position)
+refusal_is d code.Explained = no_refusal (at d.run d.position).core.phase (cause_at d.run d.position) (ignored_at d.run d.position)
 
 -- only one reply is the line of refused memory
 number_is : (n m : ℕ) → n < 256 → m < 256 → fault_line n ≡ fault_line m → n ≡ m

@@ -647,7 +647,10 @@ impl<'t, 'b> Walk<'t, 'b> {
     {
         match summed(alloc, text, self.unspoken()) {
             Ok(Some(count)) => {
-                self.spoken += count;
+                // A frame has nine octets or more; this is for the prover, which then sees that the sum fits.
+                if count > 0 {
+                    self.spoken += count;
+                }
                 Ok(())
             }
             Ok(None) => self.refuse_summary(alloc, number, text, kind),
