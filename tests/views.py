@@ -17,6 +17,7 @@ import schema
 
 FIELD, CHANGE = "\033[36m", "\033[2m"
 WRONG = ("\033[31m", "\033[33m")  # an error; why it is ignored, or a warning
+OTHERS = r" +(\033\[\d+m)?(others may|accepted): "  # what other servers may do, and why an item is accepted
 
 
 def explain(program, octets_hex, words):
@@ -52,7 +53,7 @@ def text_wanted(text, streams, brief, errors, stream):
             continue
         elif stream is not None and streams[number] != stream:
             continue
-        wanted += [line for line in lines if not brief or not line.strip().startswith((FIELD, CHANGE))]
+        wanted += [line for line in lines if not brief or not line.strip().startswith((FIELD, CHANGE)) and not re.match(OTHERS, line)]
     return "".join(wanted)
 
 
@@ -71,7 +72,8 @@ def json_wanted(lines, brief, errors, stream):
             if stream is not None and line.get("frame", {"stream": 0})["stream"] != stream:
                 continue
             if brief:
-                line = without(("changes", "fields", "table", "table_updates"), line)
+                line = without(("accepted", "changes", "fields", "table", "table_updates"), line)
+                line.update({name: without(("allowed",), line[name]) for name in ("error", "ignored") if name in line})
                 line["sent"] = [without(("fields",), it) for it in line["sent"]]
         yield line
 
