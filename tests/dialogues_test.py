@@ -16,6 +16,7 @@ import socket
 import subprocess
 import sys
 import tempfile
+import time
 import types
 
 sys.dont_write_bytecode = True
@@ -344,6 +345,7 @@ class Raw:
             try:
                 while self.then == "goes on":
                     one.sendall(octets_of(Frame(PING, ACK, 0, bytes(8))) * 10)
+                    time.sleep(0.01)
                 while self.then == "waits" and one.recv(1 << 16):
                     pass
                 one.settimeout(0.05)
@@ -362,7 +364,7 @@ RAW = [
     (START + b"\0\0\5\0", "leaves", "missing", "no such item came; closed"),
     (START, "leaves", "missing", "no such item came; closed"),
     (START, "waits", "missing", "no such item came; silent"),
-    (START, "goes on", "broken", "the dialogue has not ended after 0.5 s"),
+    (START, "goes on", "broken", "the dialogue has not ended after 6 s"),
     (ASKS, "leaves", "broken", "closed"),
     (START + octets_of(Frame(DATA, 0, 1, b"a")), "waits", "broken", "ended by the server: data-on-idle"),
     (ASKS + octets_of(Frame(WINDOW_UPDATE, 0, 0, bytes(4))), "waits", "broken", "ended by the server: connection-increment-zero"),
@@ -372,7 +374,7 @@ RAW = [
 
 def test_raw():
     for octets, then, kind, wanted in RAW:
-        limits = {"limit": 0.5} if then in ("goes on", "stays away") else {"patience": 2} if "silent" in wanted else {}
+        limits = {"limit": 6} if then in ("goes on", "stays away") else {"patience": 2} if "silent" in wanted else {}
         got = found(read(LAWFUL), octets, then, None, options(**limits), Raw)
         expect(got and (got[0].kind, got[0].found) == (kind, wanted), f"{octets[24:60]} {then}: {got}")
 
