@@ -170,6 +170,15 @@ pub enum Plan<'a> {
     Check(Check<'a>),
 }
 
+/// A command of the command line.
+#[derive(Drop)]
+pub struct Command<'a> {
+    /// What is to be done.
+    pub plan: Plan<'a>,
+    /// The devices that it is done over.
+    pub devices: Devices<'a>,
+}
+
 /// Why words were refused.
 #[derive(Drop)]
 pub enum Refusal {
@@ -489,16 +498,20 @@ fn matches_of<'a>(alloc: Global, words: &'a Words) -> Result<ArgMatches<'a>, Ref
     }
 }
 
-/// What the words ask for in which clap finds this. They are refused where there is no command, and where memory is.
-fn plan_in<'a>(alloc: Global, matches: &ArgMatches<'a>) -> Result<Plan<'a>, Refusal>
-    ensures ok { IfOk result (λ plan. asked_at (subcommand_rows_of matches.now) ≡ Some (planned plan)) }
+/// The command of the words in which clap finds this. They are refused where there is no command, and where memory is.
+fn command_in<'a>(alloc: Global, matches: &ArgMatches<'a>) -> Result<Command<'a>, Refusal>
+    ensures plan { IfOk result (λ command. asked_at (subcommand_rows_of matches.now) ≡ Some (planned command.plan)) }
+    ensures devices { IfOk result (λ command. devices_found (subcommand_rows_of matches.now) ≡ Some (devices_asked command.devices)) }
     ensures refused { IfErr result (Refuses (asked_at (subcommand_rows_of matches.now))) }
 {
     let Some((name, inner)) = matches.subcommand() else {
         return Err(Refusal::Words(String::new(alloc)));
     };
     match plan_from(alloc, name, inner) {
-        Ok(Some(plan)) => Ok(plan),
+        Ok(Some(plan)) => Ok(Command {
+            plan,
+            devices: devices_in(inner),
+        }),
         Ok(None) => Err(Refusal::Words(String::new(alloc))),
         Err(_) => Err(Refusal::NoMemory),
     }
@@ -516,33 +529,26 @@ fn devices_in<'a>(matches: &ArgMatches<'a>) -> Devices<'a>
     }
 }
 
-/// What clap finds in the words says of devices, where there is a command.
-fn devices_within<'a>(matches: &ArgMatches<'a>) -> Option<Devices<'a>>
-    ensures { IfSome result (λ devices. devices_found (subcommand_rows_of matches.now) ≡ Some (devices_asked devices)) }
-{
-    match matches.subcommand() {
-        Some((_, inner)) => Some(devices_in(inner)),
-        None => None,
-    }
-}
-
-/// What the words say of devices, where they name a command; `None` also where memory is refused.
-pub fn devices_of<'a>(alloc: Global, words: &'a Words) -> Option<Devices<'a>>
-    ensures { IfSome result (λ devices. devices_of words.entry.now ≡ Some (devices_asked devices)) }
+/// What the words ask for, and over which devices. They are refused where they are no command, or ask for help, and where
+/// memory is.
+pub fn parse_command<'a>(alloc: Global, words: &'a Words) -> Result<Command<'a>, Refusal>
+    ensures plan { IfOk result (λ command. asked_of words.entry.now ≡ Some (planned command.plan)) }
+    ensures devices { IfOk result (λ command. devices_of words.entry.now ≡ Some (devices_asked command.devices)) }
+    ensures refused { IfErr result (Refuses (asked_of words.entry.now)) }
 {
     match matches_of(alloc, words) {
-        Ok(matches) => devices_within(&matches),
-        Err(_) => None,
+        Ok(matches) => command_in(alloc, &matches),
+        Err(refusal) => Err(refusal),
     }
 }
 
-/// What the words ask for. They are refused where they are no command, or ask for help, and where memory is.
+/// What the words ask for, apart from devices. They are refused as `parse_command` refuses them.
 pub fn parse<'a>(alloc: Global, words: &'a Words) -> Result<Plan<'a>, Refusal>
     ensures ok { IfOk result (λ plan. asked_of words.entry.now ≡ Some (planned plan)) }
     ensures refused { IfErr result (Refuses (asked_of words.entry.now)) }
 {
-    match matches_of(alloc, words) {
-        Ok(matches) => plan_in(alloc, &matches),
+    match parse_command(alloc, words) {
+        Ok(Command { plan, .. }) => Ok(plan),
         Err(refusal) => Err(refusal),
     }
 }

@@ -1,5 +1,8 @@
 //! What a book refuses an entry for, with its values.
 
+use h2_hpack_validity::octets::{
+    bad_octet_of_name, bad_octet_of_value, is_bad_value, is_connection_name, is_pseudo_name,
+};
 use h2_io::say::{Cut, OctetCount, Say, TextBuilder};
 use h2_io::say_all;
 use h2_request_book::book::MAX_BODY;
@@ -25,70 +28,26 @@ impl From<EntryFault> for EntryRefusal {
     }
 }
 
-/// The names of fields that are one connection's (RFC 9113, 8.2.2), and what the server does itself.
-static REFUSED: [&str; 6] = [
-    "connection",
-    "keep-alive",
-    "proxy-connection",
-    "transfer-encoding",
-    "upgrade",
-    "content-length",
-];
-
-/// Why a field is not allowed in an answer, after its name.
+/// Why a field is not allowed in an answer, after its name: it is one of a connection, one that the server writes itself,
+/// or has an octet that it may not have.
 pub fn field_reason(name: &[u8], value: &[u8]) -> Option<&'static str> {
-    if name.is_empty() {
-        Some("has an empty name")
-    } else if name.first().copied() == Some(b':') {
-        Some("is a pseudo-field, which the server writes itself")
-    } else if has_upper_case(name) {
-        Some("has an upper-case letter; names are lower case (RFC 9113, 8.2)")
-    } else if has_bad_octet(name) {
-        Some("has an octet that no name may have (RFC 9113, 8.2.1)")
-    } else if is_refused(name) {
-        Some(
+    if is_pseudo_name(name) {
+        return Some("is a pseudo-field, which the server writes itself");
+    }
+    match bad_octet_of_name(name) {
+        Some(b'A'..=b'Z') => Some("has an upper-case letter; names are lower case (RFC 9113, 8.2)"),
+        Some(_) => Some("has an octet that no name may have (RFC 9113, 8.2.1)"),
+        None if name.is_empty() => Some("has an empty name"),
+        None if is_connection_name(name) || name == b"content-length" => Some(
             "is not allowed: it is one of a connection, or what the server writes itself (RFC 9113, 8.2.2)",
-        )
-    } else {
-        value_reason(value)
-    }
-}
-
-fn has_upper_case(name: &[u8]) -> bool {
-    name.iter().any(|octet| octet.is_ascii_uppercase())
-}
-
-/// Whether a name has an octet that no field name may have (RFC 9113, 8.2.1).
-fn has_bad_octet(name: &[u8]) -> bool {
-    name.iter()
-        .any(|octet| *octet <= 32 || *octet >= 127 || *octet == b':')
-}
-
-/// Whether a name is one of `REFUSED`.
-fn is_refused(name: &[u8]) -> bool {
-    for refused in &REFUSED {
-        if refused.as_bytes() == name {
-            return true;
-        }
-    }
-    false
-}
-
-fn is_blank(octet: Option<u8>) -> bool {
-    octet == Some(b' ') || octet == Some(b'\t')
-}
-
-/// Why a value is refused, as what follows the name of the field.
-fn value_reason(value: &[u8]) -> Option<&'static str> {
-    if value
-        .iter()
-        .any(|octet| *octet == 0 || *octet == b'\n' || *octet == b'\r')
-    {
-        Some("has a value with NUL, CR or LF (RFC 9113, 8.2.1)")
-    } else if is_blank(value.first().copied()) || is_blank(value.last().copied()) {
-        Some("has a value that begins or ends with a blank (RFC 9113, 8.2.1)")
-    } else {
-        None
+        ),
+        None if bad_octet_of_value(value).is_some() => Some(
+            "has a value with NUL, CR or LF (RFC 9113, 8.2.1)",
+        ),
+        None if is_bad_value(value) => Some(
+            "has a value that begins or ends with a blank (RFC 9113, 8.2.1)",
+        ),
+        None => None,
     }
 }
 

@@ -2,10 +2,11 @@
 //! causes: h2_spec's `specs/Causes/CauseWords.antt`.
 
 use h2_explain_item::diagnosis::fields::{
-    FieldFault, bad_octet_of_name, bad_octet_of_value, double_pseudo, first_wrong, has,
-    has_other_scheme, is_blank, is_connect, is_number, late_pseudo, other_length, refused_length,
+    FieldFault, double_pseudo, first_wrong, has, has_other_scheme, is_connect, is_number,
+    late_pseudo, other_length, refused_length,
 };
 use h2_explain_words::spelled::SpelledField;
+use h2_hpack_validity::octets::{bad_octet_of_name, bad_octet_of_value, begins_blank};
 use h2_io::say::{Cut, HexOctet, TextBuilder};
 use h2_io::say_all;
 use h2_spec::causes::Cause;
@@ -45,7 +46,7 @@ fn say_repair<A: Allocator>(octet: u8, out: &mut TextBuilder<A>) {
 fn say_blank_end<A: Allocator>(value: &[u8], out: &mut TextBuilder<A>) {
     let first = value.first().copied().unwrap_or(0);
     let last = value.last().copied().unwrap_or(0);
-    if is_blank(value.first()) {
+    if begins_blank(value) {
         say_all!(out; " begins with ");
         say_octet(first, out);
     } else {

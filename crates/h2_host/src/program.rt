@@ -9,7 +9,7 @@ use crate::devices::input::{Given, Standard, input_of, is_session, refusal_for_d
 use crate::ending::{Ending, end};
 use crate::{Noted, SessionOutput, SessionState, WaitingOutput, version};
 use h2_cmd_args::Words;
-use h2_cmd_args::command::{Devices, Plan, Refusal, devices_of, parse};
+use h2_cmd_args::command::{Command, Devices, Plan, Refusal, parse_command};
 use h2_io::{FromRead, IntoWrite, Output};
 use std::io;
 use std::io::{BufWriter, Write};
@@ -18,16 +18,13 @@ use std::process::ExitCode;
 /// How many octets of output are gathered before they are written.
 const GATHERED: usize = 32768;
 
-/// The words of the command line, the program's name first. A FILE that is the input is the value of `--in`.
+/// The words of the command line, the program's name first.
 fn words_of(rt: &HostRuntime) -> io::Result<Words> {
     let mut words = Words::new(rt.alloc());
     for word in std::env::args(rt)? {
         words.add(word.as_str())?;
     }
-    match with_file(rt, &words)? {
-        Some(named) => Ok(named),
-        None => Ok(words),
-    }
+    Ok(words)
 }
 
 /// Says why nothing is done: memory was refused, or a word is not UTF-8.
@@ -55,20 +52,11 @@ fn refused_devices(words: &Words) -> Devices<'static> {
     }
 }
 
-/// What the words say of devices. Where memory is refused for that, the words are refused for it.
-fn devices_said<'w>(
-    rt: &HostRuntime,
-    words: &'w Words,
-    asked: &mut Result<Plan<'w>, Refusal>,
-) -> Devices<'w> {
-    match devices_of(rt.alloc(), words) {
-        Some(devices) => devices,
-        None => {
-            if asked.is_ok() {
-                *asked = Err(Refusal::NoMemory);
-            }
-            refused_devices(words)
-        }
+/// What the words ask for, and over which devices.
+fn asked_of<'w>(rt: &HostRuntime, words: &'w Words) -> (Result<Plan<'w>, Refusal>, Devices<'w>) {
+    match parse_command(rt.alloc(), words) {
+        Ok(Command { plan, devices }) => (Ok(plan), devices),
+        Err(refusal) => (Err(refusal), refused_devices(words)),
     }
 }
 
@@ -183,14 +171,6 @@ fn refused_in(rt: &HostRuntime, path: &str, printed: &str) -> Refusal {
     }
 }
 
-/// What the words of a case ask for.
-fn asked_of_case<'w>(rt: &HostRuntime, path: &str, words: &'w Words) -> Result<Plan<'w>, Refusal> {
-    match parse(rt.alloc(), words) {
-        Err(Refusal::Words(printed)) => Err(refused_in(rt, path, printed.as_str())),
-        asked => asked,
-    }
-}
-
 /// Does what the words ask for over a case.
 fn run_case<C: Commands>(
     rt: &HostRuntime,
@@ -201,12 +181,13 @@ fn run_case<C: Commands>(
 ) -> ExitCode {
     let refusal = refusal_of_case(rt, path, &case);
     let CaseInput { words, text, .. } = case;
-    let mut asked = match refusal {
-        Ok(None) => asked_of_case(rt, path, &words),
-        Ok(Some(text)) => return refuse_words(gathered, text.as_str()),
-        Err(_) => Err(Refusal::NoMemory),
+    let (asked, devices) = asked_of(rt, &words);
+    let mut asked = match (refusal, asked) {
+        (Ok(Some(text)), _) => return refuse_words(gathered, text.as_str()),
+        (Err(_), _) => Err(Refusal::NoMemory),
+        (Ok(None), Err(Refusal::Words(printed))) => Err(refused_in(rt, path, printed.as_str())),
+        (Ok(None), asked) => asked,
     };
-    let devices = devices_said(rt, &words, &mut asked);
     run_over(
         rt,
         commands,
@@ -220,8 +201,13 @@ fn run_case<C: Commands>(
 
 /// Does what the words ask for. The output is gathered into larger writes; where there is no memory for that, nothing
 /// is done.
-fn run_words<C: Commands>(rt: &HostRuntime, commands: &C, words: &Words) -> ExitCode {
-    let mut asked = parse(rt.alloc(), words);
+fn run_asked<'w, C: Commands>(
+    rt: &HostRuntime,
+    commands: &C,
+    words: &'w Words,
+    mut asked: Result<Plan<'w>, Refusal>,
+    devices: Devices<'w>,
+) -> ExitCode {
     if version::is_asked(&asked) {
         return version::print(rt);
     }
@@ -230,7 +216,6 @@ fn run_words<C: Commands>(rt: &HostRuntime, commands: &C, words: &Words) -> Exit
         Ok(gathered) => gathered,
         Err(error) => return refuse(&mut rt.stdout(), &error),
     };
-    let devices = devices_said(rt, words, &mut asked);
     if let Some(text) = refusal_for_devices(&asked, devices) {
         return refuse_words(&mut gathered, text);
     }
@@ -249,10 +234,23 @@ fn run_words<C: Commands>(rt: &HostRuntime, commands: &C, words: &Words) -> Exit
     }
 }
 
+/// Does what the words of the command line ask for. A FILE among them that is the input is the value of `--in`.
+fn run_words<C: Commands>(rt: &HostRuntime, commands: &C) -> io::Result<ExitCode> {
+    let words = words_of(rt)?;
+    let (asked, devices) = asked_of(rt, &words);
+    match with_file(rt, &words, &asked)? {
+        None => Ok(run_asked(rt, commands, &words, asked, devices)),
+        Some(named) => {
+            let (asked, devices) = asked_of(rt, &named);
+            Ok(run_asked(rt, commands, &named, asked, devices))
+        }
+    }
+}
+
 /// Does what the words of the command line ask for, by these commands.
 pub fn run_program<C: Commands>(rt: &HostRuntime, commands: &C) -> ExitCode {
-    match words_of(rt) {
-        Ok(words) => run_words(rt, commands, &words),
+    match run_words(rt, commands) {
+        Ok(status) => status,
         Err(error) => refuse(&mut rt.stdout(), &error),
     }
 }

@@ -1,5 +1,5 @@
 -- Which of the known names a name is: each fact of them is computed for each name, and follows for all others from the tests that they fail.
-use Rattle.std.proofs.Common.{◌≡◌, ℕ, Bool, true, false, ◌||◌, ◌&&◌, cond, List, length, codes, refl, sym, subst}
+use Rattle.std.proofs.Common.{◌≡◌, ℕ, Bool, true, false, ◌&&◌, cond, List, length, codes, refl, sym, subst}
 use Rattle.std.specs.Prelude.{◌==◌, bytes_eq}
 use Rattle.std.proofs.lemmas.Slice.Eq.{bytes_eq-Decides}
 use Rattle.h2_spec.specs.Hpack.Field.{Field, field}

@@ -2,7 +2,7 @@
 //! the test of `h2_spec`, specs/Requests/Request.antt, by a proof that computes over the whole table.
 
 ghost use Rattle.std.specs.Prelude.{◌≡◌, ◌&&◌};
-ghost use Rattle.std.specs.List.{list_any};
+ghost use Rattle.std.specs.List.{find, list_any};
 ghost use Rattle.h2_spec.specs.Requests.Request.{is_outside_values};
 ghost use Rattle.h2_hpack_validity.specs.Octets.{is_low, is_outside_rest};
 
@@ -112,4 +112,28 @@ fn has_outside_in_table(octets: &[u8]) -> bool
         found |= is_outside_of_values(*octet);
     }
     found
+}
+
+/// The first of the octets that no name has after its first one.
+pub fn first_outside_of_rest(octets: &[u8]) -> Option<u8>
+    ensures { result ≡ find is_outside_rest octets.now }
+{
+    for octet in octets {
+        if is_outside_of_rest(*octet) {
+            return Some(*octet);
+        }
+    }
+    None
+}
+
+/// The first of the octets that no value has.
+pub fn first_outside_of_values(octets: &[u8]) -> Option<u8>
+    ensures { result ≡ find is_outside_values octets.now }
+{
+    for octet in octets {
+        if is_outside_of_values(*octet) {
+            return Some(*octet);
+        }
+    }
+    None
 }

@@ -3,10 +3,13 @@
 
 ghost use Rattle.std.specs.Prelude.{◌≡◌, ◌≤◌, ◌==◌, ◌||◌, not, drop, length, codes, bytes_eq, map, if◌then◌else◌};
 ghost use Rattle.std.specs.Char.{to_ascii_lowercase};
-ghost use Rattle.std.specs.List.{list_any, list_all};
+ghost use Rattle.std.specs.List.{find, list_any, list_all};
+ghost use Rattle.h2_hpack_validity.specs.Octets;
 ghost use Rattle.h2_spec.specs.Requests.Request.{first_is, last_is, is_between, is_colon, is_outside_names, is_outside_values, is_blank, is_digits, decimal_value, connection_names};
 
-use crate::classes::{has_outside_of_rest, has_outside_of_values};
+use crate::classes::{
+    first_outside_of_rest, first_outside_of_values, has_outside_of_rest, has_outside_of_values,
+};
 
 /// Whether a name is empty, has an octet that no name has, or a colon that is not its first octet.
 pub fn is_bad_name(name: &[u8]) -> bool
@@ -15,6 +18,17 @@ pub fn is_bad_name(name: &[u8]) -> bool
     match name {
         [] => true,
         [first, rest @ ..] => is_outside(*first) || has_outside_of_rest(rest),
+    }
+}
+
+/// The first octet of a name for which `is_bad_name` refuses it; none of an empty one, and of one that it takes.
+pub fn bad_octet_of_name(name: &[u8]) -> Option<u8>
+    ensures { result ≡ Octets.bad_octet_of_name name.now }
+{
+    match name {
+        [] => None,
+        [first, ..] if is_outside(*first) => Some(*first),
+        [_, rest @ ..] => first_outside_of_rest(rest),
     }
 }
 
@@ -32,7 +46,15 @@ pub fn is_bad_value(value: &[u8]) -> bool
     has_outside_of_values(value) || begins_blank(value) || ends_blank(value)
 }
 
-fn begins_blank(value: &[u8]) -> bool
+/// The first octet that no value has: NUL, LF or CR.
+pub fn bad_octet_of_value(value: &[u8]) -> Option<u8>
+    ensures { result ≡ find is_outside_values value.now }
+{
+    first_outside_of_values(value)
+}
+
+/// Whether a value begins with a space or a tab.
+pub fn begins_blank(value: &[u8]) -> bool
     ensures { result ≡ first_is is_blank value.now }
 {
     match value {

@@ -1,81 +1,16 @@
 //! What is wrong with the fields of a block, looked up in the fields themselves (RFC 9113, 8.1 to 8.5): the first field
-//! at fault for a sentence, the facts that decide special cases, and all the faults of a block. The rules: h2_spec's
-//! `specs/Requests/Request.antt`.
+//! at fault for a sentence, the facts that decide special cases, and all the faults of a block. The rules of one field are
+//! h2_hpack_validity's.
 
 ghost use Rattle.std.specs.Prelude.{◌≡◌};
 
 use h2_explain_words::spelled::SpelledField;
-use h2_hpack_validity::octets::number_of;
+use h2_hpack_validity::mark::KnownName;
+use h2_hpack_validity::octets::{
+    is_bad_name, is_bad_value, is_connection_name, is_pseudo_name, is_trailers, number_of,
+};
 use h2_spec::causes::Cause;
 use std::alloc::{AllocError, Allocator};
-
-/// Whether a name is that of a pseudo-field.
-fn is_pseudo(name: &[u8]) -> bool {
-    match name.split_first() {
-        Some((first, _)) => *first == b':',
-        None => false,
-    }
-}
-
-/// Whether a name may not have this octet (RFC 9113, 8.2.1).
-fn is_bad_in_name(octet: u8, place: usize) -> bool {
-    octet <= 32 || (65..=90).contains(&octet) || octet >= 127 || (octet == b':' && place > 0)
-}
-
-/// The first octet that a name may not have.
-pub fn bad_octet_of_name(name: &[u8]) -> Option<u8> {
-    for (place, octet) in name.iter().enumerate() {
-        if is_bad_in_name(*octet, place) {
-            return Some(*octet);
-        }
-    }
-    None
-}
-
-/// The first octet that no value may have (RFC 9113, 8.2.1).
-pub fn bad_octet_of_value(value: &[u8]) -> Option<u8> {
-    for octet in value {
-        if *octet == 0 || *octet == 10 || *octet == 13 {
-            return Some(*octet);
-        }
-    }
-    None
-}
-
-/// Whether an octet is a space or a tab (RFC 9113, 8.2.1).
-pub fn is_blank(octet: Option<&u8>) -> bool {
-    match octet {
-        Some(octet) => *octet == 32 || *octet == 9,
-        None => false,
-    }
-}
-
-/// Whether a value begins or ends with a blank.
-fn has_blank_end(value: &[u8]) -> bool {
-    is_blank(value.first()) || is_blank(value.last())
-}
-
-/// The names that belong to connections of HTTP/1.1 (RFC 9113, 8.2.2).
-static OF_CONNECTIONS: [&str; 5] = [
-    "connection",
-    "proxy-connection",
-    "keep-alive",
-    "transfer-encoding",
-    "upgrade",
-];
-
-/// The names of the pseudo-fields of requests (RFC 9113, 8.3.1).
-static PSEUDO_FIELDS: [&str; 4] = [":method", ":scheme", ":authority", ":path"];
-
-/// Whether a name is one of these.
-fn is_one_of(name: &[u8], names: &[&str]) -> bool {
-    for other in names {
-        if other.as_bytes() == name {
-            return true;
-        }
-    }
-    false
-}
 
 /// What is wrong with a field.
 #[derive(Clone, Copy)]
@@ -101,12 +36,12 @@ fn is_wrong<A: Allocator>(wrong: FieldFault, field: &SpelledField<A>) -> bool {
     let name = field.name.as_slice();
     let value = field.value.as_slice();
     match wrong {
-        FieldFault::Name => name.is_empty() || bad_octet_of_name(name).is_some(),
-        FieldFault::Value => bad_octet_of_value(value).is_some() || has_blank_end(value),
-        FieldFault::Unknown => is_pseudo(name) && !is_one_of(name, &PSEUDO_FIELDS),
-        FieldFault::Pseudo => is_pseudo(name),
-        FieldFault::Connection => is_one_of(name, &OF_CONNECTIONS),
-        FieldFault::Te => name == "te".as_bytes() && !value.eq_ignore_ascii_case(b"trailers"),
+        FieldFault::Name => is_bad_name(name),
+        FieldFault::Value => is_bad_value(value),
+        FieldFault::Unknown => matches!(KnownName::of(name), KnownName::OtherPseudo),
+        FieldFault::Pseudo => is_pseudo_name(name),
+        FieldFault::Connection => is_connection_name(name),
+        FieldFault::Te => name == "te".as_bytes() && !is_trailers(value),
         FieldFault::Length => name == "content-length".as_bytes(),
     }
 }
@@ -148,7 +83,7 @@ pub fn late_pseudo<A: Allocator>(
 ) -> Option<(&SpelledField<A>, &SpelledField<A>)> {
     let mut regular = None;
     for field in fields {
-        if !is_pseudo(field.name.as_slice()) {
+        if !is_pseudo_name(field.name.as_slice()) {
             regular = Some(field);
         } else if let Some(before) = regular {
             return Some((field, before));
@@ -161,7 +96,7 @@ pub fn late_pseudo<A: Allocator>(
 pub fn double_pseudo<A: Allocator>(fields: &[SpelledField<A>]) -> Option<&SpelledField<A>> {
     for (place, field) in fields.iter().enumerate() {
         let name = field.name.as_slice();
-        if is_pseudo(name) && is_before(name, place, fields) {
+        if is_pseudo_name(name) && is_before(name, place, fields) {
             return Some(field);
         }
     }

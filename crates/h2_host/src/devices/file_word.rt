@@ -3,7 +3,7 @@
 
 use crate::second_look::refused_word;
 use h2_cmd_args::Words;
-use h2_cmd_args::command::{Batch, BookWords, Plan, Refusal, parse};
+use h2_cmd_args::command::{Batch, BookWords, Plan, Refusal};
 use std::alloc::{AllocError, Global};
 use std::rt::Files;
 
@@ -55,8 +55,12 @@ fn with_in(alloc: Global, texts: &[String], file: &str) -> Result<Words, AllocEr
     Ok(all)
 }
 
-/// The words with a FILE as `--in`, where one of them is a FILE that is there.
-pub(crate) fn with_file(rt: &HostRuntime, words: &Words) -> Result<Option<Words>, AllocError> {
+/// The words with a FILE as `--in`, where one of those that ask for this is a FILE that is there.
+pub(crate) fn with_file(
+    rt: &HostRuntime,
+    words: &Words,
+    asked: &Result<Plan<'_>, Refusal>,
+) -> Result<Option<Words>, AllocError> {
     let texts = words.as_slice();
     let Some(command) = texts.get(1) else {
         return Ok(None);
@@ -64,8 +68,7 @@ pub(crate) fn with_file(rt: &HostRuntime, words: &Words) -> Result<Option<Words>
     if texts.iter().any(|word| word.as_str() == "--") {
         return Ok(None);
     }
-    let asked = parse(rt.alloc(), words);
-    match file_word(&asked, command.as_str()) {
+    match file_word(asked, command.as_str()) {
         Some(file) if rt.metadata(file).is_ok() => Ok(Some(with_in(rt.alloc(), texts, file)?)),
         _ => Ok(None),
     }
