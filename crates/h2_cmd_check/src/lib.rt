@@ -9,7 +9,6 @@ mod command;
 mod fault;
 mod growing;
 mod junit;
-mod names;
 mod pattern;
 mod run;
 mod tap;

@@ -21,7 +21,6 @@ ghost use Rattle.h2_cmd_check.specs.Walks.{Begins, Closes, Commands, Compares, F
 
 use crate::case_debugger::CaseDebugger;
 use crate::command::{Given, fault_line, give_line, is_obeyed};
-use crate::names::{is_cause, is_reason};
 use crate::pattern::{closest, explains, shows};
 use crate::run::{ItemsTaken, take_items};
 use crate::texts::text_before;
@@ -808,7 +807,7 @@ impl<'t, 'b> Walk<'t, 'b> {
         let is_dash = text == b"-".as_slice();
         let found = cause_name(self.cause_for(is_dash)).as_bytes();
         let holds = text == found;
-        if !holds && !is_dash && !is_cause(text) {
+        if !holds && !is_dash && !Cause::is_name(text) {
             return self.fault(alloc, number, text, NO_CAUSE);
         }
         self.find(alloc, holds, number, text, found)
@@ -825,7 +824,7 @@ impl<'t, 'b> Walk<'t, 'b> {
     {
         let found = reason_name(self.sight().ignored).as_bytes();
         let holds = text == found;
-        if !holds && text != b"-".as_slice() && !is_reason(text) {
+        if !holds && text != b"-".as_slice() && !Ignored::is_name(text) {
             return self.fault(alloc, number, text, NO_REASON);
         }
         self.find(alloc, holds, number, text, found)

@@ -6,7 +6,7 @@ use Rattle.h2_spec.specs.Trace.{left_by, next_event}
 use Rattle.h2_conn.specs.Connection.{Connection, going}
 use Rattle.h2_conn.specs.First.{TakesFirst}
 use Rattle.h2_explain_step.specs.Explained.{ExplainsItem}
-use Rattle.h2_explain.specs.Explains.{AreExplained, Gains, IsExplanation, IsItemText, IsSummary}
+use Rattle.h2_explain.specs.Explains.{AreExplained, Gains, IsExplanation, IsItemText, IsRestText, IsSummary}
 use Rattle.h2_explain.specs.Verdicts.{AreTallied, Tallied, TalliesItem, no_tally}
 use Rattle.h2_explain.specs.declared.run_explainer.RunExplainer.{RunExplainer}
 use Rattle.h2_explain_item.specs.declared.item.Explained.{Explained}
@@ -82,6 +82,14 @@ pub record Handles {A : Type 0} (e : RunExplainer A) (s : State) (b : List ℕ) 
 -- the explanation of some first items of these octets, and of any octets after them
 abbrev pub IsCutShort : {A : Type 0} → RunExplainer A → State → List ℕ → List ℕ → Type 0
 IsCutShort e s b text = (later : List ℕ) → (xs : List Explained) × AreExplained e.form true s (b ++ later) e.items e.offset xs text
+
+-- the same of the octets that are held and a piece more
+abbrev pub IsPieceCutShort : {A : Type 0} → RunExplainer A → State → List ℕ → List ℕ → Type 0
+IsPieceCutShort e s piece text = IsCutShort e s (e.held.items ++ piece) text
+
+-- the text of the end, after the items that were explained
+abbrev pub IsEndText : {A : Type 0} → RunExplainer A → List ℕ → Type 0
+IsEndText e text = IsRestText e.form e.items (length e.held.items + e.late) text
 
 -- octets after the end are counted, and none are held
 pub record PassesBy {A : Type 0} (e : RunExplainer A) (more : ℕ) (e' : RunExplainer A) : Type 0 where

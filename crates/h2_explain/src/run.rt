@@ -68,7 +68,7 @@ fn explain_all<A: Allocator + Copy, O: Output>(
     requires writer { O.has_failed output.old ≡ false }
     ensures summary { IfOk result (λ summary. IsSummary conn.old.state octets.now summary) }
     ensures run { OnOk result (conn.new ≡ going (trace conn.old.state octets.now).state []) }
-    ensures gains { O.has_failed output.new ≡ false → Gains (λ text. IsExplanation explanation.old.form (is_err result) conn.old.state octets.now text) (O.written output.old) (O.written output.new) }
+    ensures gains { O.has_failed output.new ≡ false → Gains (IsExplanation explanation.old.form (is_err result) conn.old.state octets.now) (O.written output.old) (O.written output.new) }
     ensures flag { O.has_failed output.new ≡ not_written result }
     ensures name { O.name output.new ≡ O.name output.old }
 {

@@ -10,8 +10,8 @@ ghost use Rattle.h2_spec.specs.State.{ended_code};
 ghost use Rattle.h2_conn.specs.Connection.{going, halted};
 ghost use Rattle.h2_conn.specs.First.{TakesIfAny};
 ghost use Rattle.h2_conn.specs.Runs.{Fed, Halted, Halts, Ran};
-ghost use Rattle.h2_explain.specs.Explaining.{EndsAs, ExplainsAll, GoesOn, Handles, HasGained, HasRoom, IsCutShort, IsNew, IsSummed, PassesBy, SaysOf, SaysSome, StopsAt, TakesIfThere};
-ghost use Rattle.h2_explain.specs.Explains.{Gains, IsItemText, IsRestText, IsShownText, IsWritten, not_written};
+ghost use Rattle.h2_explain.specs.Explaining.{EndsAs, ExplainsAll, GoesOn, Handles, HasGained, HasRoom, IsCutShort, IsEndText, IsNew, IsPieceCutShort, IsSummed, PassesBy, SaysOf, SaysSome, StopsAt, TakesIfThere};
+ghost use Rattle.h2_explain.specs.Explains.{Gains, IsItemText, IsShownText, IsWritten, not_written};
 ghost use Rattle.h2_explain.specs.Verdicts.{TalliesItem, verdict_at};
 ghost use Rattle.h2_explain.specs.declared.run.ExplainFault.TheVariants as faults;
 
@@ -385,7 +385,7 @@ impl<A: Allocator + Copy> RunExplainer<A> {
         ensures ok { OnOk result (Handles self.old conn.old.state (self.old.held.items ++ piece.now) (O.written output.old) self.new conn.new.state (O.written output.new)) }
         ensures fed { keeps ≡ true → OnOk result (Fed (going conn.old.state self.old.held.items) piece.now out.old.items (going conn.new.state self.new.held.items) out.new.items) }
         ensures halted { keeps ≡ true → OnErr result (Halts (going conn.old.state self.old.held.items) piece.now out.old.items (halted conn.new.state) out.new.items) }
-        ensures cut { O.has_failed output.new ≡ false → OnErr result (Gains (IsCutShort self.old conn.old.state (self.old.held.items ++ piece.now)) (O.written output.old) (O.written output.new)) }
+        ensures cut { O.has_failed output.new ≡ false → OnErr result (Gains (IsPieceCutShort self.old conn.old.state piece.now) (O.written output.old) (O.written output.new)) }
         ensures ready { conn.new ≡ going conn.new.state [] }
         ensures flag { O.has_failed output.new ≡ not_written result }
         ensures name { O.name output.new ≡ O.name output.old }
@@ -422,7 +422,7 @@ impl<A: Allocator + Copy> RunExplainer<A> {
         ensures ok { OnOk result (Handles self.old conn.old.state (self.old.held.items ++ piece.now) (O.written output.old) self.new conn.new.state (O.written output.new)) }
         ensures fed { keeps ≡ true → OnOk result (Fed (going conn.old.state self.old.held.items) piece.now out.old.items (going conn.new.state self.new.held.items) out.new.items) }
         ensures halted { keeps ≡ true → OnErr result (Halts (going conn.old.state self.old.held.items) piece.now out.old.items (halted conn.new.state) out.new.items) }
-        ensures cut { O.has_failed output.new ≡ false → OnErr result (Gains (IsCutShort self.old conn.old.state (self.old.held.items ++ piece.now)) (O.written output.old) (O.written output.new)) }
+        ensures cut { O.has_failed output.new ≡ false → OnErr result (Gains (IsPieceCutShort self.old conn.old.state piece.now) (O.written output.old) (O.written output.new)) }
         ensures ready { conn.new ≡ going conn.new.state [] }
         ensures flag { O.has_failed output.new ≡ not_written result }
         ensures name { O.name output.new ≡ O.name output.old }
@@ -531,7 +531,7 @@ impl<A: Allocator + Copy> RunExplainer<A> {
     /// The text of the octets after the last item, and of the end.
     fn end_text(&self, alloc: A, conn: &Conn<'_, A>) -> Result<String<A>, AllocError>
         requires room { HasRoom self.now 0 }
-        ensures { IfOk result (λ text. IsRestText self.now.form self.now.items (length self.now.held.items + self.now.late) (string_bytes text)) }
+        ensures { IfOk result (λ text. IsEndText self.now (string_bytes text)) }
     {
         let mut rest = rest_of(conn, self.items, self.offset, self.held.as_slice());
         rest.octets += self.late;
@@ -554,7 +554,7 @@ impl<A: Allocator + Copy> RunExplainer<A> {
     ) -> Result<(), ExplainFault>
         requires room { HasRoom self.now 0 }
         requires writer { O.has_failed output.old ≡ false }
-        ensures gains { O.has_failed output.new ≡ false → Gains (IsWritten (λ text. IsRestText self.now.form self.now.items (length self.now.held.items + self.now.late) text) result) (O.written output.old) (O.written output.new) }
+        ensures gains { O.has_failed output.new ≡ false → Gains (IsWritten (IsEndText self.now) result) (O.written output.old) (O.written output.new) }
         ensures flag { O.has_failed output.new ≡ not_written result }
         ensures name { O.name output.new ≡ O.name output.old }
     {

@@ -1,15 +1,15 @@
 -- Which special case an error or an ignored frame is, and what is printed of its rule: the row of the special case, or
 -- that of the cause or the reason (h2_spec's CauseWords, IgnoredWords and SpecialCases).
-use Rattle.std.specs.Prelude.{◌≡◌, Bool, true, false, ◌%◌, ◌==◌, if◌then◌else◌, Option, Some, None}
+use Rattle.std.specs.Prelude.{◌≡◌, Bool, true, false, ◌%◌, ◌==◌, ◌&&◌, if◌then◌else◌, Option, Some, None}
 use Rattle.h2_spec.specs.declared.causes.Cause.{Cause}
-use Rattle.h2_spec.specs.declared.causes.Cause.TheVariants.{BlockInterrupted, DataOnIdle, RstStreamOnIdle, WindowUpdateOnIdle, StreamWindowOverflow, TooManyStreams, BadName, LackingPseudoField, BadContentLength, TrailersBadName}
+use Rattle.h2_spec.specs.declared.causes.Cause.TheVariants.{BlockInterrupted, DataOnIdle, RstStreamOnIdle, WindowUpdateOnIdle, StreamWindowOverflow, TooManyStreams, BadName, LackingPseudoField, BadTe, BadContentLength, TrailersBadName, TrailersBadTe, FirstNotSettings, PriorityLength, StreamFrameTooLarge, InitialWindowSizeValue, ContinuationOutsideBlock, IntegerTooLong}
 use Rattle.h2_spec.specs.declared.frames.FrameType.{FrameType}
 use Rattle.h2_spec.specs.declared.frames.FrameType.TheVariants as types
 use Rattle.h2_spec.specs.declared.frames.Head.{Head}
 use Rattle.h2_spec.specs.declared.ignored.Ignored.{Ignored}
-use Rattle.h2_spec.specs.declared.ignored.Ignored.TheVariants.{DataOnReset, TableOnlyBlock}
+use Rattle.h2_spec.specs.declared.ignored.Ignored.TheVariants.{DataOnReset, TableOnlyBlock, WindowUpdateOnPeerReset}
 use Rattle.h2_spec.specs.declared.special_cases.SpecialCase.{SpecialCase}
-use Rattle.h2_spec.specs.declared.special_cases.SpecialCase.TheVariants.{LimitNotAcknowledged, BehindContinuation, UnknownTypeInBlock, EmptyName, ConnectPseudoFields, EmptyPathOfOtherScheme, ContentLengthsDiffer, ContentLengthTooLong, UnfollowedWindow, EvenStream, DataAfterEnd, BlockAfterEnd}
+use Rattle.h2_spec.specs.declared.special_cases.SpecialCase.TheVariants.{LimitNotAcknowledged, BehindContinuation, UnknownTypeInBlock, EmptyName, ConnectPseudoFields, EmptyPathOfOtherScheme, ContentLengthsDiffer, ContentLengthTooLong, UnfollowedWindow, EvenStream, DataAfterEnd, BlockAfterEnd, FirstUnknownType, PriorityLengthOnIdle, FrameTooLargeOnIdle, EmptyPath, TeOfTrailersAlone, WindowValueThenLawful, ContinuationOnEndedStream, IntegerBeyondAllTables, WindowUpdateAfterEnd}
 use Rattle.h2_spec.specs.declared.streams.StreamState.{StreamState}
 use Rattle.h2_spec.specs.declared.streams.StreamState.TheVariants.{Idle, Skipped, BothOpen, HalfRemote, HalfLocal, Ended, PeerReset, WeReset}
 use Rattle.h2_spec.specs.Causes.CauseWords.{row_of}
@@ -38,6 +38,28 @@ is_half_local Ended = false
 is_half_local PeerReset = false
 is_half_local WeReset = false
 
+-- whether a stream is idle (5.1)
+abbrev pub is_idle : StreamState → Bool
+is_idle Idle = true
+is_idle Skipped = false
+is_idle BothOpen = false
+is_idle HalfRemote = false
+is_idle HalfLocal = false
+is_idle Ended = false
+is_idle PeerReset = false
+is_idle WeReset = false
+
+-- whether a stream is half-closed (remote) or closed: the client can send no block on it (5.1)
+abbrev pub is_closed_to_client : StreamState → Bool
+is_closed_to_client Idle = false
+is_closed_to_client Skipped = true
+is_closed_to_client BothOpen = false
+is_closed_to_client HalfRemote = true
+is_closed_to_client HalfLocal = false
+is_closed_to_client Ended = true
+is_closed_to_client PeerReset = true
+is_closed_to_client WeReset = true
+
 -- whether a type is not known (4.1)
 abbrev pub is_unknown : FrameType → Bool
 is_unknown types.Data = false
@@ -57,15 +79,35 @@ abbrev pub is_unknown_frame : Option Head → Bool
 is_unknown_frame None = false
 is_unknown_frame (Some h) = is_unknown (frame_type h.kind)
 
+-- whether frames of a type may be on an idle stream and open none: PRIORITY (6.3), and types that are not known (5.5)
+abbrev pub is_allowed_on_idle : FrameType → Bool
+is_allowed_on_idle types.Data = false
+is_allowed_on_idle types.Headers = false
+is_allowed_on_idle types.Priority = true
+is_allowed_on_idle types.RstStream = false
+is_allowed_on_idle types.Settings = false
+is_allowed_on_idle types.PushPromise = false
+is_allowed_on_idle types.Ping = false
+is_allowed_on_idle types.Goaway = false
+is_allowed_on_idle types.WindowUpdate = false
+is_allowed_on_idle types.Continuation = false
+is_allowed_on_idle (types.Unknown kind) = true
+
+-- the same of an item
+abbrev pub may_be_on_idle : Option Head → Bool
+may_be_on_idle None = false
+may_be_on_idle (Some h) = is_allowed_on_idle (frame_type h.kind)
+
 -- an interrupted field block (5.5, 6.2, 6.10)
 abbrev pub interrupted_case : (unknown continued : Bool) → Option SpecialCase
 interrupted_case true continued = Some UnknownTypeInBlock
 interrupted_case false continued = case_if continued BehindContinuation
 
 -- pseudo-fields that lack (8.3.1, 8.5)
-abbrev pub lacking_case : (connect other_scheme : Bool) → Option SpecialCase
-lacking_case true other_scheme = Some ConnectPseudoFields
-lacking_case false other_scheme = case_if other_scheme EmptyPathOfOtherScheme
+abbrev pub lacking_case : (connect empty_path other_scheme : Bool) → Option SpecialCase
+lacking_case true empty_path other_scheme = Some ConnectPseudoFields
+lacking_case false empty_path true = case_if empty_path EmptyPathOfOtherScheme
+lacking_case false empty_path false = case_if empty_path EmptyPath
 
 -- a content-length that is not taken (8.1.1)
 abbrev pub length_case : (differ long : Bool) → Option SpecialCase
@@ -78,6 +120,8 @@ seen_of x = record {
   unknown_type = is_unknown_frame (head_in x.what);
   even_stream = x.before.stream.id % 2 == 0;
   half_local = is_half_local x.before.stream.kind;
+  on_idle = may_be_on_idle (head_in x.what) && is_idle x.before.stream.kind;
+  closed_to_client = is_closed_to_client x.before.stream.kind;
   acked = x.before.counts.acked;
 }
 
@@ -91,8 +135,16 @@ case_of_cause StreamWindowOverflow s f = case_if s.half_local UnfollowedWindow
 case_of_cause TooManyStreams s f = if s.acked then None else Some LimitNotAcknowledged
 case_of_cause BadName s f = case_if f.empty_name EmptyName
 case_of_cause TrailersBadName s f = case_if f.empty_name EmptyName
-case_of_cause LackingPseudoField s f = lacking_case f.connect f.other_scheme
+case_of_cause LackingPseudoField s f = lacking_case f.connect f.empty_path f.other_scheme
+case_of_cause BadTe s f = case_if f.trailers_alone TeOfTrailersAlone
+case_of_cause TrailersBadTe s f = case_if f.trailers_alone TeOfTrailersAlone
 case_of_cause BadContentLength s f = length_case f.lengths_differ f.length_is_long
+case_of_cause FirstNotSettings s f = case_if s.unknown_type FirstUnknownType
+case_of_cause PriorityLength s f = case_if s.on_idle PriorityLengthOnIdle
+case_of_cause StreamFrameTooLarge s f = case_if s.on_idle FrameTooLargeOnIdle
+case_of_cause InitialWindowSizeValue s f = case_if f.lawful_window WindowValueThenLawful
+case_of_cause ContinuationOutsideBlock s f = case_if s.closed_to_client ContinuationOnEndedStream
+case_of_cause IntegerTooLong s f = case_if f.beyond_tables IntegerBeyondAllTables
 case_of_cause _ s f = None
 
 abbrev pub special_cause : Cause → Explained → CaseFacts → Option SpecialCase
@@ -102,6 +154,7 @@ special_cause cause x f = case_of_cause cause (seen_of x) f
 abbrev pub special_reason : Ignored → CaseFacts → Option SpecialCase
 special_reason DataOnReset f = case_if f.after_end DataAfterEnd
 special_reason TableOnlyBlock f = case_if f.after_end BlockAfterEnd
+special_reason WindowUpdateOnPeerReset f = case_if f.after_end WindowUpdateAfterEnd
 special_reason _ f = None
 
 -- the special case of an item's error, if it has one

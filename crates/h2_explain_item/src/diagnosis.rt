@@ -5,6 +5,7 @@ pub mod error_context;
 pub mod facts;
 pub mod fields;
 pub mod frame_facts;
+pub mod integer;
 pub mod others;
 pub mod request_facts;
 pub mod run_facts;

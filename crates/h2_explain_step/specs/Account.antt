@@ -105,6 +105,10 @@ begun_after begun number block head.BadPreface = begun
 begun_after begun number block (head.Oversize h) = begun
 begun_after begun number block (head.Frame h) = block_begun begun number block h
 
+-- the same of an item
+abbrev pub begun_by : Explained → (begun : ℕ) → ℕ
+begun_by x begun = begun_after begun x.number x.before.block x.what
+
 -- the item that has the END_STREAM of the frame on hand: the one that began the block for a frame of a block
 abbrev pub ended_with : (begun number : ℕ) → Option BlockView → Option Head → ℕ
 ended_with begun number block None = number
@@ -120,6 +124,13 @@ unread limit = begun_with (record { table = record { entries = []; max = limit }
 abbrev pub changes_since : Option StreamNote → Stream → ℤ → List ShownChange
 changes_since None st connection = []
 changes_since (Some note) st connection = stream_changes note.seen st connection
+
+-- the same of a stream after an item, and what is noted then
+abbrev pub changes_seen : Explained → State → (ℕ → Option StreamNote) → ℕ → List ShownChange
+changes_seen x s note id = changes_since (note id) (stream_at s.core.last s.streams id) x.after.counts.send
+
+abbrev pub notes_seen : Explained → State → (ℕ → Option StreamNote) → ℕ → ℕ → Option StreamNote
+notes_seen x s note id = with_later_note (note id) x.number (stream_at s.core.last s.streams id) note
 
 -- what is other on streams, one after another, each since it was noted; it is noted again then
 unfoldable pub changes_on : (number : ℕ) → (now : ℕ → Stream) → (connection : ℤ) → (note : ℕ → Option StreamNote) → List ℕ → List ShownChange
@@ -178,10 +189,10 @@ block_end_with before number (Some h) = block_end_after before number h
 -- an item was noted: where its field block began and ended, and, unless it moves the windows of other streams, its own stream and then
 -- those of the frames that were sent for it
 pub record NotesItem {A : Type 0} (x : Explained) (s : State) (before after : Notes A) : Type 0 where
-  pub block : after.block ≡ begun_after before.block x.number x.before.block x.what
+  pub block : after.block ≡ begun_by x before.block
   pub block_end : after.block_end ≡ block_end_with before.block_end x.number (head_in x.what)
   pub streams :
-      moves_windows x ≡ false → AreNotes after (notes_of_sent x s (noted_with x (begun_after before.block x.number x.before.block x.what) (note_of before)))
+      moves_windows x ≡ false → AreNotes after (notes_of_sent x s (noted_with x (begun_by x before.block) (note_of before)))
 
 -- the octets that the server sends before it reads anything, where they are asked for
 abbrev pub opening_if : Config → Bool → List ℕ

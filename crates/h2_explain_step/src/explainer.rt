@@ -4,10 +4,9 @@
 ghost use Rattle.std.specs.Prelude.{◌≡◌, ◌++◌, Some, false, IfOk, OnOk};
 ghost use Rattle.std.specs.BTreeMap.{IsEmpty};
 ghost use Rattle.std.specs.Option.{option_map};
-ghost use Rattle.h2_spec.specs.Stream.{stream_at};
 ghost use Rattle.h2_explain_item.specs.Item.{frame_in, head_in, part_in};
-ghost use Rattle.h2_explain_step.specs.Account.{KeepsBlocks, ListsChanges, NotesItem, begun_after, block_end_with, changes_of_sent, changes_since, ended_with, unread, fragment_in, is_compression, is_of_block, is_of_fields, moves_windows, noted_with, notes_of_sent, opening_if, reads_fields, shows_fields_with};
-ghost use Rattle.h2_explain_item.specs.Notes.{AreNotes, note_of, with_later_note};
+ghost use Rattle.h2_explain_step.specs.Account.{KeepsBlocks, ListsChanges, NotesItem, begun_by, block_end_with, changes_of_sent, changes_seen, ended_with, unread, fragment_in, is_compression, is_of_block, is_of_fields, moves_windows, noted_with, notes_of_sent, notes_seen, opening_if, reads_fields, shows_fields_with};
+ghost use Rattle.h2_explain_item.specs.Notes.{AreNotes, note_of};
 ghost use Rattle.h2_explain_item.specs.RunFacts.{empties_after, run_facts};
 ghost use Rattle.h2_explain_item.specs.Warnings.{AreWarnings};
 
@@ -181,7 +180,7 @@ impl<A: Allocator + Copy> ItemExplainer<A> {
     /// 4.3).
     fn read_block(&mut self, alloc: A, item: &Explained<'_>) -> Result<bool, AllocError>
         ensures shows { IfOk result (λ shows. shows ≡ shows_fields_with item.now) }
-        ensures notes { OnOk result (self.new.notes ≡ record self.old.notes { block = begun_after self.old.notes.block item.now.number item.now.before.block item.now.what }) }
+        ensures notes { OnOk result (self.new.notes ≡ record self.old.notes { block = begun_by item.now self.old.notes.block }) }
         ensures full { self.new.is_full ≡ self.old.is_full }
     {
         let ItemHead::Frame(head) = item.what else {
@@ -246,8 +245,8 @@ impl<A: Allocator + Copy> ItemExplainer<A> {
         stream: u32,
         out: &mut Changes<A>,
     ) -> Result<(), AllocError>
-        ensures changes { OnOk result (out.new.items ≡ out.old.items ++ changes_since (note_of self.old.notes stream) (stream_at conn.now.state.core.last conn.now.state.streams stream) item.now.after.counts.send) }
-        ensures notes { OnOk result (AreNotes self.new.notes (with_later_note (note_of self.old.notes stream) item.now.number (stream_at conn.now.state.core.last conn.now.state.streams stream) (note_of self.old.notes))) }
+        ensures changes { OnOk result (out.new.items ≡ out.old.items ++ changes_seen item.now conn.now.state (note_of self.old.notes) stream) }
+        ensures notes { OnOk result (AreNotes self.new.notes (notes_seen item.now conn.now.state (note_of self.old.notes) stream)) }
         ensures blocks { OnOk result (KeepsBlocks self.old.notes self.new.notes) }
         ensures full { self.new.is_full ≡ self.old.is_full }
     {
@@ -268,8 +267,8 @@ impl<A: Allocator + Copy> ItemExplainer<A> {
         out: &mut Changes<A>,
     ) -> Result<(), AllocError>
         requires noted { note_of self.old.notes stream ≡ Some note.now }
-        ensures changes { OnOk result (out.new.items ≡ out.old.items ++ changes_since (note_of self.old.notes stream) (stream_at conn.now.state.core.last conn.now.state.streams stream) item.now.after.counts.send) }
-        ensures notes { OnOk result (AreNotes self.new.notes (with_later_note (note_of self.old.notes stream) item.now.number (stream_at conn.now.state.core.last conn.now.state.streams stream) (note_of self.old.notes))) }
+        ensures changes { OnOk result (out.new.items ≡ out.old.items ++ changes_seen item.now conn.now.state (note_of self.old.notes) stream) }
+        ensures notes { OnOk result (AreNotes self.new.notes (notes_seen item.now conn.now.state (note_of self.old.notes) stream)) }
         ensures blocks { OnOk result (KeepsBlocks self.old.notes self.new.notes) }
         ensures full { self.new.is_full ≡ self.old.is_full }
     {
@@ -453,7 +452,7 @@ impl<A: Allocator + Copy> ItemExplainer<A> {
         ensures warnings { OnOk result (AreWarnings item.now account.new.facts account.new.warnings) }
         ensures run { OnOk result (account.new.warnings.run ≡ run_facts self.old.granted self.old.empties item.now) }
         ensures empties { OnOk result (self.new.empties ≡ empties_after self.old.empties (head_in item.now.what)) }
-        ensures changes { OnOk result (ListsChanges item.now conn.now.state (begun_after self.old.notes.block item.now.number item.now.before.block item.now.what) (note_of self.old.notes) account.new.changes.items) }
+        ensures changes { OnOk result (ListsChanges item.now conn.now.state (begun_by item.now self.old.notes.block) (note_of self.old.notes) account.new.changes.items) }
         ensures texts { OnOk result (account.new.is_full ≡ self.old.is_full) }
         ensures notes { OnOk result (NotesItem item.now conn.now.state self.old.notes self.new.notes) }
         ensures full { self.new.is_full ≡ self.old.is_full }

@@ -6,7 +6,7 @@ use Rattle.h2_explain_item.specs.declared.item.Explained.{Explained}
 
 -- nothing decides a special case
 abbrev pub no_facts : CaseFacts
-no_facts = record { continued = false; empty_name = false; connect = false; other_scheme = false; lengths_differ = false; length_is_long = false; after_end = false }
+no_facts = record { continued = false; empty_name = false; connect = false; empty_path = false; other_scheme = false; trailers_alone = false; lengths_differ = false; length_is_long = false; lawful_window = false; beyond_tables = false; after_end = false }
 
 abbrev no_lines : List ℕ
 no_lines = []

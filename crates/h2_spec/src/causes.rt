@@ -2,12 +2,14 @@
 //! written table where one arises. Definitions: `specs/Causes/Cause.antt`, `specs/Causes/CauseWords.antt`.
 
 ghost use Rattle.std.specs.Prelude.{◌≡◌, map, slice_get, Some};
+ghost use Rattle.std.specs.List.{list_any};
+ghost use Rattle.std.specs.Str.{bytes_eq};
 ghost use Rattle.h2_spec.specs.Causes.Cause.{code_of};
-ghost use Rattle.h2_spec.specs.Causes.CauseWords.{all_causes, row_of};
+ghost use Rattle.h2_spec.specs.Causes.CauseWords.{all_causes, cause_name, row_of};
 ghost use Rattle.h2_spec.specs.Causes.Rules.{duties_of, row_shown, text_of};
 
 use crate::errors::ErrorCode;
-use crate::rules::{Duties, Row, column, duties_at, text_at};
+use crate::rules::{Duties, Row, column, duties_at, is_one_of, text_at};
 use std::fmt;
 
 /// The rule that an item breaks.
@@ -467,6 +469,13 @@ impl Cause {
         ensures { result.now ≡ (row_of self).name }
     {
         text_at(names(), place_of(self))
+    }
+
+    /// Whether a word is the name of a cause.
+    pub fn is_name(word: &[u8]) -> bool
+        ensures { result ≡ list_any (λ cause. bytes_eq word.now (cause_name cause)) all_causes }
+    {
+        is_one_of(word, names())
     }
 
     /// Its row of the table of rules.

@@ -2,10 +2,12 @@
 //! `specs/Causes/IgnoredWords.antt`.
 
 ghost use Rattle.std.specs.Prelude.{◌≡◌, map, slice_get, Some};
-ghost use Rattle.h2_spec.specs.Causes.IgnoredWords.{all_reasons, reason_row};
+ghost use Rattle.std.specs.List.{list_any};
+ghost use Rattle.std.specs.Str.{bytes_eq};
+ghost use Rattle.h2_spec.specs.Causes.IgnoredWords.{all_reasons, ignored_name, reason_row};
 ghost use Rattle.h2_spec.specs.Causes.Rules.{duties_of, row_shown, text_of};
 
-use crate::rules::{Duties, Row, column, duties_at, text_at};
+use crate::rules::{Duties, Row, column, duties_at, is_one_of, text_at};
 use std::fmt;
 
 /// Why a frame is ignored.
@@ -138,6 +140,13 @@ impl Ignored {
         ensures { result.now ≡ (reason_row self).name }
     {
         text_at(names(), place_of(self))
+    }
+
+    /// Whether a word is the name of a reason.
+    pub fn is_name(word: &[u8]) -> bool
+        ensures { result ≡ list_any (λ reason. bytes_eq word.now (ignored_name reason)) all_reasons }
+    {
+        is_one_of(word, names())
     }
 
     /// Its row of the table of rules.

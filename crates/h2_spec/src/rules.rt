@@ -2,6 +2,8 @@
 //! `specs/Causes/Rules.antt`.
 
 ghost use Rattle.std.specs.Prelude.{◌≡◌, ℕ, List, map, slice_get, Some};
+ghost use Rattle.std.specs.List.{list_any};
+ghost use Rattle.std.specs.Str.{bytes_eq};
 ghost use Rattle.h2_spec.specs.declared.rules.Duties.{Duties};
 ghost use Rattle.h2_spec.specs.Causes.Rules.{client_words, server_words, text_of};
 
@@ -177,4 +179,11 @@ pub fn text_at(texts: &'static [&'static str], place: usize) -> &'static str
         Some(text) => text,
         None => "",
     }
+}
+
+/// Whether a word is one of these texts.
+pub(crate) fn is_one_of(word: &[u8], texts: &'static [&'static str]) -> bool
+    ensures { result ≡ list_any (λ t. bytes_eq word.now t.now) texts.now }
+{
+    texts.iter().any(|text| word == text.as_bytes())
 }

@@ -35,6 +35,24 @@ pub enum SpecialCase {
     DataAfterEnd,
     /// `table-only-block` on a stream that the peer had ended before the server reset it.
     BlockAfterEnd,
+    /// `first-not-settings` where the frame is of a type that is not known.
+    FirstUnknownType,
+    /// `priority-length` on an idle stream.
+    PriorityLengthOnIdle,
+    /// `stream-frame-too-large` by PRIORITY, or by a frame of a type that is not known, on an idle stream.
+    FrameTooLargeOnIdle,
+    /// `lacking-pseudo-field` for an empty :path, with the scheme http or https.
+    EmptyPath,
+    /// `bad-te` and `trailers-bad-te` where te has no member but trailers.
+    TeOfTrailersAlone,
+    /// `initial-window-size-value` where the last SETTINGS_INITIAL_WINDOW_SIZE of the frame is lawful.
+    WindowValueThenLawful,
+    /// `continuation-outside-block` on a half-closed (remote) or closed stream.
+    ContinuationOnEndedStream,
+    /// `integer-too-long` where the integer is 2^32 or more.
+    IntegerBeyondAllTables,
+    /// `window-update-on-peer-reset` on a stream that the client had ended before it reset it.
+    WindowUpdateAfterEnd,
 }
 
 /// The rows in their order, and a column of them: what has to be read column by column, since a table of many texts
@@ -65,18 +83,36 @@ macro_rules! special_cases {
             "the client had ended the stream before the server reset it: DATA counts for the connection's window and no more";
         "block-after-end", Own "RFC 9113 5.1", Breach "RFC 9113 5.1", None [5] [5] [ignore],
             "the client had ended the stream before the server reset it: the block changes the header table and no more";
+        "first-unknown-type", Own "RFC 9113 3.4", Must "RFC 9113 3.4", None [1] [] [ignore],
+            "the first frame after the preface has to be SETTINGS, but a frame of an unknown type has to be ignored";
+        "priority-length-on-idle", Own "RFC 9113 6.3", Breach "RFC 9113 6.3", None [6] [] [ignore] open [] [6] [],
+            "PRIORITY has to have 5 octets; on an idle stream RST_STREAM may not be sent for it";
+        "frame-too-large-on-idle", Own "RFC 9113 4.2", MustNot "RFC 9113 4.1", None [6] [] [ignore wait] open [] [6] [],
+            "the frame is longer than this server takes; on an idle stream RST_STREAM may not be sent for it";
+        "empty-path", Must "RFC 9113 8.3.1", MustNot "RFC 9113 8.3.1", Malformed [] [1] [answer] open [] [] [accept],
+            ":path is empty, which is forbidden for http and https";
+        "te-of-trailers-alone", Own "RFC 9113 8.2.2", Nothing "RFC 9113 8.2.2", None [] [1] [answer accept],
+            "te has no member but trailers: it is empty, or has it more than once";
+        "window-value-then-lawful", Must "RFC 9113 6.5.3", Breach "RFC 9113 6.5.2", Connection [3] [] [] open [] [] [accept],
+            "SETTINGS_INITIAL_WINDOW_SIZE has to be 2147483647 or less; the last one of the frame is";
+        "continuation-on-ended-stream", Must "RFC 9113 6.10", Must "RFC 9113 6.10", Connection [1 5] [] [],
+            "no field block is open that CONTINUATION could continue, and the client can send no field block on the stream any more";
+        "integer-beyond-all-tables", Must "RFC 7541 2.3.3", Breach "RFC 7541 2.3.3", Connection [9] [] [],
+            "an integer is above each index, length and size that a server can take";
+        "window-update-after-end", Must "RFC 9113 6.9", MustNot "RFC 9113 5.1", Ignore [] [] [ignore] open [5] [5] [],
+            "the client has reset the stream, but had ended it before: WINDOW_UPDATE may follow END_STREAM";
     } };
 }
 
-static NAMES: [&str; 12] = special_cases!(name);
+static NAMES: [&str; 21] = special_cases!(name);
 
-static SECTIONS: [&str; 12] = special_cases!(section);
+static SECTIONS: [&str; 21] = special_cases!(section);
 
-static CLIENT_SECTIONS: [&str; 12] = special_cases!(client_section);
+static CLIENT_SECTIONS: [&str; 21] = special_cases!(client_section);
 
-static SENTENCES: [&str; 12] = special_cases!(sentence);
+static SENTENCES: [&str; 21] = special_cases!(sentence);
 
-static DUTIES: [Duties; 12] = special_cases!(duties);
+static DUTIES: [Duties; 21] = special_cases!(duties);
 
 /// The names as a slice; read here alone, so that no other proof goes through them.
 fn names() -> &'static [&'static str]

@@ -33,7 +33,7 @@ ignored-conforms it = elim it as (λ k. allows (reason_row k).conforming Ignore 
 
 pub case-conforms : (it : SpecialCase) → allows (special_row it).conforming (seen_of_case it) ≡ permission_of_case it
 unfolding special_row
-case-conforms it = elim it as (λ k. allows (special_row k).conforming (seen_of_case k) ≡ permission_of_case k) [ special.LimitNotAcknowledged ↦ refl | special.BehindContinuation ↦ refl | special.UnknownTypeInBlock ↦ refl | special.EmptyName ↦ refl | special.ConnectPseudoFields ↦ refl | special.EmptyPathOfOtherScheme ↦ refl | special.ContentLengthsDiffer ↦ refl | special.ContentLengthTooLong ↦ refl | special.UnfollowedWindow ↦ refl | special.EvenStream ↦ refl | special.DataAfterEnd ↦ refl | special.BlockAfterEnd ↦ refl ]
+case-conforms it = elim it as (λ k. allows (special_row k).conforming (seen_of_case k) ≡ permission_of_case k) [ special.LimitNotAcknowledged ↦ refl | special.BehindContinuation ↦ refl | special.UnknownTypeInBlock ↦ refl | special.EmptyName ↦ refl | special.ConnectPseudoFields ↦ refl | special.EmptyPathOfOtherScheme ↦ refl | special.ContentLengthsDiffer ↦ refl | special.ContentLengthTooLong ↦ refl | special.UnfollowedWindow ↦ refl | special.EvenStream ↦ refl | special.DataAfterEnd ↦ refl | special.BlockAfterEnd ↦ refl | special.FirstUnknownType ↦ refl | special.PriorityLengthOnIdle ↦ refl | special.FrameTooLargeOnIdle ↦ refl | special.EmptyPath ↦ refl | special.TeOfTrailersAlone ↦ refl | special.WindowValueThenLawful ↦ refl | special.ContinuationOnEndedStream ↦ refl | special.IntegerBeyondAllTables ↦ refl | special.WindowUpdateAfterEnd ↦ refl ]
 
 pub accepted-conforms : (it : Accepted) → allows (accepted_row it).conforming Accept ≡ permission_to_accept it
 unfolding accepted_row
@@ -49,7 +49,7 @@ ignored-least it = elim it as (λ k. has_its_least (reason_row k).conforming ≡
 
 pub case-least : (it : SpecialCase) → has_its_least (special_row it).conforming ≡ true
 unfolding special_row
-case-least it = elim it as (λ k. has_its_least (special_row k).conforming ≡ true) [ special.LimitNotAcknowledged ↦ refl | special.BehindContinuation ↦ refl | special.UnknownTypeInBlock ↦ refl | special.EmptyName ↦ refl | special.ConnectPseudoFields ↦ refl | special.EmptyPathOfOtherScheme ↦ refl | special.ContentLengthsDiffer ↦ refl | special.ContentLengthTooLong ↦ refl | special.UnfollowedWindow ↦ refl | special.EvenStream ↦ refl | special.DataAfterEnd ↦ refl | special.BlockAfterEnd ↦ refl ]
+case-least it = elim it as (λ k. has_its_least (special_row k).conforming ≡ true) [ special.LimitNotAcknowledged ↦ refl | special.BehindContinuation ↦ refl | special.UnknownTypeInBlock ↦ refl | special.EmptyName ↦ refl | special.ConnectPseudoFields ↦ refl | special.EmptyPathOfOtherScheme ↦ refl | special.ContentLengthsDiffer ↦ refl | special.ContentLengthTooLong ↦ refl | special.UnfollowedWindow ↦ refl | special.EvenStream ↦ refl | special.DataAfterEnd ↦ refl | special.BlockAfterEnd ↦ refl | special.FirstUnknownType ↦ refl | special.PriorityLengthOnIdle ↦ refl | special.FrameTooLargeOnIdle ↦ refl | special.EmptyPath ↦ refl | special.TeOfTrailersAlone ↦ refl | special.WindowValueThenLawful ↦ refl | special.ContinuationOnEndedStream ↦ refl | special.IntegerBeyondAllTables ↦ refl | special.WindowUpdateAfterEnd ↦ refl ]
 
 pub accepted-least : (it : Accepted) → has_its_least (accepted_row it).conforming ≡ true
 unfolding accepted_row

@@ -12,7 +12,7 @@ use Rattle.h2_spec.specs.declared.conforming.Observed.TheVariants.{ConnectionErr
 use Rattle.h2_spec.specs.declared.conforming.Permission.{Permission}
 use Rattle.h2_spec.specs.declared.conforming.Permission.TheVariants.{Allowed, Open, NotAllowed}
 use Rattle.h2_spec.specs.declared.special_cases.SpecialCase.{SpecialCase}
-use Rattle.h2_spec.specs.declared.special_cases.SpecialCase.TheVariants.{LimitNotAcknowledged, BehindContinuation, UnknownTypeInBlock, EmptyName, ConnectPseudoFields, EmptyPathOfOtherScheme, ContentLengthsDiffer, ContentLengthTooLong, UnfollowedWindow, EvenStream, DataAfterEnd, BlockAfterEnd}
+use Rattle.h2_spec.specs.declared.special_cases.SpecialCase.TheVariants.{LimitNotAcknowledged, BehindContinuation, UnknownTypeInBlock, EmptyName, ConnectPseudoFields, EmptyPathOfOtherScheme, ContentLengthsDiffer, ContentLengthTooLong, UnfollowedWindow, EvenStream, DataAfterEnd, BlockAfterEnd, FirstUnknownType, PriorityLengthOnIdle, FrameTooLargeOnIdle, EmptyPath, TeOfTrailersAlone, WindowValueThenLawful, ContinuationOnEndedStream, IntegerBeyondAllTables, WindowUpdateAfterEnd}
 use Rattle.h2_spec.specs.Causes.Cause.{code_of}
 use Rattle.h2_spec.specs.Causes.Conforming.{names_code}
 use Rattle.h2_spec.specs.Causes.Errors.{code_number}
@@ -64,6 +64,15 @@ seen_of_case UnfollowedWindow = StreamError 3
 seen_of_case EvenStream = ConnectionError 1
 seen_of_case DataAfterEnd = Ignore
 seen_of_case BlockAfterEnd = Ignore
+seen_of_case FirstUnknownType = ConnectionError 1
+seen_of_case PriorityLengthOnIdle = ConnectionError 6
+seen_of_case FrameTooLargeOnIdle = ConnectionError 6
+seen_of_case EmptyPath = StreamError 1
+seen_of_case TeOfTrailersAlone = StreamError 1
+seen_of_case WindowValueThenLawful = ConnectionError 3
+seen_of_case ContinuationOnEndedStream = ConnectionError 1
+seen_of_case IntegerBeyondAllTables = ConnectionError 9
+seen_of_case WindowUpdateAfterEnd = Ignore
 
 -- whether this server does what the RFC lets a server do: not on a half-closed (local) stream, whose window does not
 -- follow SETTINGS_INITIAL_WINDOW_SIZE (6.9.2), a known deviation

@@ -3,26 +3,54 @@
 
 use crate::diagnosis::error_context::ErrorContext;
 use crate::diagnosis::fields::{
-    BlockFields, do_lengths_differ, family_of, has_empty_name, has_other_scheme, holds, is_connect,
-    is_length_long,
+    BlockFields, are_empty_names, are_trailers_alone, do_lengths_differ, family_of,
+    has_other_scheme, holds, is_connect, is_length_long, is_path_alone_empty,
 };
+use crate::diagnosis::integer::is_beyond_tables;
 use crate::diagnosis::special::CaseFacts;
+use crate::item::Explained;
+use h2_frame::Part;
 use h2_spec::causes::Cause;
 use h2_spec::streams::{Stream, StreamState};
 use std::alloc::{AllocError, Allocator};
 
+// The fields of a block say nothing of an item that is ignored, and a client may send many of these behind a long block.
 /// What decides whether the rule of an item is a special case.
 pub fn facts_of<A: Allocator + Copy>(context: ErrorContext<'_, '_, A>) -> CaseFacts {
     let fields = context.reader.fields();
+    let fields = if context.item.cause.is_some() {
+        fields
+    } else {
+        &fields[..0]
+    };
     CaseFacts {
         continued: context.item.number > context.notes.block.saturating_add(1),
-        empty_name: has_empty_name(fields),
+        empty_name: are_empty_names(fields),
         connect: is_connect(fields),
+        empty_path: is_path_alone_empty(fields),
         other_scheme: has_other_scheme(fields),
+        trailers_alone: are_trailers_alone(fields),
         lengths_differ: do_lengths_differ(fields),
         length_is_long: is_length_long(fields),
+        lawful_window: has_lawful_window(context.item),
+        beyond_tables: is_beyond_tables(context.reader.rest()),
         after_end: context.after_end,
     }
+}
+
+/// Whether the last SETTINGS_INITIAL_WINDOW_SIZE of a frame is one that it may be (RFC 9113, 6.5.2).
+fn has_lawful_window(item: &Explained<'_>) -> bool {
+    let Some(Part::Settings(settings)) = item.part else {
+        return false;
+    };
+    let mut is_lawful = false;
+    for place in 0..settings.count() {
+        match settings.pair(place) {
+            Some((4, value)) => is_lawful = value <= 2_147_483_647,
+            _ => {}
+        }
+    }
+    is_lawful
 }
 
 /// The block that an item ends, as far as its faults depend on it.

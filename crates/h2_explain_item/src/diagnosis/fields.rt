@@ -143,11 +143,13 @@ fn is_lacking<A: Allocator>(fields: &[SpelledField<A>]) -> bool {
     !has(b":method", fields) || !scheme || !path || has_empty_path(fields)
 }
 
-/// Whether :method, :scheme and :path are there, and the scheme is neither http nor https.
+/// Whether no pseudo-field of a request is missing, and :path is empty (RFC 9113, 8.3.1).
+pub fn is_path_alone_empty<A: Allocator>(fields: &[SpelledField<A>]) -> bool {
+    has(b":method", fields) && has(b":scheme", fields) && has_empty_path(fields)
+}
+
+/// Whether the scheme is there, and is neither http nor https.
 pub fn has_other_scheme<A: Allocator>(fields: &[SpelledField<A>]) -> bool {
-    if !has(b":method", fields) || !has(b":path", fields) {
-        return false;
-    }
     match value_of(b":scheme", fields) {
         Some(scheme) => {
             !scheme.eq_ignore_ascii_case("http".as_bytes())
@@ -266,12 +268,35 @@ fn first_with<A: Allocator>(
     }
 }
 
-/// Whether the first field whose name is refused has an empty name.
-pub fn has_empty_name<A: Allocator>(fields: &[SpelledField<A>]) -> bool {
-    match first_with(FieldFault::Name, fields) {
-        Some(field) => field.name.is_empty(),
-        None => false,
+/// Whether each name that is refused is empty.
+pub fn are_empty_names<A: Allocator>(fields: &[SpelledField<A>]) -> bool {
+    for field in fields {
+        if is_wrong(FieldFault::Name, field) && !field.name.is_empty() {
+            return false;
+        }
     }
+    true
+}
+
+/// Whether a list has no member but `trailers`, in any case of its letters (RFC 9110, 5.6.1 and 10.1.4).
+fn is_trailers_alone(list: &[u8]) -> bool {
+    for member in list.split(|octet| *octet == b',') {
+        let member = member.trim_ascii();
+        if !member.is_empty() && !member.eq_ignore_ascii_case(b"trailers") {
+            return false;
+        }
+    }
+    true
+}
+
+/// Whether each te that is refused has no member but `trailers`.
+pub fn are_trailers_alone<A: Allocator>(fields: &[SpelledField<A>]) -> bool {
+    for field in fields {
+        if is_wrong(FieldFault::Te, field) && !is_trailers_alone(field.value.as_slice()) {
+            return false;
+        }
+    }
+    true
 }
 
 /// Whether a content-length is not taken: no number of 1 to 18 digits, or two that differ (RFC 9113, 8.1.1).

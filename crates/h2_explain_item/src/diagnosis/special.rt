@@ -1,8 +1,8 @@
 //! Which special case an error or an ignored frame is, and its rule. Definitions: `specs/Special.antt`.
 
-ghost use Rattle.std.specs.Prelude.{◌≡◌, ◌%◌, ◌==◌};
+ghost use Rattle.std.specs.Prelude.{◌≡◌, ◌%◌, ◌==◌, ◌&&◌};
 ghost use Rattle.h2_explain_item.specs.Item.{head_in};
-ghost use Rattle.h2_explain_item.specs.Special.{case_by, case_if, case_of_cause, case_of_error, case_of_reason, interrupted_case, is_half_local, is_unknown, is_unknown_frame, lacking_case, length_case, rule_of_cause, rule_of_reason, seen_of, special_reason};
+ghost use Rattle.h2_explain_item.specs.Special.{case_by, case_if, case_of_cause, case_of_error, case_of_reason, interrupted_case, is_allowed_on_idle, is_closed_to_client, is_half_local, is_idle, is_unknown, is_unknown_frame, lacking_case, may_be_on_idle, length_case, rule_of_cause, rule_of_reason, seen_of, special_reason};
 ghost use Rattle.h2_spec.specs.Causes.Rules.{row_shown};
 
 use crate::item::Explained;
@@ -22,6 +22,10 @@ pub struct Seen {
     pub even_stream: bool,
     /// Whether its stream is half-closed (local).
     pub half_local: bool,
+    /// Whether it is PRIORITY, or of a type that is not known, on an idle stream.
+    pub on_idle: bool,
+    /// Whether the client can send nothing on its stream: it is half-closed (remote) or closed.
+    pub closed_to_client: bool,
     /// Whether the client has acknowledged the server's SETTINGS.
     pub acked: bool,
 }
@@ -33,6 +37,8 @@ impl Seen {
             unknown_type: false,
             even_stream: false,
             half_local: false,
+            on_idle: false,
+            closed_to_client: false,
             acked: true,
         }
     }
@@ -43,17 +49,25 @@ impl Seen {
 pub struct CaseFacts {
     /// Whether a CONTINUATION has arrived in the open field block.
     pub continued: bool,
-    /// Whether the first name that is refused is empty.
+    /// Whether each name that is refused is empty.
     pub empty_name: bool,
     /// Whether the method is CONNECT.
     pub connect: bool,
-    /// Whether no pseudo-field is missing, and the scheme is neither http nor https.
+    /// Whether :path is empty, and no pseudo-field is missing.
+    pub empty_path: bool,
+    /// Whether the scheme is neither http nor https.
     pub other_scheme: bool,
+    /// Whether each te that is refused has no member but trailers.
+    pub trailers_alone: bool,
     /// Whether two content-lengths are different numbers.
     pub lengths_differ: bool,
     /// Whether a content-length is a number of more than 18 digits.
     pub length_is_long: bool,
-    /// Whether the client had ended its side of the stream before the server reset it.
+    /// Whether the last SETTINGS_INITIAL_WINDOW_SIZE of the frame is lawful.
+    pub lawful_window: bool,
+    /// Whether the integer that is too long is 2^32 or more.
+    pub beyond_tables: bool,
+    /// Whether the client had ended its side of the stream before it was reset.
     pub after_end: bool,
 }
 
@@ -64,9 +78,13 @@ impl CaseFacts {
             continued: false,
             empty_name: false,
             connect: false,
+            empty_path: false,
             other_scheme: false,
+            trailers_alone: false,
             lengths_differ: false,
             length_is_long: false,
+            lawful_window: false,
+            beyond_tables: false,
             after_end: false,
         }
     }
@@ -86,6 +104,26 @@ fn is_half_local(kind: StreamState) -> bool
     match kind {
         StreamState::HalfLocal => true,
         _ => false,
+    }
+}
+
+/// Whether a stream is idle (RFC 9113, 5.1).
+fn is_idle(kind: StreamState) -> bool
+    ensures { result ≡ is_idle kind }
+{
+    match kind {
+        StreamState::Idle => true,
+        _ => false,
+    }
+}
+
+/// Whether a stream is half-closed (remote) or closed (RFC 9113, 5.1).
+fn is_closed_to_client(kind: StreamState) -> bool
+    ensures { result ≡ is_closed_to_client kind }
+{
+    match kind {
+        StreamState::Idle | StreamState::BothOpen | StreamState::HalfLocal => false,
+        _ => true,
     }
 }
 
@@ -109,6 +147,27 @@ fn is_unknown_frame(item: &Explained<'_>) -> bool
     }
 }
 
+/// Whether frames of a type may be on an idle stream, and open none: PRIORITY, and types that are not known (RFC 9113, 5.5
+/// and 6.3).
+fn is_allowed_on_idle(kind: FrameType) -> bool
+    ensures { result ≡ is_allowed_on_idle kind }
+{
+    match kind {
+        FrameType::Priority | FrameType::Unknown(_) => true,
+        _ => false,
+    }
+}
+
+/// Whether an item is a frame of such a type.
+fn may_be_on_idle(item: &Explained<'_>) -> bool
+    ensures { result ≡ may_be_on_idle (head_in item.now.what) }
+{
+    match item.head() {
+        Some(head) => is_allowed_on_idle(head.frame_type()),
+        None => false,
+    }
+}
+
 /// Whether an item is on an even stream (RFC 9113, 5.1.1).
 fn is_even(item: &Explained<'_>) -> bool
     ensures { result ≡ (item.now.before.stream.id % 2 == 0) }
@@ -128,13 +187,15 @@ fn interrupted_case(unknown: bool, continued: bool) -> Option<SpecialCase>
 }
 
 /// Pseudo-fields that lack (RFC 9113, 8.3.1 and 8.5).
-fn lacking_case(connect: bool, other_scheme: bool) -> Option<SpecialCase>
-    ensures { result ≡ lacking_case connect other_scheme }
+fn lacking_case(connect: bool, empty_path: bool, other_scheme: bool) -> Option<SpecialCase>
+    ensures { result ≡ lacking_case connect empty_path other_scheme }
 {
     if connect {
         Some(SpecialCase::ConnectPseudoFields)
+    } else if other_scheme {
+        case_if(empty_path, SpecialCase::EmptyPathOfOtherScheme)
     } else {
-        case_if(other_scheme, SpecialCase::EmptyPathOfOtherScheme)
+        case_if(empty_path, SpecialCase::EmptyPath)
     }
 }
 
@@ -157,6 +218,8 @@ pub fn seen_of(item: &Explained<'_>) -> Seen
         unknown_type: is_unknown_frame(item),
         even_stream: is_even(item),
         half_local: is_half_local(item.before.stream.kind),
+        on_idle: may_be_on_idle(item) && is_idle(item.before.stream.kind),
+        closed_to_client: is_closed_to_client(item.before.stream.kind),
         acked: item.before.counts.acked,
     }
 }
@@ -175,8 +238,26 @@ fn case_of_cause(cause: Cause, seen: Seen, facts: CaseFacts) -> Option<SpecialCa
         Cause::BadName | Cause::TrailersBadName => {
             case_if(facts.empty_name, SpecialCase::EmptyName)
         }
-        Cause::LackingPseudoField => lacking_case(facts.connect, facts.other_scheme),
+        Cause::LackingPseudoField => {
+            lacking_case(facts.connect, facts.empty_path, facts.other_scheme)
+        }
+        Cause::BadTe | Cause::TrailersBadTe => {
+            case_if(facts.trailers_alone, SpecialCase::TeOfTrailersAlone)
+        }
         Cause::BadContentLength => length_case(facts.lengths_differ, facts.length_is_long),
+        Cause::FirstNotSettings => case_if(seen.unknown_type, SpecialCase::FirstUnknownType),
+        Cause::PriorityLength => case_if(seen.on_idle, SpecialCase::PriorityLengthOnIdle),
+        Cause::StreamFrameTooLarge => case_if(seen.on_idle, SpecialCase::FrameTooLargeOnIdle),
+        Cause::InitialWindowSizeValue => {
+            case_if(facts.lawful_window, SpecialCase::WindowValueThenLawful)
+        }
+        Cause::ContinuationOutsideBlock => {
+            case_if(
+                seen.closed_to_client,
+                SpecialCase::ContinuationOnEndedStream,
+            )
+        }
+        Cause::IntegerTooLong => case_if(facts.beyond_tables, SpecialCase::IntegerBeyondAllTables),
         _ => None,
     }
 }
@@ -188,6 +269,9 @@ fn special_reason(reason: Ignored, facts: CaseFacts) -> Option<SpecialCase>
     match reason {
         Ignored::DataOnReset => case_if(facts.after_end, SpecialCase::DataAfterEnd),
         Ignored::TableOnlyBlock => case_if(facts.after_end, SpecialCase::BlockAfterEnd),
+        Ignored::WindowUpdateOnPeerReset => {
+            case_if(facts.after_end, SpecialCase::WindowUpdateAfterEnd)
+        }
         _ => None,
     }
 }
