@@ -1,5 +1,5 @@
 use Rattle.std.proofs.Common.{◌≡◌, ◌∙◌, ◌++◌, List, ℕ, take, ap, sym, arith, string_bytes}
-use Rattle.std.proofs.lemmas.List.{append-nil, take_all}
+use Rattle.std.proofs.lemmas.List.{take_all}
 use Rattle.h2_frame.specs.Parts.{settings_in}
 use Rattle.h2_spec.specs.Texts.Written.{each_text, setting_text}
 use Rattle.h2_script.proofs.Written.{settings_next}
