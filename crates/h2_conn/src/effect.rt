@@ -4,3 +4,4 @@ pub(crate) mod apply_change;
 pub(crate) mod data_frame;
 pub(crate) mod item;
 pub(crate) mod receive;
+pub(crate) mod window_frame;

@@ -17,21 +17,9 @@ pub ok_also : (r : Result (Unit {0}) BlockFault) (P Q : Type 0) → (is_ok r ≡
 ok_also (Ok u) P Q f h = f refl h
 ok_also (Err fault) P Q f h = tt
 
--- what the test of an answer for a fault says
-pub same_err : (E : Unit {0} → Unit {0} → Bool) (F : BlockFault → BlockFault → Bool) (r : Result (Unit {0}) BlockFault) (f : BlockFault) → ((d : BlockFault) → F d f ≡ true → d ≡ f) → true ≡ result_eq E F r (Err f) → r ≡ Err f
-same_err E F (Ok u) f k e = absurd cc
-same_err E F (Err d) f k e = ap Err (k d (sym e))
-
+-- what the test of an answer for a fault says, where it is no such fault
 pub other_err : (E : Unit {0} → Unit {0} → Bool) (F : BlockFault → BlockFault → Bool) (r : Result (Unit {0}) BlockFault) (f : BlockFault) → F f f ≡ true → false ≡ result_eq E F r (Err f) → r ≢ Err f
 other_err E F r f k e h = let clash : false ≡ true = e ∙ ap (λ x. result_eq E F x (Err f)) h ∙ k in cc
-
--- an answer that is Ok is no fault
-pub no_fault : {T : Type 0} (x : T) (f : BlockFault) → Ok x ≢ Err f
-no_fault x f e = cc
-
--- an answer that is a fault is no other
-pub same_fault : {T : Type 0} (f d : BlockFault) → ◌≡◌ {A = Result T BlockFault} (Err f) (Err d) → f ≡ d
-same_fault f d e = cc
 
 -- what holds in any case
 pub if_err : {T E : Type 0} (r : Result T E) (P : Type 0) → P → OnErr r P

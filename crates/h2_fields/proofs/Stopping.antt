@@ -28,11 +28,6 @@ grows-then a b c h k = (h.0 ++ k.0, k.1 ∙ ap (λ fs. fs ++ k.0) h.1 ∙ append
 pub grows-taken : (old new : FieldsSoFar) → Grows old new → take (length old.fields) new.fields ≡ old.fields
 grows-taken old new h = ap (take (length old.fields)) h.1 ∙ take-append_seam old.fields h.0
 
--- the fields are taken back to those before
-pub grows-restored : (old mid new : FieldsSoFar) (count : ℕ) → Grows old mid → count ≡ length old.fields → new.fields ≡ take count mid.fields → Grows old new
-grows-restored old mid new count h n e =
-    ([], e ∙ ap (λ k. take k mid.fields) n ∙ grows-taken old mid h ∙ sym (append-nil old.fields))
-
 -- the place after the fields of a block
 abbrev pub saved : FieldsSoFar → Savepoint
 saved s = record { count = length s.fields; size = list_size s.fields; due = s.due }

@@ -205,6 +205,7 @@ fn advance<A: Allocator + Copy>(
     let mut change = RestChange::unchanged(before);
     let answer = decode_piece(collected, table, &mut edit, &mut change, piece);
     if answer == Err(BlockFault::NoMemory) {
+        collected.restore(savepoint);
         *rest = change.give_up();
         return Err(BlockFault::NoMemory);
     }

@@ -1,7 +1,7 @@
 //! Decoding the octets of a field block (RFC 7541, 3; RFC 9113, 4.3): its whole instructions, one after another. The
 //! definition is `decoded` of `h2_spec`, specs/Hpack/Block.antt.
 
-ghost use Rattle.std.specs.Prelude.{◌≡◌, ◌≤◌, ◌+◌, [], ◌++◌, length, drop, min, IfOk, IfErr, IsErrOf, OnOk, OnErr};
+ghost use Rattle.std.specs.Prelude.{◌≡◌, ◌≤◌, ◌+◌, [], ◌++◌, length, drop, min, IfOk, IfErr, OnOk, OnErr};
 ghost use Rattle.h2_spec.specs.Hpack.Block as block;
 ghost use Rattle.h2_spec.specs.Hpack.Block.{Unfinished, progress_with};
 ghost use Rattle.h2_spec.specs.Hpack.Instruction.{instr_at};
@@ -11,7 +11,6 @@ ghost use Rattle.h2_fields.specs.Applied.{Grows, IsStopped, progress_in};
 ghost use Rattle.h2_hpack_instruction.specs.Resume.{IsPoint, IsRest, huffman_octets};
 ghost use Rattle.h2_fields.specs.Rests.{IsCounted, IsFresh, IsTicked, most_ticks};
 ghost use Rattle.h2_hpack_instruction.specs.Shapes.{shape_of};
-ghost use Rattle.h2_hpack_instruction.specs.declared.fault.BlockFault.TheVariants as faults;
 
 use crate::collected::Collected;
 use crate::effect::{apply, apply_indexed};
@@ -90,53 +89,8 @@ fn with_instruction(ticks: u64, passed: usize, shape: Shape<'_>) -> u64
         .saturating_add(1)
 }
 
-/// Decodes the whole instructions at the front of the octets; reading goes on from a point of the first one. Adds their
-/// fields, makes `edit` one with their changes of the table, for `DynTable::commit`, and `next` the point where reading
-/// goes on after them; returns how many octets they take. The table itself does not change. What is after them begins an
-/// instruction and does not end it, or is empty. `edit` may be of any table: its memory is used again. `ticks` counts
-/// the steps.
-///
-/// # Errors
-///
-/// `ZeroIndex`, `Index`, `Integer`, `Huffman`, `LateUpdate` and `LargeUpdate` as RFC 7541 has them, for the first
-/// instruction that is refused: the fields and the edit are those of the instructions before it. `NoMemory` where
-/// memory was refused: the fields are as they were, and the edit should not be committed. `next` is as it was.
-#[inline(always)]
-fn attempt<A: Allocator + Copy>(
-    collected: &mut Collected<A>,
-    table: &DynTable<A>,
-    edit: &mut Edit<A>,
-    ticks: &mut u64,
-    next: &mut Point,
-    from: Point,
-    octets: &[u8],
-) -> Result<usize, BlockFault>
-    requires point { IsPoint octets.now from }
-    requires passed { from.passed ≤ length octets.now }
-    ensures belongs { IsEdit table.now edit.new }
-    ensures used { IfOk result (λ used. (used ≤ length octets.now) × (block.decoded table.now.limit (progress_with table.now.table collected.old) octets.now ≡ record { progress = progress_with (edited table.now.table.entries edit.new) collected.new; outcome = Unfinished (drop used octets.now) })) }
-    ensures cut { IfOk result (λ used. instr_at (drop used octets.now) ≡ More) }
-    ensures rest { IfOk result (λ used. IsRest (drop used octets.now) next.new) }
-    ensures ticks { IfOk result (λ used. IsCounted from.passed (length octets.now) used ticks.old ticks.new) }
-    ensures fault { IfErr result (λ fault. IsStopped table.now.limit (progress_with table.now.table collected.old) octets.now (progress_with (edited table.now.table.entries edit.new) collected.new) fault) }
-    ensures stays { IfErr result (λ _. next.new ≡ next.old) }
-    ensures unchanged { IsErrOf result faults.NoMemory → collected.new ≡ collected.old }
-    ensures grows { Grows collected.old collected.new }
-{
-    let savepoint = collected.savepoint();
-    edit.begin(table);
-    match decode(collected, table, edit, ticks, next, from, octets) {
-        Ok(used) => Ok(used),
-        Err(BlockFault::NoMemory) => {
-            collected.restore(savepoint);
-            Err(BlockFault::NoMemory)
-        }
-        Err(fault) => Err(fault),
-    }
-}
-
 // The rest, the edit and the point are lent: by value they were copied at each of eight returns, 500
-// instructions. What a refused allocation leaves here is restored by `attempt` and `decode_alone`.
+// instructions.
 /// Decodes a fragment of a block: the octets of `rest`, which the fragments before it left, from the point where reading
 /// stopped in them, and those of `piece` after them. Adds the fields of the whole instructions, and makes `edit` one with
 /// their changes of the table, for `DynTable::commit`; what `rest` has after it begins an instruction and does not
@@ -146,8 +100,8 @@ fn attempt<A: Allocator + Copy>(
 ///
 /// `ZeroIndex`, `Index`, `Integer`, `Huffman`, `LateUpdate` and `LargeUpdate` as RFC 7541 has them, for the first
 /// instruction that is refused: the fields and the edit are those of the instructions before it. `NoMemory` where
-/// memory was refused: the fields are as they were, and the edit should not be committed. What was left before the
-/// fragment stays in `rest` in each case.
+/// memory was refused: fields may have been added, which a savepoint of before takes back, and the edit should not be
+/// committed. What was left before the fragment stays in `rest` in each case.
 #[inline(always)]
 pub fn decode_piece<A: Allocator + Copy>(
     collected: &mut Collected<A>,
@@ -163,9 +117,9 @@ pub fn decode_piece<A: Allocator + Copy>(
     ensures cut { OnOk result (instr_at rest.new.after ≡ More) }
     ensures ticks { OnOk result (IsTicked (length rest.old.before) (length piece.now) (length rest.new.after) rest.new.ticks) }
     ensures fault { IfErr result (λ fault. IsStopped table.now.limit (progress_with table.now.table collected.old) (rest.old.before ++ piece.now) (progress_with (edited table.now.table.entries edit.new) collected.new) fault) }
-    ensures unchanged { IsErrOf result faults.NoMemory → collected.new ≡ collected.old }
     ensures grows { Grows collected.old collected.new }
 {
+    edit.begin(table);
     if rest.is_empty() {
         decode_alone(collected, table, edit, rest, piece)
     } else {
@@ -182,23 +136,22 @@ fn decode_behind<A: Allocator + Copy>(
     piece: &[u8],
 ) -> Result<(), BlockFault>
     requires fresh { IsFresh rest.old }
+    requires belongs { IsEdit table.now edit.old }
     ensures belongs { IsEdit table.now edit.new }
     ensures before { rest.new.before ≡ rest.old.before }
-    ensures decoded { OnOk result (block.decoded table.now.limit (progress_with table.now.table collected.old) (rest.old.before ++ piece.now) ≡ record { progress = progress_with (edited table.now.table.entries edit.new) collected.new; outcome = Unfinished rest.new.after }) }
+    ensures decoded { OnOk result (block.decoded table.now.limit (progress_in collected.old table.now edit.old) (rest.old.before ++ piece.now) ≡ record { progress = progress_in collected.new table.now edit.new; outcome = Unfinished rest.new.after }) }
     ensures cut { OnOk result (instr_at rest.new.after ≡ More) }
     ensures ticks { OnOk result (IsTicked (length rest.old.before) (length piece.now) (length rest.new.after) rest.new.ticks) }
-    ensures fault { IfErr result (λ fault. IsStopped table.now.limit (progress_with table.now.table collected.old) (rest.old.before ++ piece.now) (progress_with (edited table.now.table.entries edit.new) collected.new) fault) }
-    ensures unchanged { IsErrOf result faults.NoMemory → collected.new ≡ collected.old }
+    ensures fault { IfErr result (λ fault. IsStopped table.now.limit (progress_in collected.old table.now edit.old) (rest.old.before ++ piece.now) (progress_in collected.new table.now edit.new) fault) }
     ensures grows { Grows collected.old collected.new }
 {
     rest.kept = rest.octets.len();
     if rest.octets.extend_from_slice(piece).is_err() {
-        edit.begin(table);
         return Err(BlockFault::NoMemory);
     }
     rest.ticks = 0;
     let all = rest.octets.as_slice();
-    match attempt(
+    match decode(
         collected,
         table,
         edit,
@@ -239,18 +192,17 @@ fn decode_alone<A: Allocator + Copy>(
     piece: &[u8],
 ) -> Result<(), BlockFault>
     requires empty { rest.old.all ≡ [] }
+    requires belongs { IsEdit table.now edit.old }
     ensures belongs { IsEdit table.now edit.new }
     ensures before { rest.new.before ≡ [] }
-    ensures decoded { OnOk result (block.decoded table.now.limit (progress_with table.now.table collected.old) piece.now ≡ record { progress = progress_with (edited table.now.table.entries edit.new) collected.new; outcome = Unfinished rest.new.after }) }
+    ensures decoded { OnOk result (block.decoded table.now.limit (progress_in collected.old table.now edit.old) piece.now ≡ record { progress = progress_in collected.new table.now edit.new; outcome = Unfinished rest.new.after }) }
     ensures cut { OnOk result (instr_at rest.new.after ≡ More) }
     ensures ticks { OnOk result (IsTicked 0 (length piece.now) (length rest.new.after) rest.new.ticks) }
-    ensures fault { IfErr result (λ fault. IsStopped table.now.limit (progress_with table.now.table collected.old) piece.now (progress_with (edited table.now.table.entries edit.new) collected.new) fault) }
-    ensures unchanged { IsErrOf result faults.NoMemory → collected.new ≡ collected.old }
+    ensures fault { IfErr result (λ fault. IsStopped table.now.limit (progress_in collected.old table.now edit.old) piece.now (progress_in collected.new table.now edit.new) fault) }
     ensures grows { Grows collected.old collected.new }
 {
-    let before = collected.savepoint();
     rest.ticks = 0;
-    match attempt(
+    match decode(
         collected,
         table,
         edit,
@@ -261,7 +213,6 @@ fn decode_alone<A: Allocator + Copy>(
     ) {
         Ok(used) => {
             if append(&mut rest.octets, octets_from(piece, used)).is_err() {
-                collected.restore(before);
                 rest.next = rest.point;
                 return Err(BlockFault::NoMemory);
             }

@@ -5,7 +5,7 @@ ghost use Rattle.std.specs.Prelude.{◌≡◌, ℕ, ◌+◌, ◌-◌, ◌*◌, �
 ghost use Rattle.h2_spec.specs.Frames.FrameType.{DATA, HEADERS, RST_STREAM, SETTINGS, GOAWAY, WINDOW_UPDATE, ACK, PADDED, has};
 ghost use Rattle.h2_spec.specs.Frames.Payload as spec;
 ghost use Rattle.h2_spec.specs.Frames.Payload.Part.{OfPriority};
-ghost use Rattle.h2_spec.specs.Frames.Payload.{octets_if, fixed_len, pad_or_0, pad_length, priority_of, data_part, headers_part, settings_part, window_part, goaway_part, reset_part, with_part, of_length, settings_or_ack};
+ghost use Rattle.h2_spec.specs.Frames.Payload.{octets_if, fixed_len, pad_or_0, pad_length, priority_of, data_part, headers_part, settings_part, window_part, goaway_part, reset_part, with_part, of_length, setting_pairs, settings_or_ack};
 ghost use Rattle.h2_spec.specs.declared.causes.Cause.TheVariants.{PingLength, PriorityLength};
 ghost use Rattle.h2_frame.specs.Parts.{both_seen, cut_between, data_seen, headers_seen, settings_in, part_seen, seen};
 
@@ -45,7 +45,14 @@ pub struct SettingsPart<'a> {
     octets: &'a [u8],
 }
 
-impl SettingsPart<'_> {
+impl<'a> SettingsPart<'a> {
+    /// The settings that octets have, six octets each; a rest of fewer than six is none.
+    pub fn new(octets: &'a [u8]) -> SettingsPart<'a>
+        ensures { settings_in result ≡ setting_pairs octets.now }
+    {
+        SettingsPart { octets }
+    }
+
     /// How many settings there are.
     pub fn count(self) -> usize
         ensures { result ≡ length (settings_in self.entry) }
@@ -189,9 +196,7 @@ pub fn settings_of(frame: FrameRef<'_>) -> Result<SettingsPart<'_>, Cause>
     } else if frame.payload.len() % 6 != 0 {
         return Err(Cause::SettingsLength);
     }
-    Ok(SettingsPart {
-        octets: frame.payload,
-    })
+    Ok(SettingsPart::new(frame.payload))
 }
 
 /// The increment of a WINDOW_UPDATE frame, below 2^31; 0 is not refused here (RFC 9113, 6.9).

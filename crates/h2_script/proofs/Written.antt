@@ -1,50 +1,40 @@
 -- What is written, one after another.
-use Rattle.std.proofs.Common.{◌≡◌, ◌∙◌, ◌+◌, ◌%◌, ◌^◌, ◌<◌, ◌≤◌, ◌++◌, ◌&&◌, ℕ, Bool, true, false, suc, List, [], ◌∷◌, Some, None, length, drop, take, refl, sym, ap, arith, cond, nat_lt, nat_eq, ltb-false, flat_map, append_assoc, le-ltb, lt-ltb, subst}
+use Rattle.std.proofs.Common.{◌≡◌, ◌∙◌, ◌+◌, ◌^◌, ◌<◌, ◌≤◌, ◌++◌, ◌&&◌, ℕ, Bool, true, false, zero, suc, List, [], ◌∷◌, Some, None, length, drop, take, refl, sym, ap, arith, cond, nat_lt, nat_eq, ltb-false, flat_map, append_assoc, le-ltb, lt-ltb, subst}
 use Rattle.std.specs.Cmp.Lexicographic.{same_text}
 use Rattle.std.specs.List.{starts_with}
+use Rattle.std.specs.Prelude.{slice_get}
 use Rattle.std.proofs.lemmas.List.{length-drop, length-take, length-take-le}
 use Rattle.hex.specs.Hex.{IsBytes}
 use Rattle.h2_spec.specs.Frames.Frame.{head_at, head_of, preface}
-use Rattle.h2_spec.specs.Octets.{four_octets, two_octets}
 use Rattle.h2_spec.specs.Frames.Parse.{One, Stop, parse_upto}
-use Rattle.h2_spec.specs.Frames.Payload.{setting_pairs}
 use Rattle.h2_spec.specs.Texts.Script.{Statement, Preface}
 use Rattle.h2_spec.specs.Texts.Written.{each_text, frame_said, line_text, next_said, rest_text, setting_text}
 use Rattle.h2_spec.specs.declared.frames.Head.{Head}
-use Rattle.h2_script.specs.Texts.{said_text}
+use Rattle.h2_script.specs.Texts.{comma, said_text}
 
 -- ---- settings
 
-pub pairs_more : (rest : List ℕ) → 6 < length rest → length rest % 6 ≡ 0
-    → each_text setting_text (setting_pairs rest) ≡ setting_text (two_octets rest 0, four_octets rest 2) ++ 44 ∷ each_text setting_text (setting_pairs (drop 6 rest))
-pairs_more (a ∷ b ∷ c ∷ d ∷ e ∷ f ∷ g ∷ h ∷ i ∷ j ∷ k ∷ l ∷ more) some six = refl
-pairs_more [] some six = absurd (omega arith)
-pairs_more (a ∷ []) some six = absurd (omega arith)
-pairs_more (a ∷ b ∷ []) some six = absurd (omega arith)
-pairs_more (a ∷ b ∷ c ∷ []) some six = absurd (omega arith)
-pairs_more (a ∷ b ∷ c ∷ d ∷ []) some six = absurd (omega arith)
-pairs_more (a ∷ b ∷ c ∷ d ∷ e ∷ []) some six = absurd (omega arith)
-pairs_more (a ∷ b ∷ c ∷ d ∷ e ∷ f ∷ []) some six = absurd (omega arith)
-pairs_more (a ∷ b ∷ c ∷ d ∷ e ∷ f ∷ g ∷ []) some six = absurd (omega arith)
-pairs_more (a ∷ b ∷ c ∷ d ∷ e ∷ f ∷ g ∷ h ∷ []) some six = absurd (omega arith)
-pairs_more (a ∷ b ∷ c ∷ d ∷ e ∷ f ∷ g ∷ h ∷ i ∷ []) some six = absurd (omega arith)
-pairs_more (a ∷ b ∷ c ∷ d ∷ e ∷ f ∷ g ∷ h ∷ i ∷ j ∷ []) some six = absurd (omega arith)
-pairs_more (a ∷ b ∷ c ∷ d ∷ e ∷ f ∷ g ∷ h ∷ i ∷ j ∷ k ∷ []) some six = absurd (omega arith)
+-- one setting more
+pub each_next : (k : ℕ) (ps : List (ℕ × ℕ)) (p : ℕ × ℕ) → slice_get ps k ≡ Some p
+    → each_text setting_text (take (suc k) ps) ≡ each_text setting_text (take k ps) ++ (comma k ++ setting_text p)
+each_next k [] p at = absurd (cc)
+each_next zero (q ∷ qs) p at = let same : q ≡ p = cc in ap (λ (x : ℕ × ℕ). setting_text x) same
+each_next (suc k) (q ∷ []) p at = absurd (cc)
+each_next (suc zero) (q ∷ r ∷ qs) p at =
+    ap (λ (t : List ℕ). setting_text q ++ 44 ∷ t) (each_next zero (r ∷ qs) p at)
+each_next (suc (suc k)) (q ∷ r ∷ qs) p at =
+    ap (λ (t : List ℕ). setting_text q ++ 44 ∷ t) (each_next (suc k) (r ∷ qs) p at)
+    ∙ sym (append_assoc (setting_text q) (44 ∷ each_text setting_text (take (suc k) (r ∷ qs))) (44 ∷ setting_text p))
 
-pub pairs_last : (rest : List ℕ) → length rest ≡ 6 → each_text setting_text (setting_pairs rest) ≡ setting_text (two_octets rest 0, four_octets rest 2)
-pairs_last (a ∷ b ∷ c ∷ d ∷ e ∷ f ∷ []) six = refl
-pairs_last [] six = absurd (omega arith)
-pairs_last (a ∷ []) six = absurd (omega arith)
-pairs_last (a ∷ b ∷ []) six = absurd (omega arith)
-pairs_last (a ∷ b ∷ c ∷ []) six = absurd (omega arith)
-pairs_last (a ∷ b ∷ c ∷ d ∷ []) six = absurd (omega arith)
-pairs_last (a ∷ b ∷ c ∷ d ∷ e ∷ []) six = absurd (omega arith)
-pairs_last (a ∷ b ∷ c ∷ d ∷ e ∷ f ∷ g ∷ more) six = absurd (omega arith)
-
--- a text and a comma after it
-pub comma : (old mid new more text : List ℕ) → mid ≡ old ++ text → new ≡ mid ++ 44 ∷ [] → new ++ more ≡ old ++ (text ++ 44 ∷ more)
-comma old mid new more text a b =
-    ap (λ (x : List ℕ). x ++ more) (b ∙ ap (λ (x : List ℕ). x ++ 44 ∷ []) a ∙ append_assoc old text (44 ∷ [])) ∙ append_assoc old (text ++ 44 ∷ []) more ∙ ap (λ (x : List ℕ). old ++ x) (append_assoc text (44 ∷ []) more)
+-- and its text, after a comma where something precedes
+pub settings_next : (out one two three : List ℕ) (k : ℕ) (ps : List (ℕ × ℕ)) (p : ℕ × ℕ) → one ≡ out ++ each_text setting_text (take k ps) → two ≡ one ++ comma k → three ≡ two ++ setting_text p
+    → slice_get ps k ≡ Some p → three ≡ out ++ each_text setting_text (take (k + 1) ps)
+settings_next out one two three k ps p a b c at =
+    let texts = each_text setting_text (take k ps) in
+    let more : k + 1 ≡ suc k = omega arith in
+    c ∙ ap (λ (x : List ℕ). x ++ setting_text p) (b ∙ ap (λ (x : List ℕ). x ++ comma k) a)
+    ∙ append_assoc (out ++ texts) (comma k) (setting_text p) ∙ append_assoc out texts (comma k ++ setting_text p)
+    ∙ ap (λ (x : List ℕ). out ++ x) (sym (each_next k ps p at)) ∙ ap (λ (n : ℕ). out ++ each_text setting_text (take n ps)) (sym more)
 
 -- a text and what follows it
 pub step : (old mid new text more : List ℕ) → mid ≡ old ++ text → new ≡ mid ++ more → new ≡ old ++ (text ++ more)

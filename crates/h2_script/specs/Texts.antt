@@ -1,5 +1,5 @@
 -- Lines and instructions that are written one after another.
-use Rattle.std.specs.Prelude.{◌≡◌, ◌<◌, ◌≤◌, ◌^◌, ◌++◌, ◌∷◌, [], ◌&&◌, ℕ, Bool, true, false, List, nat_lt, drop, length, take, flat_map, Option, Some, None}
+use Rattle.std.specs.Prelude.{◌≡◌, ◌<◌, ◌≤◌, ◌^◌, ◌++◌, ◌∷◌, [], ◌&&◌, ℕ, zero, suc, Bool, true, false, List, nat_lt, drop, length, take, flat_map, Option, Some, None}
 use Rattle.std.specs.declared.string.String.{String}
 use Rattle.std.specs.String.{string_bytes}
 use Rattle.h2_hpack_instruction.specs.Instructions.{instr_of}
@@ -30,6 +30,11 @@ IsFrame (Some f) b = (Some f.0 ≡ head_at b) × (f.0.length ≤ length (drop 9 
 -- the text of a frame before its payload
 abbrev pub head_text : Head → List ℕ
 head_text h = type_text h.kind ++ 32 ∷ (encode_lower (h.flags ∷ []) ++ 32 ∷ (stream_text h.stream h.reserved ++ 32 ∷ []))
+
+-- a comma where something precedes
+abbrev pub comma : ℕ → List ℕ
+comma zero = []
+comma (suc k) = 44 ∷ []
 
 -- ---- field blocks
 

@@ -1,17 +1,18 @@
 //! The payload of a frame as text, in the form that its type and flags ask for. The definitions are `payload_said` and
 //! `payload_text` of `h2_spec`, specs/Texts/Written.antt.
 
-ghost use Rattle.std.specs.Prelude.{◌≡◌, ◌<◌, ◌≤◌, ◌^◌, ◌++◌, ◌%◌, length, OnOk};
+ghost use Rattle.std.specs.Prelude.{◌≡◌, ◌<◌, ◌≤◌, ◌^◌, ◌++◌, length, OnOk};
 ghost use Rattle.std.specs.Fmt.{decimal};
 ghost use Rattle.std.specs.String.{string_bytes};
-ghost use Rattle.h2_spec.specs.Octets.{four_octets, two_octets};
-ghost use Rattle.h2_spec.specs.Frames.Payload.{setting_pairs};
+ghost use Rattle.h2_frame.specs.Parts.{settings_in};
+ghost use Rattle.h2_spec.specs.Octets.{four_octets};
 ghost use Rattle.h2_spec.specs.Texts.Script.{Octets};
+ghost use Rattle.h2_script.specs.Texts.{comma};
 ghost use Rattle.h2_spec.specs.Texts.Written.{each_text, is_fragment, payload_said, payload_text, setting_text};
 
 use crate::fragment::push_fragment;
 use crate::text::{push_numbered, push_octets};
-use h2_spec::octets::octets_from;
+use h2_frame::SettingsPart;
 use std::alloc::{AllocError, Allocator};
 use std::fmt::Write;
 
@@ -32,7 +33,7 @@ pub(crate) fn push_payload<A: Allocator + Copy>(
     }
     if kind == 4 && payload.len() % 6 == 0 {
         out.push_str("s")?;
-        return push_settings(payload, out);
+        return push_settings(SettingsPart::new(payload), out);
     }
     if kind == 8 && payload.len() == 4 && payload[0] < 128 {
         return push_lettered("w", payload, out);
@@ -86,30 +87,28 @@ fn number_of(octets: &[u8]) -> u64
     u64::from(number)
 }
 
-/// Appends settings, six octets each, with commas between.
-fn push_settings<A: Allocator>(payload: &[u8], out: &mut String<A>) -> Result<(), AllocError>
-    requires some { 0 < length payload.now }
-    requires whole { length payload.now % 6 ≡ 0 }
-    ensures { OnOk result (string_bytes out.new ≡ string_bytes out.old ++ each_text setting_text (setting_pairs payload.now)) }
+/// Appends settings with commas between.
+fn push_settings<A: Allocator>(
+    settings: SettingsPart<'_>,
+    out: &mut String<A>,
+) -> Result<(), AllocError>
+    ensures { OnOk result (string_bytes out.new ≡ string_bytes out.old ++ each_text setting_text (settings_in settings.entry)) }
 {
-    let mut rest = payload;
-    while rest.len() > 6 {
-        push_setting(pair_of(rest), out)?;
-        out.push_str(",")?;
-        rest = octets_from(rest, 6);
+    for place in 0..settings.count() {
+        push_comma(place, out)?;
+        push_setting(settings.pair_at(place), out)?;
     }
-    push_setting(pair_of(rest), out)?;
     Ok(())
 }
 
-/// The setting at the front of octets (RFC 9113, 6.5.1).
-fn pair_of(octets: &[u8]) -> (u16, u32)
-    requires { 6 ≤ length octets.now }
-    ensures { result ≡ (two_octets octets.now 0, four_octets octets.now 2) }
+/// Appends a comma where something precedes.
+fn push_comma<A: Allocator>(place: usize, out: &mut String<A>) -> Result<(), AllocError>
+    ensures { OnOk result (string_bytes out.new ≡ string_bytes out.old ++ comma place) }
 {
-    let id = u16::from_be_bytes([octets[0], octets[1]]);
-    let value = u32::from_be_bytes([octets[2], octets[3], octets[4], octets[5]]);
-    (id, value)
+    if place > 0 {
+        out.push_str(",")?;
+    }
+    Ok(())
 }
 
 /// Appends a setting: its identifier, an equals sign, its value.

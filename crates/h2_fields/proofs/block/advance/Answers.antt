@@ -1,6 +1,4 @@
-use Rattle.std.proofs.Common.{◌++◌, ℕ, List, length, take, IfErr, arith, refl, ap, ◌∙◌, sym, subst, rules}
-use denote.Enum.Bare.{same_true}
-use Rattle.h2_hpack_instruction.specs.contracts.fault.BlockFault.{the_type}
+use Rattle.std.proofs.Common.{◌++◌, ℕ, List, length, take, IfErr, arith, refl, ap, ◌∙◌, sym, subst}
 use Rattle.h2_spec.specs.Hpack.Block.{Decoded, Unfinished, decoded, progress_with}
 use Rattle.h2_spec.specs.Hpack.DynamicTable.{LimitedTable}
 use Rattle.h2_spec.specs.Hpack.Instruction.{instr_at}
@@ -8,7 +6,7 @@ use Rattle.h2_table.specs.Edits.{edited}
 use Rattle.h2_hpack_instruction.specs.declared.fault.BlockFault.TheVariants as faults
 use Rattle.h2_fields.specs.Applied.{IsStopped}
 use Rattle.h2_fields.specs.Rests.{RestChange}
-use Rattle.h2_fields.proofs.Outcomes.{ok_also, other_err, same_err}
+use Rattle.h2_fields.proofs.Outcomes.{ok_also, other_err}
 use Rattle.h2_fields.proofs.Stopping.{grows-taken, memory-stopped, saved-restored, saved-size}
 use Rattle.h2_fields.proofs.Ticking.{ticks-rise}
 use Rattle.h2_fields.proofs.block.advance.Goals as goal
@@ -18,32 +16,36 @@ decode_piece-answer-requires g c =
     let e = c.unchanged-change.ensures in
     record { fresh = ap (λ (r : RestChange). r.before) e ∙ sym (ap (λ (r : RestChange). r.all) e) }
 
+pub restore-requires : goal.restore-requires
+restore-requires g c =
+    record { size = saved-size c.args.collected.now c.decode_piece-answer.new.collected c.savepoint-savepoint.result c.savepoint-savepoint.ensures c.decode_piece-answer.ensures.grows }
+
 pub returns-then-eq-clause-copied : goal.returns-then-eq-clause-copied
 returns-then-eq-clause-copied g c =
-    let refused = same_err _ _ c.decode_piece-answer.result faults.NoMemory (λ d. same_true the_type (search rules) d faults.NoMemory) c.if-eq.ensures in
-    c.requires.copied ∙ sym (ap (λ s. s.fields) (c.decode_piece-answer.ensures.unchanged refused))
+    let same = saved-restored c.args.collected.now c.decode_piece-answer.new.collected c.restore.new.self c.savepoint-savepoint.result c.savepoint-savepoint.ensures c.decode_piece-answer.ensures.grows c.restore.ensures in
+    c.requires.copied ∙ sym (ap (λ s. s.fields) same)
 
 pub returns-then-eq-clause-fault : goal.returns-then-eq-clause-fault
 returns-then-eq-clause-fault g c = memory-stopped _ _ _ _
 
 pub returns-then-eq-clause-unchanged : goal.returns-then-eq-clause-unchanged
 returns-then-eq-clause-unchanged g c = λ _.
-    let refused = same_err _ _ c.decode_piece-answer.result faults.NoMemory (λ d. same_true the_type (search rules) d faults.NoMemory) c.if-eq.ensures in
+    let same = saved-restored c.args.collected.now c.decode_piece-answer.new.collected c.restore.new.self c.savepoint-savepoint.result c.savepoint-savepoint.ensures c.decode_piece-answer.ensures.grows c.restore.ensures in
     let was = ap (λ (r : RestChange). r.before) c.unchanged-change.ensures ∙ c.replace-before.ensures.value in
-    (c.decode_piece-answer.ensures.unchanged refused, c.give_up.ensures ∙ c.decode_piece-answer.ensures.before ∙ was, refl, refl)
+    (same, c.give_up.ensures ∙ c.decode_piece-answer.ensures.before ∙ was, refl, refl)
 
 pub has_copied-requires : goal.has_copied-requires
 has_copied-requires g c =
     let new = c.decode_piece-answer.new.collected in
     record { begins = ap (λ (fs : List _). take (length fs) new.fields) c.requires.copied ∙ grows-taken c.args.collected.now new c.decode_piece-answer.ensures.grows ∙ sym c.requires.copied }
 
-pub restore-requires : goal.restore-requires
-restore-requires g c =
+pub restore-requires-then-not-has_copied : goal.restore-requires-then-not-has_copied
+restore-requires-then-not-has_copied g c =
     record { size = saved-size c.args.collected.now c.decode_piece-answer.new.collected c.savepoint-savepoint.result c.savepoint-savepoint.ensures c.decode_piece-answer.ensures.grows }
 
 pub returns-then-not-has_copied-clause-copied : goal.returns-then-not-has_copied-clause-copied
 returns-then-not-has_copied-clause-copied g c =
-    let same = saved-restored c.args.collected.now c.decode_piece-answer.new.collected c.restore.new.self c.savepoint-savepoint.result c.savepoint-savepoint.ensures c.decode_piece-answer.ensures.grows c.restore.ensures in
+    let same = saved-restored c.args.collected.now c.decode_piece-answer.new.collected c.restore-then-not-has_copied.new.self c.savepoint-savepoint.result c.savepoint-savepoint.ensures c.decode_piece-answer.ensures.grows c.restore-then-not-has_copied.ensures in
     c.if-not-has_copied.ensures.refused refl ∙ c.requires.copied ∙ sym (ap (λ s. s.fields) same)
 
 pub returns-then-not-has_copied-clause-fault : goal.returns-then-not-has_copied-clause-fault
@@ -51,7 +53,7 @@ returns-then-not-has_copied-clause-fault g c = memory-stopped _ _ _ _
 
 pub returns-then-not-has_copied-clause-unchanged : goal.returns-then-not-has_copied-clause-unchanged
 returns-then-not-has_copied-clause-unchanged g c = λ _.
-    let same = saved-restored c.args.collected.now c.decode_piece-answer.new.collected c.restore.new.self c.savepoint-savepoint.result c.savepoint-savepoint.ensures c.decode_piece-answer.ensures.grows c.restore.ensures in
+    let same = saved-restored c.args.collected.now c.decode_piece-answer.new.collected c.restore-then-not-has_copied.new.self c.savepoint-savepoint.result c.savepoint-savepoint.ensures c.decode_piece-answer.ensures.grows c.restore-then-not-has_copied.ensures in
     let was = ap (λ (r : RestChange). r.before) c.unchanged-change.ensures ∙ c.replace-before.ensures.value in
     (same, c.give_up-then-not-has_copied.ensures ∙ c.decode_piece-answer.ensures.before ∙ was, refl, refl)
 

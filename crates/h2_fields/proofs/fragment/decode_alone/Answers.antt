@@ -1,22 +1,16 @@
-use Rattle.std.proofs.Common.{◌≡◌, ◌≤◌, ◌++◌, ℕ, List, [], Err, length, drop, ap, ◌∙◌, sym, subst, arith, length-drop}
-use Rattle.h2_spec.specs.Hpack.Block.{Decoded, FieldsSoFar, Unfinished, progress_with}
+use Rattle.std.proofs.Common.{◌≡◌, ◌≤◌, ◌++◌, ℕ, List, [], length, drop, ap, ◌∙◌, sym, subst, arith, length-drop}
+use Rattle.h2_spec.specs.Hpack.Block.{Decoded, Unfinished, progress_with}
 use Rattle.h2_spec.specs.Hpack.Instruction.{instr_at}
 use Rattle.h2_hpack_instruction.specs.Resume.{IsRest}
-use Rattle.h2_hpack_instruction.specs.declared.fault.BlockFault.TheVariants as faults
 use Rattle.h2_table.specs.Edits.{edited}
 use Rattle.h2_fields.specs.Rests.{RestChange}
-use Rattle.h2_fields.specs.declared.collected.Savepoint.{Savepoint}
 use Rattle.h2_fields.proofs.Counting.{ticked-alone}
-use Rattle.h2_fields.proofs.Outcomes.{no_fault, on_err, on_ok, same_fault}
-use Rattle.h2_fields.proofs.Stopping.{grows-restored, memory-stopped, none_dropped, none_taken, saved-restored, saved-size}
+use Rattle.h2_fields.proofs.Outcomes.{on_err, on_ok}
+use Rattle.h2_fields.proofs.Stopping.{memory-stopped, none_dropped, none_taken}
 use Rattle.h2_fields.proofs.fragment.decode_alone.Goals as goal
 
-pub attempt-requires-clause-point : goal.attempt-requires-clause-point
-attempt-requires-clause-point g c = c.start.ensures.anywhere c.args.piece.now
-
-pub restore-requires : goal.restore-requires
-restore-requires g c =
-    record { size = saved-size c.args.collected.now c.attempt.new.collected c.savepoint-before.result c.savepoint-before.ensures c.attempt.ensures.grows }
+pub decode-requires-clause-point : goal.decode-requires-clause-point
+decode-requires-clause-point g c = c.start.ensures.anywhere c.args.piece.now
 
 pub invariant_of-rest : goal.invariant_of-rest
 invariant_of-rest g c =
@@ -38,13 +32,8 @@ returns-then-is_err-clause-before g c =
 pub returns-then-is_err-clause-fault : goal.returns-then-is_err-clause-fault
 returns-then-is_err-clause-fault g c = memory-stopped _ _ _ _
 
-pub returns-then-is_err-clause-unchanged : goal.returns-then-is_err-clause-unchanged
-returns-then-is_err-clause-unchanged g c = λ _.
-    saved-restored c.args.collected.now c.attempt.new.collected c.restore.new.self c.savepoint-before.result c.savepoint-before.ensures c.attempt.ensures.grows c.restore.ensures
-
 pub returns-then-is_err-clause-grows : goal.returns-then-is_err-clause-grows
-returns-then-is_err-clause-grows g c =
-    grows-restored c.args.collected.now c.attempt.new.collected c.restore.new.self c.savepoint-before.result.count c.attempt.ensures.grows (ap (λ (m : Savepoint). m.count) c.savepoint-before.ensures) (ap (λ (s : FieldsSoFar). s.fields) c.restore.ensures)
+returns-then-is_err-clause-grows g c = c.decode.ensures.grows
 
 pub invariant_of-rest-in-Ok : goal.invariant_of-rest-in-Ok
 invariant_of-rest-in-Ok g c =
@@ -52,7 +41,7 @@ invariant_of-rest-in-Ok g c =
     let none : r.octets.items ≡ [] = ap (λ (r : RestChange). r.all) c.rest.view_is ∙ c.requires.empty in
     let now = on_ok c.append.result c.if-is_err.ensures.value c.append.ensures.ok ∙ ap (λ b. b ++ c.octets_from.result.now) none ∙ c.octets_from.ensures in (
       subst (λ b. IsRest b r.point) (none_taken r.kept r.octets.items none) c.rest.invariant.0,
-      subst (λ b. IsRest b c.attempt.new.next) (sym now) c.in-Ok.ensures.rest,
+      subst (λ b. IsRest b c.decode.new.next) (sym now) c.in-Ok.ensures.rest,
       omega arith,
     )
 
@@ -64,7 +53,7 @@ pub returns-else-is_err-clause-decoded : goal.returns-else-is_err-clause-decoded
 returns-else-is_err-clause-decoded g c =
     let none = ap (λ (r : RestChange). r.all) c.rest.view_is ∙ c.requires.empty in
     let now = on_ok c.append.result c.if-is_err.ensures.value c.append.ensures.ok ∙ ap (λ b. b ++ c.octets_from.result.now) none ∙ c.octets_from.ensures in
-    let end = λ (rest : List ℕ). let d : Decoded = record { progress = progress_with (edited c.args.table.now.table.entries c.attempt.new.edit) c.attempt.new.collected; outcome = Unfinished rest } in d in
+    let end = λ (rest : List ℕ). let d : Decoded = record { progress = progress_with (edited c.args.table.now.table.entries c.decode.new.edit) c.decode.new.collected; outcome = Unfinished rest } in d in
     c.in-Ok.ensures.used.1 ∙ ap end (sym now)
 
 pub returns-else-is_err-clause-cut : goal.returns-else-is_err-clause-cut
@@ -77,7 +66,7 @@ pub returns-else-is_err-clause-ticks : goal.returns-else-is_err-clause-ticks
 returns-else-is_err-clause-ticks g c =
     let none = ap (λ (r : RestChange). r.all) c.rest.view_is ∙ c.requires.empty in
     let now = on_ok c.append.result c.if-is_err.ensures.value c.append.ensures.ok ∙ ap (λ b. b ++ c.octets_from.result.now) none ∙ c.octets_from.ensures in
-    ticked-alone c.start.result.passed (length c.args.piece.now) c.in-Ok.used (length c.append.new.octets.items) c.attempt.new.ticks c.in-Ok.ensures.ticks
+    ticked-alone c.start.result.passed (length c.args.piece.now) c.in-Ok.used (length c.append.new.octets.items) c.decode.new.ticks c.in-Ok.ensures.ticks
     c.start.ensures.passed (omega (arith, ap length now, length-drop c.in-Ok.used c.args.piece.now, c.in-Ok.ensures.used.0))
 
 pub returns-in-Err-clause-before : goal.returns-in-Err-clause-before
@@ -87,14 +76,8 @@ returns-in-Err-clause-before g c =
 pub returns-in-Err-clause-fault : goal.returns-in-Err-clause-fault
 returns-in-Err-clause-fault g c = c.in-Err.ensures.fault
 
-pub returns-in-Err-clause-unchanged : goal.returns-in-Err-clause-unchanged
-returns-in-Err-clause-unchanged g c = λ e. c.in-Err.ensures.unchanged (ap Err (same_fault c.in-Err.fault faults.NoMemory e))
-
-pub returns-else-is_err-clause-unchanged : goal.returns-else-is_err-clause-unchanged
-returns-else-is_err-clause-unchanged g c = λ e. absurd (no_fault _ faults.NoMemory e)
-
 pub returns-else-is_err-clause-grows : goal.returns-else-is_err-clause-grows
-returns-else-is_err-clause-grows g c = c.attempt.ensures.grows
+returns-else-is_err-clause-grows g c = c.decode.ensures.grows
 
 pub returns-in-Err-clause-grows : goal.returns-in-Err-clause-grows
-returns-in-Err-clause-grows g c = c.attempt.ensures.grows
+returns-in-Err-clause-grows g c = c.decode.ensures.grows

@@ -1,15 +1,13 @@
-use Rattle.std.proofs.Common.{◌≡◌, ◌≤◌, ◌++◌, ℕ, List, Bool, true, false, Err, if◌then◌else◌, length, take, drop, refl, ap, sym, subst, ◌∙◌, arith, length-append, length-drop}
+use Rattle.std.proofs.Common.{◌≡◌, ◌≤◌, ◌++◌, ℕ, List, Bool, true, false, if◌then◌else◌, length, take, drop, refl, ap, sym, subst, ◌∙◌, arith, length-append, length-drop}
 use Rattle.std.proofs.Math.Seq.{take-append_seam, take-length}
 use Rattle.h2_spec.specs.Hpack.Block.{Decoded, Unfinished, decoded, progress_with}
 use Rattle.h2_spec.specs.Hpack.Instruction.{instr_at}
 use Rattle.h2_hpack_instruction.specs.Resume.{IsPoint, IsRest}
-use Rattle.h2_hpack_instruction.specs.declared.fault.BlockFault.TheVariants as faults
 use Rattle.h2_table.specs.Edits.{edited}
-use Rattle.h2_fields.specs.Applied.{IsStopped}
+use Rattle.h2_fields.specs.Applied.{IsStopped, progress_in}
 use Rattle.h2_fields.specs.Rests.{IsCounted, RestChange}
 use Rattle.h2_hpack_instruction.proofs.Resting.{point-stays}
 use Rattle.h2_fields.proofs.Counting.{ticked}
-use Rattle.h2_fields.proofs.Outcomes.{no_fault, same_fault}
 use Rattle.h2_fields.proofs.Stopping.{grows-start, memory-stopped}
 use Rattle.h2_fields.proofs.fragment.decode_behind.Goals as goal
 
@@ -50,14 +48,11 @@ returns-then-is_err-clause-before g c =
 pub returns-then-is_err-clause-fault : goal.returns-then-is_err-clause-fault
 returns-then-is_err-clause-fault g c = memory-stopped _ _ _ _
 
-pub returns-then-is_err-clause-unchanged : goal.returns-then-is_err-clause-unchanged
-returns-then-is_err-clause-unchanged g c = λ _. refl
-
 pub returns-then-is_err-clause-grows : goal.returns-then-is_err-clause-grows
 returns-then-is_err-clause-grows g c = grows-start c.args.collected.now
 
-pub attempt-requires-clause-point : goal.attempt-requires-clause-point
-attempt-requires-clause-point g c =
+pub decode-requires-clause-point : goal.decode-requires-clause-point
+decode-requires-clause-point g c =
     let old = c.rest.inside.octets.items in
     let piece = c.args.piece.now in
     let point = c.rest.inside.point in
@@ -67,8 +62,8 @@ attempt-requires-clause-point g c =
     let all = c.as_slice-all.ensures.value ∙ put _ old piece c.extend_from_slice.new.self.items c.extend_from_slice.ensures.items c.if-is_err.ensures.negation in
     subst (λ (b : List ℕ). IsPoint b point) (sym all) (point-stays old piece point is.point)
 
-pub attempt-requires-clause-passed : goal.attempt-requires-clause-passed
-attempt-requires-clause-passed g c =
+pub decode-requires-clause-passed : goal.decode-requires-clause-passed
+decode-requires-clause-passed g c =
     let old = c.rest.inside.octets.items in
     let piece = c.args.piece.now in
     let point = c.rest.inside.point in
@@ -87,7 +82,7 @@ invariant_of-rest-in-Ok g c =
     let whole = ap (λ (r : RestChange). r.before) c.rest.view_is ∙ left in
     let both = put _ old c.args.piece.now now c.extend_from_slice.ensures.items c.if-is_err.ensures.negation in (
       subst (λ b. IsRest b r.point) (sym (front c.len-rest-inside.result old c.args.piece.now now (c.len-rest-inside.ensures ∙ c.rest.inside.octets.ok.0) both)) (subst (λ b. IsRest b r.point) whole c.rest.invariant.0),
-      subst (λ b. IsRest (drop c.in-Ok.used b) c.attempt.new.next) c.as_slice-all.ensures.value c.in-Ok.ensures.rest,
+      subst (λ b. IsRest (drop c.in-Ok.used b) c.decode.new.next) c.as_slice-all.ensures.value c.in-Ok.ensures.rest,
       subst (λ b. c.in-Ok.used ≤ length b) c.as_slice-all.ensures.value c.in-Ok.ensures.used.0,
     )
 
@@ -102,7 +97,7 @@ invariant_of-rest-in-Err g c =
     let both = put _ old c.args.piece.now now c.extend_from_slice.ensures.items c.if-is_err.ensures.negation in
     let same = c.truncate.ensures.items ∙ front c.len-rest-inside.result old c.args.piece.now now (c.len-rest-inside.ensures ∙ c.rest.inside.octets.ok.0) both in (
       subst (λ b. IsRest b r.point) (sym (front-same c.len-rest-inside.result old cut (c.len-rest-inside.ensures ∙ c.rest.inside.octets.ok.0) same)) (subst (λ b. IsRest b r.point) whole c.rest.invariant.0),
-      subst (λ b. IsRest (drop r.used b) c.attempt.new.next) (sym same) (subst (IsRest (drop r.used old)) (sym c.in-Err.ensures.stays) c.rest.invariant.1),
+      subst (λ b. IsRest (drop r.used b) c.decode.new.next) (sym same) (subst (IsRest (drop r.used old)) (sym c.in-Err.ensures.stays) c.rest.invariant.1),
       subst (λ b. r.used ≤ length b) (sym same) c.rest.invariant.2,
     )
 
@@ -120,8 +115,8 @@ returns-in-Ok-clause-decoded g c =
     let now = c.extend_from_slice.new.self.items in
     let left : c.args.rest.now.before ≡ old = c.requires.fresh ∙ sym (ap (λ (r : RestChange). r.all) c.rest.view_is) in
     let all = c.as_slice-all.ensures.value ∙ put _ old piece now c.extend_from_slice.ensures.items c.if-is_err.ensures.negation ∙ ap (λ b. b ++ piece) (sym left) in
-    let start = decoded c.args.table.now.limit (progress_with c.args.table.now.table c.args.collected.now) in
-    let end = λ (b : List ℕ). let d : Decoded = record { progress = progress_with (edited c.args.table.now.table.entries c.attempt.new.edit) c.attempt.new.collected; outcome = Unfinished (drop c.in-Ok.used b) } in d in
+    let start = decoded c.args.table.now.limit (progress_in c.args.collected.now c.args.table.now c.args.edit.now) in
+    let end = λ (b : List ℕ). let d : Decoded = record { progress = progress_with (edited c.args.table.now.table.entries c.decode.new.edit) c.decode.new.collected; outcome = Unfinished (drop c.in-Ok.used b) } in d in
     ap start (sym all) ∙ c.in-Ok.ensures.used.1 ∙ ap end c.as_slice-all.ensures.value
 
 pub returns-in-Ok-clause-cut : goal.returns-in-Ok-clause-cut
@@ -139,14 +134,11 @@ returns-in-Ok-clause-ticks g c =
     let is = subst (λ b. IsRest b point) (ap (λ (r : RestChange). r.before) c.rest.view_is) c.rest.invariant.0 in
     let all = c.as_slice-all.ensures.value ∙ put _ old piece now c.extend_from_slice.ensures.items c.if-is_err.ensures.negation ∙ ap (λ b. b ++ piece) (sym left) in
     let total = ap length all ∙ length-append before piece in
-    ticked point.passed (length before) (length piece) used (length (drop used now)) c.attempt.new.ticks (subst (λ n. IsCounted point.passed n used 0 c.attempt.new.ticks) total c.in-Ok.ensures.ticks)
+    ticked point.passed (length before) (length piece) used (length (drop used now)) c.decode.new.ticks (subst (λ n. IsCounted point.passed n used 0 c.decode.new.ticks) total c.in-Ok.ensures.ticks)
     is.passed is.again (omega (arith, ap length c.as_slice-all.ensures.value, length-drop used now, c.in-Ok.ensures.used.0, total))
 
-pub returns-in-Ok-clause-unchanged : goal.returns-in-Ok-clause-unchanged
-returns-in-Ok-clause-unchanged g c = λ e. absurd (no_fault _ faults.NoMemory e)
-
 pub returns-in-Ok-clause-grows : goal.returns-in-Ok-clause-grows
-returns-in-Ok-clause-grows g c = c.attempt.ensures.grows
+returns-in-Ok-clause-grows g c = c.decode.ensures.grows
 
 pub returns-in-Err-clause-before : goal.returns-in-Err-clause-before
 returns-in-Err-clause-before g c =
@@ -163,11 +155,8 @@ returns-in-Err-clause-fault g c =
     let piece = c.args.piece.now in
     let left : c.args.rest.now.before ≡ old = c.requires.fresh ∙ sym (ap (λ (r : RestChange). r.all) c.rest.view_is) in
     let all = c.as_slice-all.ensures.value ∙ put _ old piece c.extend_from_slice.new.self.items c.extend_from_slice.ensures.items c.if-is_err.ensures.negation ∙ ap (λ b. b ++ piece) (sym left) in
-    let now = progress_with (edited c.args.table.now.table.entries c.attempt.new.edit) c.attempt.new.collected in
-    subst (λ b. IsStopped c.args.table.now.limit (progress_with c.args.table.now.table c.args.collected.now) b now c.in-Err.fault) all c.in-Err.ensures.fault
-
-pub returns-in-Err-clause-unchanged : goal.returns-in-Err-clause-unchanged
-returns-in-Err-clause-unchanged g c = λ e. c.in-Err.ensures.unchanged (ap Err (same_fault c.in-Err.fault faults.NoMemory e))
+    let now = progress_with (edited c.args.table.now.table.entries c.decode.new.edit) c.decode.new.collected in
+    subst (λ b. IsStopped c.args.table.now.limit (progress_in c.args.collected.now c.args.table.now c.args.edit.now) b now c.in-Err.fault) all c.in-Err.ensures.fault
 
 pub returns-in-Err-clause-grows : goal.returns-in-Err-clause-grows
-returns-in-Err-clause-grows g c = c.attempt.ensures.grows
+returns-in-Err-clause-grows g c = c.decode.ensures.grows
