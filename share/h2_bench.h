@@ -131,10 +131,11 @@ static inline int h2_bench_check(h2_bench_text *text, const char *cases) {
 
 /* ---- a connection */
 
-/* The limits and settings of the server; those that are 0 are the program's. */
+/* The limits and settings of the server (docs/FORMATS.md, Commands). Begin with those of the program: struct h2_bench_limits limits = H2_BENCH_LIMITS; */
 struct h2_bench_limits {
     uint32_t streams, credit, table, window, frame;
 };
+#define H2_BENCH_LIMITS {100, 32768, 4096, 65535, 16384}
 
 /* A connection is the octets so far: each call plays them from the first on, so feed what is there at once. */
 typedef struct h2_bench {
@@ -157,10 +158,6 @@ static inline void h2_bench_close(h2_bench *bench) {
     free(bench);
 }
 
-static inline size_t h2_bench_put_limit(char *to, const char *name, uint32_t value) {
-    return value ? (size_t)sprintf(to, "\n--%s=%lu", name, (unsigned long)value) : 0;
-}
-
 /* A connection of a server with these limits, or the program's where `limits` is null, and these answers, each METHOD|PATH|STATUS|BODYHEX on a line of its
  * own. Gives a null pointer where memory is refused; what is wrong with limits or answers is the fault of the first call. */
 static inline h2_bench *h2_bench_open(const struct h2_bench_limits *limits, const char *answers) {
@@ -171,13 +168,9 @@ static inline h2_bench *h2_bench_open(const struct h2_bench_limits *limits, cons
         h2_bench_close(bench);
         return NULL;
     }
-    if (limits) {
-        at += h2_bench_put_limit(bench->words + at, "streams", limits->streams);
-        at += h2_bench_put_limit(bench->words + at, "credit", limits->credit);
-        at += h2_bench_put_limit(bench->words + at, "table", limits->table);
-        at += h2_bench_put_limit(bench->words + at, "window", limits->window);
-        at += h2_bench_put_limit(bench->words + at, "frame", limits->frame);
-    }
+    if (limits)
+        at = (size_t)sprintf(bench->words, "\n--streams=%lu\n--credit=%lu\n--table=%lu\n--window=%lu\n--frame=%lu", (unsigned long)limits->streams, (unsigned long)limits->credit,
+            (unsigned long)limits->table, (unsigned long)limits->window, (unsigned long)limits->frame);
     at += (size_t)sprintf(bench->words + at, "\n--%s%s", *answers ? "\n" : "", answers);
     if (bench->words[at - 1] == '\n') bench->words[at - 1] = 0;
     return bench;
@@ -221,7 +214,10 @@ static inline const char *h2_bench_explain(h2_bench *bench, const char *options)
     size_t length = strlen(options) + 10;
     char *command = (char *)malloc(length);
     int done;
-    if (!command) return NULL;
+    if (!command) {
+        h2_bench_refuse(&bench->said, 0, "out of memory");
+        return NULL;
+    }
     snprintf(command, length, "explain%s%s", *options ? "\n" : "", options);
     done = h2_bench_with(bench, &bench->said, command);
     free(command);

@@ -1,16 +1,21 @@
 #!/usr/bin/env python3
 """The library for other languages beside the program: the same words, file and input print the same and end with the same status and sentence; octets in any cut; input that
-is refused; the examples of examples/embed. The last line is `N passed, M failed`.
+is refused; each allocation refused; threads; the names of the schema; the examples of examples/embed. The last line is `N passed, M failed`.
 
     embed.py LIBRARY PROGRAM
 """
 
 import ctypes
+import dataclasses
 import glob
+import json
 import os
 import random
+import shutil
 import subprocess
 import sys
+import tempfile
+import threading
 
 TOP = os.path.dirname(os.path.dirname(os.path.abspath(__file__)))
 LIBRARY, PROGRAM = map(os.path.realpath, sys.argv[1:])
@@ -119,6 +124,63 @@ def spaces():
         check(f"space for {room}", holds and out.raw == (wanted if fits else b"").ljust(99, b"\xaa"), (count, end.fault, out.raw))
 
 
+def memory():
+    """Each allocation refused in turn (embed_memory.c): each line is as with ample memory, or says that memory was refused, and the process goes on to its end."""
+    if not shutil.which("cc"):
+        print("embed.py: no C compiler: no allocation was refused")
+        return
+    with tempfile.TemporaryDirectory() as room:
+        subprocess.run(["cc", "-shared", "-fPIC", "-fno-builtin", "-w", "tests/refuse.c", "-o", f"{room}/refuse.so"], check=True)
+        subprocess.run(["cc", "-Ishare", "tests/embed_memory.c", LIBRARY, f"-Wl,-rpath,{os.path.dirname(LIBRARY)}", "-o", f"{room}/calls"], check=True)
+
+        def run(number):
+            how = {**os.environ, "REFUSED_CALL": str(number), "LD_PRELOAD": f"{room}/refuse.so"}
+            ran = subprocess.run(["sh", "-c", f"exec {room}/calls 9>{room}/refused"], capture_output=True, text=True, env=how, check=False)
+            return ran.returncode, ran.stdout.splitlines(), os.path.getsize(f"{room}/refused")
+
+        number, wanted = 1, run(0)[1]
+        check("calls with ample memory", [line.split()[0] for line in wanted if "fault" not in line.split()[1]].count("item") == 6, wanted)
+        while True:
+            status, lines, refused = run(number)
+            lines = [line for line in lines if line not in wanted]
+            check(f"allocation {number} refused", status == 0 and all(line.endswith((": fault 0 out of memory", ": fault 0 ", ": no memory")) for line in lines), (status, lines))
+            if not refused:
+                break
+            number += 1
+        print(f"{number} allocations refused")
+
+
+def threads():
+    """Four threads at once get what one gets."""
+    wanted, found = h2_bench.disassemble(h2_bench.assemble("PREFACE\nSETTINGS 00 0 -\n") + bytes(900)), []
+
+    def work():
+        found.extend(h2_bench.disassemble(h2_bench.assemble(wanted)) for _ in range(100))
+
+    several = [threading.Thread(target=work) for _ in range(4)]
+    for it in several:
+        it.start()
+    for it in several:
+        it.join()
+    check("four threads", found == [wanted] * 400, len(found))
+
+
+def names():
+    """Each class has the members of its object of the schema; those that are always there have no default."""
+    with open("docs/explain.schema.json", encoding="utf-8") as file:
+        objects = json.load(file)["$defs"]
+    objects = {**objects, "warned": objects["warning"], "end": objects["end"]["properties"]["end"], "counted": objects["verdict"]["properties"]["errors"]["items"]}
+    objects |= {f"{name}left": objects["wait"]["properties"][name]["oneOf"][1] for name in ("answer", "request")}
+    objects["change"] = {"properties": {name: it for one in objects["change"]["oneOf"] for name, it in one["properties"].items()}, "required": ["stream", "what"]}
+    for name in h2_bench.__all__:
+        kind = getattr(h2_bench, name)
+        if dataclasses.is_dataclass(kind):
+            it, missing = objects[name.lower()], dataclasses.MISSING
+            wanted = {member: member in it.get("required", []) for member in it["properties"] if name != "Item" or member not in ("connection", "time")}
+            found = {member.name: member.default is missing for member in dataclasses.fields(kind) if member.name != "json"}
+            check(f"the members of {name}", found == wanted, set(found.items()) ^ set(wanted.items()))
+
+
 def examples():
     """The examples, as far as their compilers are here."""
     ran = subprocess.run(["examples/embed/run.sh", LIBRARY], capture_output=True, text=True, check=False)
@@ -134,9 +196,12 @@ def examples():
 
 
 os.chdir(TOP)
+names()
 cuts(whole_runs())
 refused()
 spaces()
+memory()
+threads()
 examples()
 print(f"{passed} passed, {failed} failed")
 sys.exit(1 if failed else 0)

@@ -15,10 +15,13 @@ import ctypes
 import json
 import os
 import threading
-from dataclasses import dataclass, field, fields
-from typing import Any, Iterable, Mapping, NamedTuple, Optional, Sequence, Union
+from dataclasses import MISSING, dataclass, field, fields, is_dataclass
+from typing import Any, Iterable, Mapping, NamedTuple, Optional, Sequence, Union, get_args, get_origin, get_type_hints
 
-__all__ = ["Code", "Connection", "End", "Entry", "Error", "Fault", "Field", "Frame", "Ignored", "Item", "Ran", "Sent", "Warned", "assemble", "check", "disassemble", "explain", "run"]
+__all__ = [
+    "Accepted", "Allowed", "AnswerLeft", "Change", "Code", "Connection", "Counted", "End", "Entry", "Error", "Fault", "Field", "Frame", "Ignored", "Item", "Payload", "Ran",
+    "Reactions", "RequestLeft", "Sent", "Setting", "Spelling", "Verdict", "Wait", "Warned", "assemble", "check", "disassemble", "explain", "run",
+]
 
 VERSION = 1  # of what the library takes and gives; that of the JSON is Item.version of item 0
 
@@ -39,7 +42,7 @@ class Ran(NamedTuple):
     sentence: str
 
 
-# ---- what an item is: the members of docs/explain.schema.json. Those that are texts or numbers there are so here; `octets` are bytes, cut where `full` is off.
+# ---- what an item is: the objects of docs/explain.schema.json, with its names. Octets are bytes here, cut where `full` is off; a list is a tuple.
 
 
 @dataclass(frozen=True)
@@ -63,21 +66,60 @@ class Frame:
 
 
 @dataclass(frozen=True)
+class Setting:
+    """A setting of SETTINGS; `registered` is the name of one that the server does not use."""
+
+    id: int
+    name: str
+    value: int
+    registered: Optional[str] = None
+
+
+@dataclass(frozen=True)
+class Payload:
+    """The parts of a frame's payload: those that its type has."""
+
+    code: Optional[Code] = None
+    content: Optional[bytes] = None
+    debug: Optional[bytes] = None
+    dependency: Optional[int] = None
+    exclusive: Optional[bool] = None
+    fragment: Optional[bytes] = None
+    increment: Optional[int] = None
+    last_stream: Optional[int] = None
+    octets: Optional[bytes] = None
+    padding: Optional[int] = None
+    settings: Optional[tuple[Setting, ...]] = None
+    weight: Optional[int] = None
+
+
+@dataclass(frozen=True)
+class Spelling:
+    """How a field was written (RFC 7541, 6)."""
+
+    kind: str
+    index: Optional[int] = None
+    name_huffman: Optional[bool] = None
+    name_index: Optional[int] = None
+    value_huffman: Optional[bool] = None
+
+
+@dataclass(frozen=True)
 class Field:
-    """A field of a block: `spelling` says how it was written (RFC 7541, 6)."""
+    """A field of a block."""
 
     name: bytes
+    spelling: Spelling
     value: bytes
-    spelling: Mapping[str, Any]
 
 
 @dataclass(frozen=True)
 class Entry:
-    """What became of an entry of the client's header table: `what` is `added` or `evicted`."""
+    """What became of an entry of the client's header table: `what` is `entered` or `evicted`, `octets` its size."""
 
     name: bytes
-    value: bytes
     octets: int
+    value: bytes
     what: str
 
 
@@ -87,9 +129,29 @@ class Sent:
 
     frame: Frame
     octets: bytes
-    payload: Mapping[str, Any]
+    payload: Payload
     words: str
     fields: tuple[Field, ...] = ()
+
+
+@dataclass(frozen=True)
+class Reactions:
+    """Codes of a connection error and of a stream error, and other reactions."""
+
+    connection: tuple[str, ...]
+    other: tuple[str, ...]
+    stream: tuple[str, ...]
+
+
+@dataclass(frozen=True)
+class Allowed:
+    """What a server may do by a rule: `least` it has to; `open` is what one sentence of the RFC speaks for and another against."""
+
+    connection: tuple[str, ...]
+    least: str
+    open: Reactions
+    other: tuple[str, ...]
+    stream: tuple[str, ...]
 
 
 @dataclass(frozen=True)
@@ -104,6 +166,7 @@ class Error:
     section: str
     sentence: str
     server: str
+    allowed: Optional[Allowed] = None
     also: tuple[str, ...] = ()
     case: Optional[str] = None
 
@@ -118,7 +181,21 @@ class Ignored:
     section: str
     sentence: str
     server: str
+    allowed: Optional[Allowed] = None
     case: Optional[str] = None
+
+
+@dataclass(frozen=True)
+class Accepted:
+    """A rule by which an item is accepted that another server may refuse; the members are as of an error."""
+
+    allowed: Allowed
+    client: str
+    client_section: str
+    name: str
+    section: str
+    sentence: str
+    server: str
 
 
 @dataclass(frozen=True)
@@ -131,20 +208,39 @@ class Warned:
 
 
 @dataclass(frozen=True)
+class Change:
+    """What an item changed, of a stream or, with `stream` 0, of the connection: the members that such a change has. A limit that is not there is None."""
+
+    stream: int
+    what: str
+    after: Union[int, bool, str, None] = None
+    before: Union[int, bool, str, None] = None
+    connection_window: Optional[int] = None
+    content_length: Optional[int] = None
+    end_stream: Optional[bool] = None
+    list_size: Optional[int] = None
+    octets: Optional[int] = None
+    receive_window: Optional[int] = None
+    send_window: Optional[int] = None
+    stream_window: Optional[int] = None
+
+
+@dataclass(frozen=True)
 class Item:
-    """An item of the client: the preface, a frame; item 0 is the server's opening. `json` is the object that it was read from, with all of its members."""
+    """An item of the client: the preface, a frame; item 0 is the server's opening. `json` is the object that it was read from."""
 
     item: int
     octets: bytes
     offset: int
     sent: tuple[Sent, ...]
     words: str
-    changes: tuple[Mapping[str, Any], ...] = ()
+    accepted: tuple[Accepted, ...] = ()
+    changes: tuple[Change, ...] = ()
     error: Optional[Error] = None
     fields: tuple[Field, ...] = ()
     frame: Optional[Frame] = None
     ignored: Optional[Ignored] = None
-    payload: Optional[Mapping[str, Any]] = None
+    payload: Optional[Payload] = None
     table: tuple[Entry, ...] = ()
     table_updates: tuple[int, ...] = ()
     version: Optional[int] = None
@@ -153,17 +249,68 @@ class Item:
 
 
 @dataclass(frozen=True)
-class End:
-    """What is after the last item: `octets` of no whole item, at `offset`. `code` is that of the connection error that ended the connection, if one did.
-    `verdict` is what `--strict` says of the client, `waits` what each live stream waits for."""
+class Counted:
+    """How often a cause was an error."""
 
+    cause: str
+    count: int
+
+
+@dataclass(frozen=True)
+class Verdict:
+    """What `--strict` says of the client: `broken`, `limited` and `unfinished` are the statuses 5, 6 and 7."""
+
+    broken: bool
+    errors: tuple[Counted, ...]
+    limited: bool
+    unfinished: bool
+    warnings: int
+
+
+@dataclass(frozen=True)
+class RequestLeft:
+    """What the client may still send of a request; `missing` are the octets that its content-length says, else None."""
+
+    connection_window: int
+    missing: Optional[int]
+    owed: int
+    returned_at: int
+    window: int
+
+
+@dataclass(frozen=True)
+class AnswerLeft:
+    """What the server has still to send of an answer, and the windows for it."""
+
+    connection_window: int
+    remaining: int
+    window: int
+
+
+@dataclass(frozen=True)
+class Wait:
+    """What a live stream waits for."""
+
+    answer: Optional[AnswerLeft]
+    request: Optional[RequestLeft]
+    stream: int
+
+
+@dataclass(frozen=True)
+class End:
+    """What is after the last item: how many `octets` of no whole item, at `offset`. `code` is that of the connection error that ended the connection, if one did;
+    else the next item `needs` so many octets."""
+
+    ended: bool
     items: int
     octets: int
     offset: int
-    ended: bool
+    at_least: Optional[bool] = None
     code: Optional[int] = None
-    verdict: Optional[Mapping[str, Any]] = None
-    waits: tuple[Mapping[str, Any], ...] = ()
+    frame: Optional[Frame] = None
+    needs: Optional[int] = None
+    verdict: Optional[Verdict] = None
+    waits: tuple[Wait, ...] = ()
     warnings: tuple[Warned, ...] = ()
     json: Mapping[str, Any] = field(default_factory=dict, repr=False, compare=False)
 
@@ -172,44 +319,47 @@ def _octets(found: Mapping[str, Any]) -> bytes:
     return bytes.fromhex(found["hex"])
 
 
-def _many(read: Any) -> Any:
-    return lambda found: tuple(map(read, found))
+def _reader(kind: Any) -> Any:
+    """What makes a value of this type of one of JSON; None where it is one already."""
+    parts = get_args(kind)
+    if get_origin(kind) is tuple:
+        each = _reader(parts[0])
+        return (lambda found: tuple(map(each, found))) if each else tuple
+    if get_origin(kind) is Union:
+        return _reader(parts[0])
+    if is_dataclass(kind):
+        return lambda found: _read(kind, found)
+    return _octets if kind is bytes else None
 
 
-# How the members of an object are read: those that are not here are taken as they are.
-_READ: dict[type, dict[str, Any]] = {}
-_NAMES: dict[type, frozenset[str]] = {}
+# By the class its defaults, and what reads those members that are more than a text or a number.
+_FORMS: dict[type, tuple[dict[str, Any], list[tuple[str, Any]]]] = {}
 
 
-def _read(kind: type, found: Mapping[str, Any]) -> Any:
-    """An object of JSON as a dataclass. Members that it does not have are left out, since later versions may add some."""
-    how, names = _READ[kind], _NAMES[kind]
-    return kind(**{name: how[name](value) if name in how else value for name, value in found.items() if name in names})
+def _form(kind: Any) -> Any:
+    readers = [(name, _reader(it)) for name, it in get_type_hints(kind).items() if name != "json"]
+    return {it.name: it.default for it in fields(kind) if it.default is not MISSING}, [it for it in readers if it[1]]
 
 
-def _reads(kind: type) -> Any:
-    return lambda found: _read(kind, found)
-
-
-def _with_json(kind: type, found: Mapping[str, Any]) -> Any:
-    made = _read(kind, found)
-    object.__setattr__(made, "json", found)
+def _read(kind: Any, found: Mapping[str, Any]) -> Any:
+    """An object of JSON as a dataclass, in a third of the time of its `__init__`."""
+    if kind not in _FORMS:
+        _FORMS[kind] = _form(kind)
+    defaults, readers = _FORMS[kind]
+    given = {**defaults, **found}
+    for name, reader in readers:
+        if found.get(name) is not None:
+            given[name] = reader(found[name])
+    made = object.__new__(kind)
+    object.__setattr__(made, "__dict__", given)
     return made
 
 
-_READ.update({
-    Code: {}, Frame: {}, Ignored: {}, Warned: {},
-    Field: {"name": _octets, "value": _octets},
-    Entry: {"name": _octets, "value": _octets},
-    Sent: {"frame": _reads(Frame), "octets": _octets, "fields": _many(_reads(Field))},
-    Error: {"code": _reads(Code), "also": tuple},
-    Item: {
-        "octets": _octets, "sent": _many(_reads(Sent)), "changes": tuple, "error": _reads(Error), "fields": _many(_reads(Field)), "frame": _reads(Frame),
-        "ignored": _reads(Ignored), "table": _many(_reads(Entry)), "table_updates": tuple, "warnings": _many(_reads(Warned)),
-    },
-    End: {"waits": tuple, "warnings": _many(_reads(Warned))},
-})
-_NAMES.update({kind: frozenset(it.name for it in fields(kind)) - {"json"} for kind in _READ})
+def _with_json(kind: Any, found: Mapping[str, Any]) -> Any:
+    made = _read(kind, found)
+    made.__dict__["json"] = found
+    return made
+
 
 # ---- the library
 

@@ -1,7 +1,7 @@
 //! How a call ended, as numbers. Definitions: `specs/Embed.antt`.
 
 ghost use Rattle.std.specs.Prelude.{◌≡◌};
-ghost use Rattle.h2_embed.specs.Embed.{number};
+ghost use Rattle.h2_embed.specs.Embed.{number, refused};
 
 /// Why a command was not carried out, or what it printed is not given.
 #[derive(Clone, Copy)]
@@ -43,7 +43,7 @@ pub struct RunEnd {
 
 /// The end of a call that carried out no command.
 pub(crate) fn refused(fault: RunFault) -> RunEnd
-    ensures { result.fault ≡ number fault }
+    ensures { result ≡ refused fault }
 {
     RunEnd {
         fault: fault.number(),

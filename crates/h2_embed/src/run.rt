@@ -1,23 +1,44 @@
 //! A command over memory. Definitions: `specs/Embed.antt`.
 
-ghost use Rattle.std.specs.Prelude.{◌≡◌, ◌≤◌, length, IfOk, IfErr};
+ghost use Rattle.std.specs.Prelude.{◌≡◌, ◌≤◌, length, take, drop, IfOk, IfErr};
 ghost use Rattle.h2_cmd_run.specs.Memory.{printed_in};
-ghost use Rattle.h2_embed.specs.Embed.{Gives, IsRefusedFor, RunsAs, RunsSaid, one_file, words_said};
+ghost use Rattle.h2_embed.specs.Embed.{Gives, IsRefusedFor, IsSentence, RunsAs, RunsSaid, may_refuse, one_file, words_said};
 
 use crate::fault::{RunEnd, RunFault, refused};
 use crate::put::put_printed;
-use crate::sentence::sentence_of;
+use crate::sentence::second_look;
 use crate::words::{WordsFault, words_in};
 use h2_cmd_args::Words;
 use h2_cmd_run::{Ran, run_in_memory};
 use std::alloc::{AllocError, Global};
 use std::str;
 
-/// What a command printed, and the sentence about it.
+/// What a command printed, and the sentence of a second look at its words.
 #[derive(Drop)]
 struct Said {
     ran: Ran,
-    sentence: String,
+    second_look: String,
+}
+
+/// Whether a status says that something may have been refused.
+fn may_refuse(status: u8) -> bool
+    ensures { result ≡ may_refuse status }
+{
+    status == 1 || status == 2
+}
+
+/// The sentence about a command: the one that it said itself, else that of the second look; none where nothing was refused.
+fn sentence_in(said: &Said) -> &[u8]
+    ensures { IsSentence said.now.ran.status result.now }
+{
+    if !may_refuse(said.ran.status) {
+        return &[];
+    }
+    if said.ran.reason.is_empty() {
+        said.second_look.as_bytes()
+    } else {
+        said.ran.reason.as_slice()
+    }
 }
 
 /// Carries out the command of these words.
@@ -34,8 +55,8 @@ fn run_words(
         Ok(ran) => ran,
         Err(error) => return Err(error),
     };
-    match sentence_of(alloc, words, input, &ran) {
-        Ok(sentence) => Ok(Said { ran, sentence }),
+    match second_look(alloc, words, input, &ran) {
+        Ok(second_look) => Ok(Said { ran, second_look }),
         Err(error) => Err(error),
     }
 }
@@ -81,10 +102,11 @@ pub extern "C" fn h2_bench_run(
     end: &mut RunEnd,
 ) -> usize
     ensures within { result ≤ length out.new }
-    ensures given { Gives words.now name.now file.now input.now out.new end.new }
+    ensures given { Gives words.now name.now file.now input.now (length out.old) (take result out.new) end.new }
+    ensures rest { drop result out.new ≡ drop result out.old }
 {
     match run_lines(alloc, words, name, file, input) {
-        Ok(said) => put_printed(&said.ran, said.sentence.as_bytes(), out, end),
+        Ok(said) => put_printed(&said.ran, sentence_in(&said), out, end),
         Err(fault) => {
             *end = refused(fault);
             0

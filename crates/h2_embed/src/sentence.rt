@@ -28,7 +28,7 @@ fn say(alloc: Global, words: &Words, input: &[u8], status: u8, out: &mut TextBui
 }
 
 /// The sentence about a command that was refused something, where it has not said one; empty where nothing was.
-pub(crate) fn sentence_of(
+pub(crate) fn second_look(
     alloc: Global,
     words: &Words,
     input: &[u8],
