@@ -14,7 +14,7 @@ use h2_spec::causes::Cause;
 use h2_spec::streams::{Stream, StreamState};
 use std::alloc::{AllocError, Allocator};
 
-// The fields of a block say nothing of an item that is ignored, and a client may send many of these behind a long block.
+// The fields of a block say nothing of an item that is ignored, and a client may send many of these after a long block.
 /// What decides whether the rule of an item is a special case.
 pub fn facts_of<A: Allocator + Copy>(context: ErrorContext<'_, '_, A>) -> CaseFacts {
     let fields = context.reader.fields();
