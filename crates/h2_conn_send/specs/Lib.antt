@@ -3,3 +3,4 @@ pub mod Moves
 pub mod Prepared
 pub mod Sending
 pub mod Short
+pub mod Writes

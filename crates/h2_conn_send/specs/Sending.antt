@@ -1,5 +1,5 @@
 -- What a change and the sending after it result in.
-use Rattle.std.specs.Prelude.{◌≡◌, ◌≤◌, ℕ, false, List, ◌++◌, ◌-◌, pos, ◌-ℤ◌, IfOk, OnOk, Result, length, take}
+use Rattle.std.specs.Prelude.{◌≡◌, ◌≤◌, ℕ, false, List, ◌++◌, ◌-◌, pos, ◌-ℤ◌, IfOk, OnErr, OnOk, Result, length, take}
 use Rattle.std.specs.List.{AllByRecursion}
 use Rattle.h2_spec.specs.declared.connection.ConnectionState.{ConnectionState}
 use Rattle.h2_spec.specs.declared.connection.Phase.{Phase}
@@ -83,12 +83,13 @@ pub record CanSend (book : List Entry) (r : Records) (record_update : RecordUpda
   pub bodies : AllByRecursion (HasBody book) (updated_streams record_update r.streams)
 
 -- these records send what a window lets pass, in frames of this size: how many octets, the frames after what was in out,
--- and the records after it; or, where memory is refused, a part of the frames
-pub record Sends {E : Type 0} (book : List Entry) (size window : ℕ) (r : Records) (out : List ℕ) (result : Result ℕ E) (now : Records) (out' : List ℕ) : Type 0 where
+-- and the records after it; or, where memory is refused, a part of the frames, and the records as they were before
+pub record Sends {E : Type 0} (book : List Entry) (size window : ℕ) (before r : Records) (out : List ℕ) (result : Result ℕ E) (now : Records) (out' : List ℕ) : Type 0 where
   pub count : IfOk result (λ count. (count ≡ window - window_left window r.streams) × (count ≤ window))
   pub sent : OnOk result (out' ≡ out ++ frames_octets (sent_frames book size window r.streams))
   pub records : OnOk result (now ≡ sent_records window r)
   pub kept : take (length out) out' ≡ out
+  pub err : OnErr result (now ≡ before)
 
 -- a change is sent, and the pending output after it: how many octets of the send window it takes, the frames after what
 -- was in out, and the records after it

@@ -1,8 +1,9 @@
 //! What is sent before anything is read: SETTINGS with the server's limits and settings (RFC 9113, 3.4 and 6.5.2).
 //! Definition: h2_spec's `specs/Opening.antt`.
 
-ghost use Rattle.std.specs.Prelude.{◌≡◌, ◌++◌, IfOk, OnOk, OnErr};
+ghost use Rattle.std.specs.Prelude.{◌≡◌, ◌++◌, IfOk, OnOk};
 ghost use Rattle.h2_spec.specs.Opening.{opening_octets, opening_payload, setting, setting_unless};
+ghost use Rattle.h2_conn_send.specs.Writes.{Writes};
 
 use h2_conn_rules::headers::MAX_LIST;
 use h2_frame::{Outgoing, append_frame};
@@ -76,8 +77,7 @@ pub fn write_opening<'b, A: Allocator + Copy, O: Outgoing<'b, A>>(
     config: Config,
     out: &mut O,
 ) -> Result<(), AllocError>
-    ensures ok { OnOk result (O.octets out.new ≡ O.octets out.old ++ opening_octets config) }
-    ensures no_memory { OnErr result (O.octets out.new ≡ O.octets out.old) }
+    ensures { Writes (opening_octets config) (O.octets out.old) result (O.octets out.new) }
 {
     let payload = opening_payload(*out.memory(), config)?;
     append_frame(SETTINGS, 0, 0, payload.as_slice(), &[], out)

@@ -6,6 +6,7 @@ ghost use Rattle.h2_spec.specs.Frames.Frame.{frames_octets};
 ghost use Rattle.h2_spec.specs.SendPending as rule;
 ghost use Rattle.h2_spec.specs.Stream.{octets_waiting};
 ghost use Rattle.h2_conn_send.specs.Prepared.{content, IsData};
+ghost use Rattle.h2_conn_send.specs.Writes.{WritesInPart};
 
 use crate::write::write_prepared;
 use h2_frame::{Outgoing, lend_frame};
@@ -30,10 +31,9 @@ pub fn write_allowance<'b, A: Allocator, O: Outgoing<'b, A>>(
     requires waits { allowance ≤ octets_waiting stream.now }
     requires made { IsData prepared.now }
     requires left { octets_waiting stream.now ≤ length (content prepared.now) }
-    ensures ok { OnOk result (O.octets out.new ≡ O.octets out.old ++ frames_octets
-        (rule.data_frames stream.now.id (octets_waiting stream.now == allowance) size
-        (take allowance (drop (length (content prepared.now) - octets_waiting stream.now) (content prepared.now))))) }
-    ensures kept { take (length (O.octets out.old)) (O.octets out.new) ≡ O.octets out.old }
+    ensures { WritesInPart (frames_octets (rule.data_frames stream.now.id (octets_waiting stream.now == allowance) size
+        (take allowance (drop (length (content prepared.now) - octets_waiting stream.now) (content prepared.now)))))
+        (O.octets out.old) result (O.octets out.new) }
 {
     let body = octets_from(prepared, 9);
     if allowance as usize == body.len() && body.len() <= size {
@@ -63,8 +63,7 @@ fn write_pieces<'b, A: Allocator, O: Outgoing<'b, A>>(
 ) -> Result<(), AllocError>
     requires size { (0 < size) × (size < 2 ^ 24) }
     requires some { 0 < length octets.now }
-    ensures ok { OnOk result (O.octets out.new ≡ O.octets out.old ++ frames_octets (rule.data_frames id ends size octets.now)) }
-    ensures kept { take (length (O.octets out.old)) (O.octets out.new) ≡ O.octets out.old }
+    ensures { WritesInPart (frames_octets (rule.data_frames id ends size octets.now)) (O.octets out.old) result (O.octets out.new) }
 {
     let mut at = 0;
     while octets.len() - at > size {

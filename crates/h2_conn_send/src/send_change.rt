@@ -10,6 +10,7 @@ ghost use Rattle.h2_spec.specs.Window.{sendable};
 ghost use Rattle.h2_conn_send.specs.Sending as sending;
 ghost use Rattle.h2_conn_send.specs.Sending.{CanSend, SendsChange};
 ghost use Rattle.h2_conn_send.specs.Short.{AreShort, IsShortFrame};
+ghost use Rattle.h2_conn_send.specs.Writes.{Writes, WritesInPart};
 
 use crate::send_pending::{sendable, without};
 use crate::send_update::update_and_send;
@@ -30,9 +31,8 @@ fn write_answer<'b, A: Allocator, O: Outgoing<'b, A>>(
     answer: Option<AnswerStart>,
     out: &mut O,
 ) -> Result<(), AllocError>
-    ensures ok { OnOk result (O.octets out.new ≡ O.octets out.old ++ frames_octets (changes.answer_frames book.now answer)) }
+    ensures written { Writes (frames_octets (changes.answer_frames book.now answer)) (O.octets out.old) result (O.octets out.new) }
     ensures short { OnOk result (AreShort (changes.answer_frames book.now answer)) }
-    ensures err { OnErr result (O.octets out.new ≡ O.octets out.old) }
 {
     match answer {
         None => Ok(()),
@@ -47,10 +47,9 @@ fn write_headers<'b, A: Allocator, O: Outgoing<'b, A>>(
     answer: AnswerStart,
     out: &mut O,
 ) -> Result<(), AllocError>
-    ensures ok { OnOk result (O.octets out.new ≡ O.octets out.old ++ frame_octets
-        (changes.response answer.size_update_pending answer.id (picked book.now answer.pick))) }
+    ensures written { Writes (frame_octets (changes.response answer.size_update_pending answer.id (picked book.now answer.pick)))
+        (O.octets out.old) result (O.octets out.new) }
     ensures short { IsShortFrame (changes.response answer.size_update_pending answer.id (picked book.now answer.pick)) }
-    ensures err { OnErr result (O.octets out.new ≡ O.octets out.old) }
 {
     let headers = book.headers(answer.pick);
     if answer.size_update_pending {
@@ -77,9 +76,8 @@ fn write_change<'b, A: Allocator, O: Outgoing<'b, A>>(
     change: &Change,
     out: &mut O,
 ) -> Result<(), AllocError>
-    ensures ok { OnOk result (O.octets out.new ≡ O.octets out.old ++ frames_octets (changes.frames_of book.now change.now)) }
+    ensures written { WritesInPart (frames_octets (changes.frames_of book.now change.now)) (O.octets out.old) result (O.octets out.new) }
     ensures short { OnOk result (AreShort (changes.frames_of book.now change.now)) }
-    ensures kept { take (length (O.octets out.old)) (O.octets out.new) ≡ O.octets out.old }
 {
     write_connection_frame(change.connection_frame, out)?;
     write_stream_frame(change.stream_frame, out)?;

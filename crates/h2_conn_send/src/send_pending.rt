@@ -2,13 +2,14 @@
 //! First the frames are written, and then the shares are taken, which takes no memory. Definition: h2_spec's
 //! `specs/SendPending.antt`.
 
-ghost use Rattle.std.specs.Prelude.{◌≡◌, ◌<◌, ◌≤◌, ◌++◌, find, length, IfOk, IfSome, IsTrue, OnErr, OnOk, take, ◌^◌, pos, ◌-ℤ◌, ◌≤ℤ◌};
+ghost use Rattle.std.specs.Prelude.{◌≡◌, ◌<◌, ◌≤◌, ◌++◌, find, length, IfOk, IfSome, IsTrue, ◌^◌, pos, ◌-ℤ◌, ◌≤ℤ◌};
 ghost use Rattle.std.specs.List.{AllByRecursion};
 ghost use Rattle.h2_spec.specs.Frames.Frame.{frames_octets};
 ghost use Rattle.h2_spec.specs.SendPending as rule;
 ghost use Rattle.h2_spec.specs.Stream.{octets_waiting, put, AreRising};
 ghost use Rattle.h2_conn_send.specs.Above.{IsWaiting};
 ghost use Rattle.h2_conn_send.specs.Sending.{NoneSends, Sends};
+ghost use Rattle.h2_conn_send.specs.Writes.{WritesInPart};
 ghost use Rattle.h2_conn_rules.specs.Sound.{HasBody};
 ghost use Rattle.h2_spec.specs.Window.{sendable};
 ghost use Rattle.h2_streams.specs.Kept.{ready_above};
@@ -42,8 +43,7 @@ pub fn send_ready<'b, A: Allocator, O: Outgoing<'b, A>>(
 ) -> Result<u64, AllocError>
     requires size { (0 < size) × (size < 2 ^ 24) }
     requires bodies { AllByRecursion (HasBody book.now) streams.old.streams }
-    ensures sends { Sends book.now size window streams.old (O.octets out.old) result streams.new (O.octets out.new) }
-    ensures err { OnErr result (streams.new ≡ streams.old) }
+    ensures { Sends book.now size window streams.old streams.old (O.octets out.old) result streams.new (O.octets out.new) }
 {
     if none_sends(streams, window) {
         return Ok(0);
@@ -63,8 +63,7 @@ fn write_ready<'b, A: Allocator, O: Outgoing<'b, A>>(
 ) -> Result<(), AllocError>
     requires size { (0 < size) × (size < 2 ^ 24) }
     requires bodies { AllByRecursion (HasBody book.now) streams.now.streams }
-    ensures ok { OnOk result (O.octets out.new ≡ O.octets out.old ++ frames_octets (rule.sent_frames book.now size window streams.now.streams)) }
-    ensures kept { take (length (O.octets out.old)) (O.octets out.new) ≡ O.octets out.old }
+    ensures { WritesInPart (frames_octets (rule.sent_frames book.now size window streams.now.streams)) (O.octets out.old) result (O.octets out.new) }
 {
     let _last = streams.last();
     let mut after = 0;
@@ -103,9 +102,8 @@ pub fn write_next<'b, A: Allocator, O: Outgoing<'b, A>>(
     requires size { (0 < size) × (size < 2 ^ 24) }
     requires body { HasBody book.now stream.now }
     ensures allowance { IfOk result (λ allowance. (allowance ≡ rule.allowance window stream.now) × (allowance ≤ window)) }
-    ensures ok { OnOk result (O.octets out.new ≡ O.octets out.old ++ frames_octets
-        (rule.allowance_frames book.now size (rule.allowance window stream.now) stream.now)) }
-    ensures kept { take (length (O.octets out.old)) (O.octets out.new) ≡ O.octets out.old }
+    ensures written { WritesInPart (frames_octets (rule.allowance_frames book.now size (rule.allowance window stream.now) stream.now))
+        (O.octets out.old) result (O.octets out.new) }
 {
     let allowance = allowance(window, stream);
     if allowance > 0 {

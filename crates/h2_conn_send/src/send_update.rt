@@ -1,7 +1,7 @@
 //! What becomes of the records, and what is sent from them then (RFC 9113, 5.2 and 6.9): each whole, or else the
 //! records are as they were. Definitions: `specs/Sending.antt`, over h2_spec's `specs/Change.antt`.
 
-ghost use Rattle.std.specs.Prelude.{◌≡◌, ◌<◌, ◌≤◌, ◌^◌, OnErr};
+ghost use Rattle.std.specs.Prelude.{◌≡◌, ◌<◌, ◌≤◌, ◌^◌};
 ghost use Rattle.std.specs.List.{AllByRecursion};
 ghost use Rattle.h2_spec.specs.Change as changes;
 ghost use Rattle.h2_spec.specs.Stream.{put, with_record};
@@ -32,8 +32,8 @@ pub fn update_and_send<'b, A: Allocator + Copy, O: Outgoing<'b, A>>(
     requires size { (0 < size) × (size < 2 ^ 24) }
     requires few { window ≤ 2147483647 }
     requires sends { CanSend book.now streams.old record_update }
-    ensures sends { Sends book.now size window (updated_records record_update streams.old) (O.octets out.old) result streams.new (O.octets out.new) }
-    ensures err { OnErr result (streams.new ≡ streams.old) }
+    ensures { Sends book.now size window streams.old (updated_records record_update streams.old)
+        (O.octets out.old) result streams.new (O.octets out.new) }
 {
     match record_update {
         RecordUpdate::Unchanged => send_ready(book, streams, size, window, out),
@@ -65,8 +65,7 @@ fn put_and_send<'b, A: Allocator + Copy, O: Outgoing<'b, A>>(
     requires few { window ≤ 2147483647 }
     requires made { CanPut stream streams.old }
     requires bodies { AllByRecursion (HasBody book.now) (put stream streams.old.streams) }
-    ensures sends { Sends book.now size window (with_record stream streams.old) (O.octets out.old) result streams.new (O.octets out.new) }
-    ensures err { OnErr result (streams.new ≡ streams.old) }
+    ensures { Sends book.now size window streams.old (with_record stream streams.old) (O.octets out.old) result streams.new (O.octets out.new) }
 {
     if !none_sends(streams, window) {
         return put_among(book, streams, stream, size, window, out);
@@ -93,8 +92,8 @@ fn put_alone<'b, A: Allocator, O: Outgoing<'b, A>>(
     requires made { CanPut stream.now streams.old }
     requires body { HasBody book.now stream.now }
     requires alone { NoneSends window streams.old.streams }
-    ensures sends { Sends book.now size window (with_record stream.now streams.old) (O.octets out.old) result streams.new (O.octets out.new) }
-    ensures err { OnErr result (streams.new ≡ streams.old) }
+    ensures { Sends book.now size window streams.old (with_record stream.now streams.old)
+        (O.octets out.old) result streams.new (O.octets out.new) }
 {
     let allowance = write_next(book, stream, size, window, out)?;
     streams.put(after_sending(allowance, stream))?;
@@ -116,8 +115,7 @@ fn put_among<'b, A: Allocator + Copy, O: Outgoing<'b, A>>(
     requires few { window ≤ 2147483647 }
     requires made { CanPut stream streams.old }
     requires bodies { AllByRecursion (HasBody book.now) (put stream streams.old.streams) }
-    ensures sends { Sends book.now size window (with_record stream streams.old) (O.octets out.old) result streams.new (O.octets out.new) }
-    ensures err { OnErr result (streams.new ≡ streams.old) }
+    ensures { Sends book.now size window streams.old (with_record stream streams.old) (O.octets out.old) result streams.new (O.octets out.new) }
 {
     let mut after = streams.try_clone()?;
     after.put(stream)?;
@@ -150,9 +148,8 @@ fn move_and_send<'b, A: Allocator, O: Outgoing<'b, A>>(
     requires made { CanApply streams.old (move_of windows initial.0 initial.1) }
     requires undone { CanUndo streams.old (move_of windows initial.0 initial.1) }
     requires bodies { AllByRecursion (HasBody book.now) (changes.updated_streams (move_of windows initial.0 initial.1) streams.old.streams) }
-    ensures sends { Sends book.now size window (updated_records (move_of windows initial.0 initial.1) streams.old)
+    ensures { Sends book.now size window streams.old (updated_records (move_of windows initial.0 initial.1) streams.old)
         (O.octets out.old) result streams.new (O.octets out.new) }
-    ensures err { OnErr result (streams.new ≡ streams.old) }
 {
     let (from, to) = initial;
     move_windows(streams, windows, from, to);

@@ -1,12 +1,13 @@
 //! The frames that are sent, as octets after `out` (RFC 9113, 4.1 and 6). Definitions: h2_spec's `specs/Change.antt`
 //! for what is sent, `specs/Frames/Frame.antt` for its octets.
 
-ghost use Rattle.std.specs.Prelude.{◌≡◌, ◌+◌, ◌<◌, ◌≤◌, ◌^◌, ◌++◌, ◌∷◌, [], length, take, OnOk, OnErr};
+ghost use Rattle.std.specs.Prelude.{◌≡◌, ◌≤◌, ◌++◌, ◌∷◌, [], length, take};
 ghost use Rattle.h2_spec.specs.Change as changes;
 ghost use Rattle.h2_spec.specs.Frames.Frame.{frame, frame_octets, frames_octets};
 ghost use Rattle.h2_spec.specs.Octets.{big_endian};
 ghost use Rattle.h2_conn_send.specs.Short.{AreShort};
 ghost use Rattle.h2_conn_send.specs.Prepared.{on_stream};
+ghost use Rattle.h2_conn_send.specs.Writes.{Writes};
 
 use h2_frame::{Outgoing, append_frame};
 use h2_spec::errors::ErrorCode;
@@ -22,8 +23,7 @@ fn write_number<'b, A: Allocator, O: Outgoing<'b, A>>(
     number: u32,
     out: &mut O,
 ) -> Result<(), AllocError>
-    ensures ok { OnOk result (O.octets out.new ≡ O.octets out.old ++ frame_octets (frame kind 0 stream (big_endian 4 number))) }
-    ensures err { OnErr result (O.octets out.new ≡ O.octets out.old) }
+    ensures { Writes (frame_octets (frame kind 0 stream (big_endian 4 number))) (O.octets out.old) result (O.octets out.new) }
 {
     append_frame(kind, 0, stream, &[], &number.to_be_bytes(), out)
 }
@@ -34,9 +34,8 @@ pub fn write_connection_frame<'b, A: Allocator, O: Outgoing<'b, A>>(
     connection_frame: ConnectionFrame,
     out: &mut O,
 ) -> Result<(), AllocError>
-    ensures ok { OnOk result (O.octets out.new ≡ O.octets out.old ++ frames_octets (changes.connection_frames connection_frame)) }
+    ensures written { Writes (frames_octets (changes.connection_frames connection_frame)) (O.octets out.old) result (O.octets out.new) }
     ensures short { AreShort (changes.connection_frames connection_frame) }
-    ensures err { OnErr result (O.octets out.new ≡ O.octets out.old) }
 {
     match connection_frame {
         ConnectionFrame::NoConnectionFrame => Ok(()),
@@ -52,8 +51,7 @@ pub fn write_stream_frame<'b, A: Allocator, O: Outgoing<'b, A>>(
     stream_frame: StreamFrame,
     out: &mut O,
 ) -> Result<(), AllocError>
-    ensures ok { OnOk result (O.octets out.new ≡ O.octets out.old ++ frames_octets (changes.stream_frames stream_frame)) }
-    ensures err { OnErr result (O.octets out.new ≡ O.octets out.old) }
+    ensures { Writes (frames_octets (changes.stream_frames stream_frame)) (O.octets out.old) result (O.octets out.new) }
 {
     match stream_frame {
         StreamFrame::NoStreamFrame => Ok(()),
@@ -70,8 +68,7 @@ pub fn write_goaway<'b, A: Allocator, O: Outgoing<'b, A>>(
     code: ErrorCode,
     out: &mut O,
 ) -> Result<(), AllocError>
-    ensures ok { OnOk result (O.octets out.new ≡ O.octets out.old ++ frames_octets (changes.goaway last code ∷ [])) }
-    ensures err { OnErr result (O.octets out.new ≡ O.octets out.old) }
+    ensures { Writes (frames_octets (changes.goaway last code ∷ [])) (O.octets out.old) result (O.octets out.new) }
 {
     let number = code.number();
     append_frame(
@@ -92,8 +89,7 @@ pub fn write_prepared<'b, A: Allocator, O: Outgoing<'b, A>>(
     out: &mut O,
 ) -> Result<(), AllocError>
     requires { 9 ≤ length prepared.now }
-    ensures ok { OnOk result (O.octets out.new ≡ O.octets out.old ++ on_stream id prepared.now) }
-    ensures err { OnErr result (O.octets out.new ≡ O.octets out.old) }
+    ensures { Writes (on_stream id prepared.now) (O.octets out.old) result (O.octets out.new) }
 {
     let head = head_on_stream(prepared, id);
     out.append_lent(&head, octets_from(prepared, 9))

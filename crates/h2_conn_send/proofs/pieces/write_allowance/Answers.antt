@@ -12,8 +12,8 @@ octets_from-body-requires g c = data-length c.args.prepared.now c.requires.made
 pub write_prepared-requires : goal.write_prepared-requires
 write_prepared-requires g c = λ k. (search rules, data-length c.args.prepared.now c.requires.made)
 
-pub returns-then-body-size-clause-ok : goal.returns-then-body-size-clause-ok
-returns-then-body-size-clause-ok g c =
+pub returns-then-body-size : goal.returns-then-body-size
+returns-then-body-size g c =
     let a = c.args in
     let st = a.stream.now in
     let body = content a.prepared.now in
@@ -21,7 +21,8 @@ returns-then-body-size-clause-ok g c =
     let all : a.allowance ≡ length body = c.if-allowance-body.true ∙ ap length same in
     let fits : length body ≤ a.size = subst (λ (xs : List ℕ). length xs ≤ a.size) same c.if-body-size.true in
     let frames = data-on_stream st.id a.prepared.now c.requires.made ∙ sym (whole-body st.id a.size (octets_waiting st) a.allowance body c.requires.some all c.requires.waits c.requires.left fits) in
-    on_ok_weaker c.write_prepared.result (λ sent. sent ∙ ap (λ (xs : List ℕ). (g.O.Outgoing.octets a.out.now) ++ xs) frames) c.write_prepared.ensures.ok
-
-pub returns-then-body-size-clause-kept : goal.returns-then-body-size-clause-kept
-returns-then-body-size-clause-kept g c = kept-either c.write_prepared.result (g.O.Outgoing.octets c.args.out.now) (g.O.Outgoing.octets c.write_prepared.new.out) _ c.write_prepared.ensures.ok c.write_prepared.ensures.err
+    let did = c.write_prepared.ensures in
+    record {
+      ok = on_ok_weaker c.write_prepared.result (λ sent. sent ∙ ap (λ (xs : List ℕ). (g.O.Outgoing.octets a.out.now) ++ xs) frames) did.ok;
+      kept = kept-either c.write_prepared.result (g.O.Outgoing.octets a.out.now) (g.O.Outgoing.octets c.write_prepared.new.out) _ did.ok did.err;
+    }

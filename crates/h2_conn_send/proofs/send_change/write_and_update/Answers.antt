@@ -21,13 +21,13 @@ returns-clause-sends g c =
     let now = updated_streams change.record_update a.streams.now.streams in
     let moved = updated-streams change.record_update a.streams.now in
     let window = c.open_window-window.ensures.window in
-    let did = c.update_and_send.ensures.sends in
+    let did = c.update_and_send.ensures in
     let written = g.O.Outgoing.octets c.write_change.new.out in
     let is_sent = ap (λ (ss : List Stream). written ++ frames_octets (sent_frames book core.peer.frame c.open_window-window.result ss)) moved
     ∙ ap (λ w. written ++ frames_octets (sent_frames book core.peer.frame w now)) window.0 in
     record {
       count = paid-within c.update_and_send.result core c.open_window-window.result r.streams now moved window did.count;
-      sent = on_ok_weaker c.update_and_send.result (λ sent. in-outcome (g.O.Outgoing.octets a.out.now) written (g.O.Outgoing.octets c.update_and_send.new.out) (frames_of book change) (waiting_frames book core now) c.in_ok-write_change.ensures.ok
+      sent = on_ok_weaker c.update_and_send.result (λ sent. in-outcome (g.O.Outgoing.octets a.out.now) written (g.O.Outgoing.octets c.update_and_send.new.out) (frames_of book change) (waiting_frames book core now) c.in_ok-write_change.ensures.written.ok
           (sent ∙ is_sent)) did.sent;
       short = on_ok_weaker c.update_and_send.result (λ _. short-append (frames_of book change) (waiting_frames book core now)
           c.in_ok-write_change.ensures.short (sent_frames-short book core.peer.frame _ now c.requires.frame.1)) did.sent;

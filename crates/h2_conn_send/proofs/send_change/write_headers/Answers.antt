@@ -18,21 +18,27 @@ write_prepared-requires g c = λ k. (
   subst (λ (octets : List ℕ). 9 ≤ length octets) (sym c.headers-headers.ensures.headers) (head-length (response false 0 (picked c.args.book.now c.args.answer.pick))),
 )
 
-pub returns-then-answer-clause-ok : goal.returns-then-answer-clause-ok
-returns-then-answer-clause-ok g c =
+pub returns-then-answer-clause-written : goal.returns-then-answer-clause-written
+returns-then-answer-clause-written g c =
     let answer = c.args.answer in
     let a = picked c.args.book.now answer.pick in
     let flags = c.flags_of.ensures ∙ ap (λ (octets : List ℕ). slice_index octets 4) c.headers-headers.ensures.headers ∙ head-flags (response false 0 a) in
     let frame = updated-response answer.id c.flags_of.result c.block-block.result.now a flags c.block-block.ensures.block ∙ ap (λ (t : Bool). frame_octets (response t answer.id a)) (sym c.if-answer.true) in
-    on_ok_weaker c.append_frame.result (λ sent. sent ∙ ap (λ (xs : List ℕ). (g.O.Outgoing.octets c.args.out.now) ++ xs) frame) c.append_frame.ensures.ok
+    record {
+      ok = on_ok_weaker c.append_frame.result (λ sent. sent ∙ ap (λ (xs : List ℕ). (g.O.Outgoing.octets c.args.out.now) ++ xs) frame) c.append_frame.ensures.ok;
+      err = c.append_frame.ensures.no_memory;
+    }
 
 pub returns-then-answer-clause-short : goal.returns-then-answer-clause-short
 returns-then-answer-clause-short g c =
     short-response c.args.answer.size_update_pending c.args.answer.id (picked c.args.book.now c.args.answer.pick) c.headers-headers.ensures.within
 
-pub returns-else-answer-clause-ok : goal.returns-else-answer-clause-ok
-returns-else-answer-clause-ok g c =
+pub returns-else-answer-clause-written : goal.returns-else-answer-clause-written
+returns-else-answer-clause-written g c =
     let answer = c.args.answer in
     let a = picked c.args.book.now answer.pick in
     let frame = ap (on_stream answer.id) c.headers-headers.ensures.headers ∙ headers-on_stream answer.id a ∙ ap (λ (t : Bool). frame_octets (response t answer.id a)) (sym c.if-answer.false) in
-    on_ok_weaker c.write_prepared.result (λ sent. sent ∙ ap (λ (xs : List ℕ). (g.O.Outgoing.octets c.args.out.now) ++ xs) frame) c.write_prepared.ensures.ok
+    record {
+      ok = on_ok_weaker c.write_prepared.result (λ sent. sent ∙ ap (λ (xs : List ℕ). (g.O.Outgoing.octets c.args.out.now) ++ xs) frame) c.write_prepared.ensures.ok;
+      err = c.write_prepared.ensures.err;
+    }

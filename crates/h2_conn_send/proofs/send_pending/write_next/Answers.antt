@@ -15,26 +15,26 @@ write_allowance-requires g c =
     let body = (picked c.args.book.now c.args.stream.now.pick).body in
     λ k. (search rules, (c.requires.size, (c.if-allowance-gt0.true, (c.allowance-allowance.ensures.within.1, (subst IsData (sym c.body_frame.ensures) (data-made body), subst (λ (xs : List ℕ). octets_waiting c.args.stream.now ≤ length xs) (sym (ap content c.body_frame.ensures ∙ content-data body)) c.requires.body.1)))))
 
-pub returns-in_ok-write_allowance-clause-ok : goal.returns-in_ok-write_allowance-clause-ok
-returns-in_ok-write_allowance-clause-ok g c =
+pub returns-in_ok-write_allowance-clause-written : goal.returns-in_ok-write_allowance-clause-written
+returns-in_ok-write_allowance-clause-written g c =
     let a = c.args in
     let body = (picked a.book.now a.stream.now.pick).body in
     let frames = body_frames a.book.now a.size c.allowance-allowance.result a.stream.now (content c.body_frame.result.now) (ap content c.body_frame.ensures ∙ content-data body) in
-    c.in_ok-write_allowance.ensures.ok ∙ ap (λ fs. (g.O.Outgoing.octets a.out.now) ++ frames_octets fs) (frames ∙ ap (λ n. allowance_frames a.book.now a.size n a.stream.now) c.allowance-allowance.ensures.allowance)
+    record {
+      ok = c.in_ok-write_allowance.ensures.ok ∙ ap (λ fs. (g.O.Outgoing.octets a.out.now) ++ frames_octets fs) (frames ∙ ap (λ n. allowance_frames a.book.now a.size n a.stream.now) c.allowance-allowance.ensures.allowance);
+      kept = c.write_allowance.ensures.kept;
+    }
 
-pub returns-else-allowance-gt0-clause-ok : goal.returns-else-allowance-gt0-clause-ok
-returns-else-allowance-gt0-clause-ok g c =
+pub returns-else-allowance-gt0-clause-written : goal.returns-else-allowance-gt0-clause-written
+returns-else-allowance-gt0-clause-written g c =
     let a = c.args in
     let less : c.allowance-allowance.result ≤ 0 = c.if-allowance-gt0.false in
     let none : c.allowance-allowance.result ≡ 0 = omega (arith, less) in
     let nothing = ap (λ n. allowance_frames a.book.now a.size n a.stream.now) (sym c.allowance-allowance.ensures.allowance ∙ none) ∙ no_frames a.book.now a.size a.stream.now in
-    sym (ap (λ fs. (g.O.Outgoing.octets a.out.now) ++ frames_octets fs) nothing ∙ append-nil (g.O.Outgoing.octets a.out.now))
+    record {
+      ok = sym (ap (λ fs. (g.O.Outgoing.octets a.out.now) ++ frames_octets fs) nothing ∙ append-nil (g.O.Outgoing.octets a.out.now));
+      kept = take-length (g.O.Outgoing.octets a.out.now);
+    }
 
-pub returns-else-allowance-gt0-clause-kept : goal.returns-else-allowance-gt0-clause-kept
-returns-else-allowance-gt0-clause-kept g c = take-length (g.O.Outgoing.octets c.args.out.now)
-
-pub returns-in_err-write_allowance-clause-kept : goal.returns-in_err-write_allowance-clause-kept
-returns-in_err-write_allowance-clause-kept g c = c.write_allowance.ensures.kept
-
-pub returns-in_ok-write_allowance-clause-kept : goal.returns-in_ok-write_allowance-clause-kept
-returns-in_ok-write_allowance-clause-kept g c = c.write_allowance.ensures.kept
+pub returns-in_err-write_allowance-clause-written : goal.returns-in_err-write_allowance-clause-written
+returns-in_err-write_allowance-clause-written g c = record { ok = search rules; kept = c.write_allowance.ensures.kept }

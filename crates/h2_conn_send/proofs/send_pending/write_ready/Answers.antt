@@ -20,13 +20,13 @@ loop-stream-init g c =
       kept = take-length (g.O.Outgoing.octets a.out.now);
     }
 
-pub returns-then-left-eq0-clause-ok : goal.returns-then-left-eq0-clause-ok
-returns-then-left-eq0-clause-ok g c =
+pub returns-then-left-eq0 : goal.returns-then-left-eq0
+returns-then-left-eq0 g c =
     let a = c.args in
     let l = c.loop-stream in
     let ss = a.streams.now.streams in
     let none = ap (λ w. frames_above a.book.now a.size l.after w ss) c.if-left-eq0.true ∙ spent_frames a.book.now a.size l.after ss in
-    sym (append-nil (g.O.Outgoing.octets l.out)) ∙ ap (λ fs. (g.O.Outgoing.octets l.out) ++ frames_octets fs) (sym none) ∙ l.invariant.sent
+    record { ok = sym (append-nil (g.O.Outgoing.octets l.out)) ∙ ap (λ fs. (g.O.Outgoing.octets l.out) ++ frames_octets fs) (sym none) ∙ l.invariant.sent; kept = l.invariant.kept }
 
 pub write_next-requires : goal.write_next-requires
 write_next-requires g c =
@@ -64,24 +64,18 @@ loop-stream-preserved g c =
     record {
       sent =
           ap (λ n. (g.O.Outgoing.octets c.write_next.new.out) ++ frames_octets (frames_above a.book.now a.size st.id (l.left - n) ss)) c.in_ok-left.ensures.allowance.0
-          ∙ ap (λ xs. xs ++ frames_octets behind) c.in_ok-left.ensures.ok
+          ∙ ap (λ xs. xs ++ frames_octets behind) c.in_ok-left.ensures.written.ok
           ∙ append_assoc (g.O.Outgoing.octets l.out) (frames_octets here) (frames_octets behind)
           ∙ ap (λ xs. (g.O.Outgoing.octets l.out) ++ xs) (sym (flat_map-append frame_octets here behind))
           ∙ ap (λ fs. (g.O.Outgoing.octets l.out) ++ frames_octets fs) (sym next)
           ∙ l.invariant.sent;
-      kept = kept-then (g.O.Outgoing.octets a.out.now) (g.O.Outgoing.octets l.out) (g.O.Outgoing.octets c.write_next.new.out) l.invariant.kept c.write_next.ensures.kept;
+      kept = kept-then (g.O.Outgoing.octets a.out.now) (g.O.Outgoing.octets l.out) (g.O.Outgoing.octets c.write_next.new.out) l.invariant.kept c.write_next.ensures.written.kept;
     }
 
-pub returns-clause-ok : goal.returns-clause-ok
-returns-clause-ok g c =
+pub returns : goal.returns
+returns g c =
     let a = c.args in
     let l = c.loop-stream in
     let ss = a.streams.now.streams in
     let none = none_frames a.book.now a.size l.after l.left ss (sym c.next_stream.ensures.first ∙ c.in_default.is) in
-    sym (append-nil (g.O.Outgoing.octets l.out)) ∙ ap (λ fs. (g.O.Outgoing.octets l.out) ++ frames_octets fs) (sym none) ∙ l.invariant.sent
-
-pub returns-then-left-eq0-clause-kept : goal.returns-then-left-eq0-clause-kept
-returns-then-left-eq0-clause-kept g c = c.loop-stream.invariant.kept
-
-pub returns-clause-kept : goal.returns-clause-kept
-returns-clause-kept g c = c.loop-stream.invariant.kept
+    record { ok = sym (append-nil (g.O.Outgoing.octets l.out)) ∙ ap (λ fs. (g.O.Outgoing.octets l.out) ++ frames_octets fs) (sym none) ∙ l.invariant.sent; kept = l.invariant.kept }

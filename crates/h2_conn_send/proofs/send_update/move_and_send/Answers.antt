@@ -32,8 +32,20 @@ move_windows-requires-in-Err g c =
     let back = move_of a.windows a.initial.1 a.initial.0 in
     subst (λ (r : Records). CanApply r back) (sym (c.in-Err.ensures.err ∙ c.move_windows.ensures)) (can-move-back a.windows a.initial.0 a.initial.1 a.streams.now c.requires.undone)
 
-pub returns-in-Err-clause-err : goal.returns-in-Err-clause-err
-returns-in-Err-clause-err g c =
+-- the moved records are what is sent from
+pub returns-in-Ok : goal.returns-in-Ok
+returns-in-Ok g c =
+    let sent = rw c.move_windows.ensures at c.in-Ok.ensures in
+    record { count = sent.count; sent = sent.sent; records = sent.records; kept = sent.kept; err = search rules }
+
+pub returns-in-Err : goal.returns-in-Err
+returns-in-Err g c =
     let a = c.args in
     let back = move_of a.windows a.initial.1 a.initial.0 in
-    c.move_windows-in-Err.ensures ∙ ap (updated_records back) (c.in-Err.ensures.err ∙ c.move_windows.ensures) ∙ moved-back a.windows a.initial.0 a.initial.1 a.streams.now
+    record {
+      count = search rules;
+      sent = search rules;
+      records = search rules;
+      kept = c.in-Err.ensures.kept;
+      err = c.move_windows-in-Err.ensures ∙ ap (updated_records back) (c.in-Err.ensures.err ∙ c.move_windows.ensures) ∙ moved-back a.windows a.initial.0 a.initial.1 a.streams.now;
+    }

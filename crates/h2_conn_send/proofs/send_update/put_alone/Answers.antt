@@ -27,22 +27,23 @@ put-requires g c =
     let waits = subst (λ (k : ℕ). k ≤ octets_waiting st) (sym c.in_ok-allowance.ensures.allowance.0) (allowance-least c.args.window st).0 in
     subst (λ (y : Stream). CanPut y c.args.streams.now) (sym c.after_sending.ensures) (can-put-sent n st c.args.streams.now waits c.requires.made)
 
-pub returns-clause-sends : goal.returns-clause-sends
-returns-clause-sends g c =
+pub returns : goal.returns
+returns g c =
     let a = c.args in
     let r = a.streams.now in
     let n = c.in_ok-allowance.ensures.allowance in
     let alone = c.requires.alone in
     record {
       count = (n.0 ∙ count-alone a.window a.stream.now r.streams alone, n.1);
-      sent = c.in_ok-allowance.ensures.ok ∙ ap (λ fs. (g.O.Outgoing.octets a.out.now) ++ frames_octets fs) (sym (sent-alone a.book.now a.size a.window a.stream.now r.streams alone));
+      sent = c.in_ok-allowance.ensures.written.ok ∙ ap (λ fs. (g.O.Outgoing.octets a.out.now) ++ frames_octets fs) (sym (sent-alone a.book.now a.size a.window a.stream.now r.streams alone));
       records = c.in_ok-put.ensures.ok ∙ ap (λ (y : Stream). with_record y r) c.after_sending.ensures
           ∙ records-alone a.window c.in_ok-allowance.allowance a.stream.now r alone n.0;
-      kept = c.write_next.ensures.kept;
+      kept = c.write_next.ensures.written.kept;
+      err = search rules;
     }
 
-pub returns-in_err-allowance-clause-sends : goal.returns-in_err-allowance-clause-sends
-returns-in_err-allowance-clause-sends g c = record { count = search rules; sent = search rules; records = search rules; kept = c.write_next.ensures.kept }
+pub returns-in_err-allowance : goal.returns-in_err-allowance
+returns-in_err-allowance g c = record { count = search rules; sent = search rules; records = search rules; kept = c.write_next.ensures.written.kept; err = search rules }
 
-pub returns-in_err-put-clause-sends : goal.returns-in_err-put-clause-sends
-returns-in_err-put-clause-sends g c = record { count = search rules; sent = search rules; records = search rules; kept = c.write_next.ensures.kept }
+pub returns-in_err-put : goal.returns-in_err-put
+returns-in_err-put g c = record { count = search rules; sent = search rules; records = search rules; kept = c.write_next.ensures.written.kept; err = search rules }

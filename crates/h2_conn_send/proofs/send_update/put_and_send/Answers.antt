@@ -10,8 +10,8 @@ use Rattle.h2_conn_send.proofs.send_update.put_and_send.Goals as goal
 pub put_alone-requires : goal.put_alone-requires
 put_alone-requires g c = λ k. (search rules, (c.requires.size, (c.requires.few, (c.requires.made, (all-put (HasBody c.args.book.now) c.args.stream c.args.streams.now.streams c.requires.bodies, c.none_sends.ensures c.if-not-none_sends.false)))))
 
-pub returns-clause-sends : goal.returns-clause-sends
-returns-clause-sends g c =
+pub returns : goal.returns
+returns g c =
     let a = c.args in
     let out = g.O.Outgoing.octets a.out.now in
     let after = put a.stream a.streams.now.streams in
@@ -23,4 +23,5 @@ returns-clause-sends g c =
       sent = sym (ap (λ (fs : List Frame). out ++ frames_octets fs) (sent-none a.book.now a.size a.window after none) ∙ append-nil out);
       records = c.in_ok-put.ensures.ok ∙ sym (ap (λ (ss : List Stream). let r : Records = record (with_record a.stream a.streams.now) { streams = ss } in r) (after-none a.window after none));
       kept = take-length out;
+      err = search rules;
     }
