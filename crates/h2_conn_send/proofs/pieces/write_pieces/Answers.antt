@@ -1,4 +1,4 @@
-use Rattle.std.proofs.Common.{rules}
+use Rattle.std.proofs.Common.{◌∙◌, rules}
 use Rattle.h2_conn_send.proofs.KeptLaws.{kept-either, kept-then}
 use Rattle.h2_conn_send.proofs.PiecesLaws.{octets_last}
 use Rattle.h2_conn_send.proofs.pieces.write_pieces.Goals as goal
