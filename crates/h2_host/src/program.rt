@@ -1,7 +1,7 @@
 //! What the words of the command line ask for is done over the devices that they name, and what there is to say about a fault
 //! is said.
 
-use crate::case_input::{CaseInput, case_input, path_of, refusal_of_case};
+use crate::case_input::{CaseInput, case_input, path_of};
 use crate::commands::Commands;
 use crate::devices::file_word::with_file;
 use crate::devices::files::NamedFiles;
@@ -12,7 +12,7 @@ use h2_cmd_args::Words;
 use h2_cmd_args::command::{Devices, Plan, Refusal, devices_of, parse};
 use h2_io::{FromRead, IntoWrite, Output};
 use std::io;
-use std::io::{BufWriter, Write};
+use std::io::{BufWriter, ErrorKind, Write};
 use std::process::ExitCode;
 
 /// How many octets of output are gathered before they are written.
@@ -86,6 +86,7 @@ fn run_session<C: Commands, O: Output, E: Output>(
     let has_dots = devices.prompt == "dot";
     let state = given.state;
     let line = given.first_command(devices);
+    let octets = given.taken.take_line();
     let mut input = FromRead::new(&mut given.taken);
     let mut watched = SessionOutput::new(
         rt.alloc(),
@@ -96,6 +97,17 @@ fn run_session<C: Commands, O: Output, E: Output>(
         state,
         line,
     );
+    if let (Ok(Plan::Debug(debug)), Some(octets)) = (asked, octets) {
+        return commands.debug_over(
+            rt.alloc(),
+            debug,
+            octets,
+            &mut files,
+            &mut input,
+            &mut watched,
+            errors,
+        );
+    }
     commands.carry_out(
         rt.alloc(),
         asked,
@@ -151,7 +163,7 @@ fn run_over<'w, C: Commands>(
     words: &Words,
     asked: &mut Result<Plan<'w>, Refusal>,
     devices: Devices<'w>,
-    case: Option<Vec<u8>>,
+    case: Option<Result<Vec<u8>, ErrorKind>>,
     gathered: &mut BufWriter<Standard<'_>>,
 ) -> ExitCode {
     let state = SessionState::new();
@@ -199,13 +211,15 @@ fn run_case<C: Commands>(
     case: CaseInput,
     gathered: &mut BufWriter<Standard<'_>>,
 ) -> ExitCode {
-    let refusal = refusal_of_case(rt, path, &case);
-    let CaseInput { words, text, .. } = case;
-    let mut asked = match refusal {
-        Ok(None) => asked_of_case(rt, path, &words),
-        Ok(Some(text)) => return refuse_words(gathered, text.as_str()),
-        Err(_) => Err(Refusal::NoMemory),
-    };
+    let CaseInput {
+        words,
+        text,
+        refusal,
+    } = case;
+    if let Some(refusal) = refusal {
+        return refuse_words(gathered, refusal.as_str());
+    }
+    let mut asked = asked_of_case(rt, path, &words);
     let devices = devices_said(rt, &words, &mut asked);
     run_over(
         rt,
