@@ -24,7 +24,7 @@ pub use hex::{
 };
 pub use limits::{Range, range_of, say_limits, say_no_file, say_range};
 pub use place::{InputSource, TextPlace, place_at};
-pub use read::{file_reason, say_no_text, say_too_long, say_unread};
+pub use read::{file_reason, say_long_session, say_no_text, say_too_long, say_unread};
 pub use script::say_bad_line;
 pub use session::{say_more_octets, say_session_fault};
 pub use table::say_table_faults;

@@ -72,6 +72,7 @@ fn say_of_file(
                 Outcome {
                     source,
                     seen,
+                    count: seen.len(),
                     ..outcome
                 },
                 out,

@@ -4,23 +4,21 @@
 ghost use Rattle.std.specs.Prelude.{◌≤◌, length, IfOk};
 
 use crate::devices::copied::copy_from;
-use std::alloc::Global;
+use std::alloc::{AllocError, Global};
+use std::io;
 use std::io::{ErrorKind, Read};
-use std::{io, mem};
 
-/// What a file gives: the input of a command, or the octets of a session, whose commands the reader gives.
+/// What a file gives before the reader is read, if that is read at all.
 #[derive(Drop)]
 pub struct Front {
-    /// What is given of it.
+    /// What is given first.
     pub text: Vec<u8>,
     /// What was refused is looked for in this text.
     pub seen: Vec<u8>,
     /// Why the file was not read, where it was not.
     pub failure: Option<ErrorKind>,
-    /// Whether the reader is read.
+    /// Whether the reader is read after it.
     pub reads_on: bool,
-    /// Whether what it gives is kept in `seen`.
-    pub keeps: bool,
 }
 
 impl Front {
@@ -31,7 +29,6 @@ impl Front {
             seen: Vec::new(alloc),
             failure: None,
             reads_on: true,
-            keeps: true,
         }
     }
 
@@ -42,7 +39,6 @@ impl Front {
             seen: Vec::new(alloc),
             failure: Some(failure),
             reads_on: false,
-            keeps: false,
         }
     }
 }
@@ -60,7 +56,7 @@ pub struct TakenInput<R> {
     seen: Vec<u8>,
     /// Whether the reader's text is kept there.
     keeps: bool,
-    /// How many octets the reader gave.
+    /// How many octets there were in all.
     count: usize,
     /// Whether it was the reader that could not be read.
     is_reader_failure: bool,
@@ -70,12 +66,24 @@ pub struct TakenInput<R> {
     failure: Option<ErrorKind>,
 }
 
+/// The text of a file as the first line of a session: without white space, which no session looks at, and a line feed after it.
+pub fn one_line(alloc: Global, text: &[u8]) -> Result<Vec<u8>, AllocError> {
+    let mut line = Vec::new(alloc);
+    for octet in text {
+        if !matches!(*octet, b' ' | b'\t' | b'\r' | b'\n') {
+            line.push(*octet)?;
+        }
+    }
+    line.push(b'\n')?;
+    Ok(line)
+}
+
 impl<R: Read> TakenInput<R> {
-    /// What a file gives, or what a reader gives.
+    /// What a file gives, and then what a reader gives, if that is read at all.
     pub fn new(front: Front, reader: R) -> TakenInput<R> {
         TakenInput {
-            keeps: front.keeps,
-            count: 0,
+            keeps: front.text.is_empty(),
+            count: front.text.len(),
             front: front.text,
             given: 0,
             reader,
@@ -92,16 +100,7 @@ impl<R: Read> TakenInput<R> {
         self.seen.as_slice()
     }
 
-    /// The octets of a session in hex, where a file gave them, and the reader gives commands alone.
-    pub fn take_line(&mut self) -> Option<Vec<u8>> {
-        if self.keeps || !self.reads_on {
-            return None;
-        }
-        let none = Vec::new(*self.front.allocator());
-        Some(mem::replace(&mut self.front, none))
-    }
-
-    /// How many octets the reader gave.
+    /// How many octets there were in all: those of the file, and those that were read after it.
     pub fn count(&self) -> usize {
         self.count
     }
