@@ -145,6 +145,25 @@ def a_limit_on_files_is_status_3(program):
         yield ran.ended(), (3, "standard output: the file would be larger than is allowed; the output is not whole.\n")
 
 
+def others_cannot_read_a_file_that_is_written_anew(program):
+    """FILE.blessed is its owner's alone, while it is written, whatever the mask: here the system ends the program in the middle of it. FILE stays as it was."""
+    with tempfile.TemporaryDirectory() as folder:
+        path = os.path.join(folder, "a.h2")
+        with open(path, "wb") as file:
+            file.write(MANY)
+        os.chmod(path, 0o666)
+
+        def limited():
+            os.umask(0)
+            resource.setrlimit(resource.RLIMIT_FSIZE, (1024, 1024))
+
+        ran = Ran(program, ["check", "--bless", "--in-place", path], stdout=subprocess.DEVNULL, preexec_fn=limited)
+        yield ran.ended()[0], -signal.SIGXFSZ
+        yield (oct(os.stat(path + ".blessed").st_mode & 0o777), os.path.getsize(path + ".blessed")), ("0o600", 1024)
+        with open(path, "rb") as file:
+            yield file.read() == MANY, True
+
+
 def on_terminal(launcher, words, typed, **environment):
     """What a terminal shows of a run on it, with these words and what is typed."""
     child, terminal = pty.fork()
@@ -194,6 +213,20 @@ def many_refused_lines_are_counted(program):
     yield said[-1], "standard input: 900 more lines were refused."
 
 
+def a_run_after_each_line_takes_linear_time(program):
+    """A case with `;& run` after each line of its script: four times the lines take at most eight times the time of the processor."""
+    times = []
+    for count in (4_000, 16_000):
+        with tempfile.NamedTemporaryFile(suffix=".h2") as file:
+            file.write(b"PREFACE\nSETTINGS 00 0 -\n" + count * b"PING 00 0 x0102030405060708\n;& run\n")
+            file.flush()
+            process = subprocess.Popen(["h2_bench", "check", file.name], executable=program, stdout=subprocess.DEVNULL)
+            _, process.returncode, used = os.wait4(process.pid, 0)
+            times.append(used.ru_utime)
+        yield process.returncode, 0
+    yield times[1] <= 8 * times[0] + 0.2, True
+
+
 TESTS = [
     a_closed_output_is_status_3,
     a_reader_that_leaves_is_status_3,
@@ -201,9 +234,11 @@ TESTS = [
     a_slow_writer_loses_nothing,
     a_pipe_is_read_once,
     a_limit_on_files_is_status_3,
+    others_cannot_read_a_file_that_is_written_anew,
     terminals_have_colours_but_dumb_ones,
     terminals_have_a_prompt,
     many_refused_lines_are_counted,
+    a_run_after_each_line_takes_linear_time,
 ]
 
 

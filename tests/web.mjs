@@ -241,7 +241,7 @@ async function inBrowser(chromium) {
     await of("h2.select(3)");
     check("the fault goes when it is mended", await of("document.getElementById('fault').className") === "" && (await of("document.getElementById('hex').value")).replace(/\s/g, "") === run(["asm"], readFileSync(join(top, "examples/closed.h2"), "utf8")).text.trim());
     check("its cause is shown", (await of("document.getElementById('why').textContent")).includes("data-on-idle"));
-    check("its duties are tags", (await of("[...document.querySelectorAll('#why .tag')].map(it => it.textContent).join('; ')")) === "data-on-idle; server MUST 5.1; client MUST NOT 5.1", await of("document.getElementById('why').textContent"));
+    check("its duties are tags", (await of("[...document.querySelectorAll('#why .tag')].map(it => it.textContent).join('; ')")) === "data-on-idle; server MUST 5.1; client breach 6.1", await of("document.getElementById('why').textContent"));
     const words = () => of("document.getElementById('words').textContent"), closed = run(["asm"], readFileSync(join(top, "examples/closed.h2"), "utf8")).text;
     check("it is explained", await words() === run(["explain", "--brief"], closed).text, await words());
     await of("document.getElementById('all-lines').click()");

@@ -12,7 +12,8 @@ What is checked:
     its special cases, and **own** is there where the RFC demands nothing;
   - each file, link (with its heading), crate, path, function and type that README.md, CONTRIBUTING.md, CHANGELOG.md or docs/*.md names is there, and is in the file that is
     named with it: `feed` (feeding.rt), `feed` (h2_conn, feeding.rt);
-  - each crate and file that a comment of a source names is there.
+  - each crate and file that a comment of a source names is there;
+  - README.md has at most 8 KB.
 
 CRATE, NAME, TOPIC and FILE are any name in a path: `tests/runs/TOPIC.run`.
 """
@@ -439,7 +440,9 @@ def check(made, wrong, known):
     wrong += [*faults_of_table(), *faults_of_errors()]
     if not os.path.exists(MADE) or read(MADE) != made:
         wrong.append(f"{MADE} is not what tools/docs.py writes: run it")
-    passed, all_words = 3 * len(rows_of("causes")) + len(rows_of("ignored")) + 1, words_of(known)
+    if os.path.getsize("README.md") > 8192:
+        wrong.append("README.md has more than 8 KB")
+    passed, all_words = 3 * len(rows_of("causes")) + len(rows_of("ignored")) + 2, words_of(known)
     for page in ["README.md", "CONTRIBUTING.md", "CHANGELOG.md", *sorted(glob.glob("docs/*.md"))]:
         for number, word, there in names(page, known, crates, all_words):
             passed += 1

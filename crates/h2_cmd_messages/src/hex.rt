@@ -44,7 +44,7 @@ fn advice(look: Look) -> &'static str {
         Look::Octets =>
             "it looks like the octets themselves: add --raw, or write them as hex by xxd -p",
         Look::Offsets =>
-            "it looks like a dump with offsets: explain FILE (or /dev/stdin) and debug --in FILE read its octets where each offset is their number so far; else make it by xxd -p",
+            "it looks like a dump with offsets: explain and debug --in FILE read its octets where each offset is their number so far; else make it by xxd -p",
         Look::Prefix => "leave out each 0x, and each comma",
         Look::Escape => "leave out each \\x",
         Look::Separator => "leave out what is between the digits",
@@ -125,7 +125,12 @@ pub fn say_no_octets(source: InputSource<'_>, out: &mut TextBuilder) {
 
 /// Says that a text was read as hex that looks like a dump with offsets.
 pub fn say_offsets(source: InputSource<'_>, out: &mut TextBuilder) {
-    say_all!(out; source, ": each line begins with a number that grows by 16, so this looks like a dump with offsets; they were read as octets too: explain FILE (or /dev/stdin) and debug --in FILE read its octets where each offset is their number so far; else make it by xxd -p.\n");
+    say_all!(out; source, ": each line begins with a number that grows by 16, so this looks like a dump with offsets; they were read as octets too: explain and debug --in FILE read its octets where each offset is their number so far; else make it by xxd -p.\n");
+}
+
+/// Says that a text is a dump with offsets whose octets are not clear.
+pub fn say_unclear(source: InputSource<'_>, out: &mut TextBuilder) {
+    say_all!(out; source, ": it looks like a dump with offsets, and its octets are not clear, as in words that are turned around: make it by xxd -p.\n");
 }
 
 /// How many octets of a hex text are looked at.

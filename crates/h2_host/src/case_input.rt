@@ -1,12 +1,14 @@
-//! A case as the input of `explain FILE` and `debug --in FILE`: the words of its lines `;@` come after those of the command,
+//! A case as the input of `explain` and `debug --in FILE`: the words of its lines `;@` come after those of the command,
 //! and the octets of its script are the input. Those of a dump with offsets are the input too.
 
+use crate::devices::files::STANDARD_INPUT;
 use crate::devices::input::read_file;
 use crate::dump_input::hex_of_dump;
 use crate::hex_of;
 use h2_cmd_args::Words;
 use h2_cmd_args::command::{Devices, Plan, Refusal};
 use h2_cmd_cases::{ShellFault, add_case_words, idle_place};
+use h2_cmd_messages::has_offsets;
 use h2_io::MAX_INPUT;
 use h2_script::{ScriptFault, assemble};
 use std::alloc::{AllocError, Global};
@@ -15,22 +17,24 @@ use std::io::{ErrorKind, Write};
 use std::path::{Path, PathBuf};
 use std::str;
 
-/// What a case gives a command.
+/// What a case gives a command, or a dump, or what can be read only once.
 #[derive(Drop)]
 pub struct CaseInput {
     /// The words of the command, and after them those of the case.
     pub words: Words,
-    /// The octets of its script, or of a dump, as hex; of a pipe that is none what it had.
-    pub text: Vec<u8>,
-    /// The number of its first line that has a word without effect, if one has.
-    pub idle_line: Option<usize>,
+    /// The octets of its script, or of a dump, as hex; of what is neither what it had, or why it can't be read.
+    pub text: Result<Vec<u8>, ErrorKind>,
+    /// Why it is refused, if it is.
+    pub refusal: Option<String>,
 }
 
-/// The path of a file whose octets a command reads, and that may be a case; empty where there is none.
+/// The path of a file whose octets a command reads, and that may be a case, standard input for `explain` without one; empty where
+/// there is none.
 pub(crate) fn path_of<'w>(asked: &Result<Plan<'w>, Refusal>, devices: Devices<'w>) -> &'w str {
     match asked {
         _ if devices.raw => "",
         Ok(Plan::Explain(explain)) if explain.file != "" => explain.file,
+        Ok(Plan::Explain(_)) if devices.file == "" => STANDARD_INPUT,
         Ok(Plan::Explain(_)) => devices.file,
         Ok(Plan::Debug(_)) => devices.file,
         _ => "",
@@ -72,14 +76,10 @@ fn words_with(
     alloc: Global,
     words: &Words,
     path: &str,
-    text: &str,
+    lines: &[&[u8]],
 ) -> Result<Option<Words>, AllocError> {
-    let mut lines = Vec::new(alloc);
-    for line in text.split('\n') {
-        lines.push(line.as_bytes())?;
-    }
     let mut case_words = Words::new(alloc);
-    match add_case_words(alloc, lines.as_slice(), &mut case_words) {
+    match add_case_words(alloc, lines, &mut case_words) {
         Ok(()) => {}
         Err(ShellFault::NoMemory) => return Err(AllocError),
         Err(ShellFault::Open) => return Ok(None),
@@ -103,26 +103,17 @@ fn is_case(text: &str) -> bool {
     text.starts_with(';') && text.lines().filter(|line| line.starts_with(";# ")).count() < 2
 }
 
-/// The number of the first line with a word that has no effect in a case, if one has.
-fn idle_line(alloc: Global, text: &str) -> Result<Option<usize>, AllocError> {
-    let mut lines = Vec::new(alloc);
-    for line in text.split('\n') {
-        lines.push(line.as_bytes())?;
-    }
-    let place = idle_place(alloc, lines.as_slice())?;
-    Ok(place.map(|before| before.saturating_add(1)))
-}
-
 /// Why a case is refused that has a word without effect, if it has one.
-pub(crate) fn refusal_of_case(
-    rt: &HostRuntime,
+fn refusal_of_idle(
+    alloc: Global,
     path: &str,
-    case: &CaseInput,
+    lines: &[&[u8]],
 ) -> Result<Option<String>, AllocError> {
-    let Some(line) = case.idle_line else {
+    let Some(before) = idle_place(alloc, lines)? else {
         return Ok(None);
     };
-    let text = format!(in rt.alloc();
+    let line = before.saturating_add(1);
+    let text = format!(in alloc;
         "error: {path}, line {line}: --in, --raw, --prompt and --quiet have no effect in a case\n"
     )?;
     Ok(Some(text))
@@ -146,16 +137,24 @@ fn case_in(
         Err(ScriptFault::NoMemory) => return Err(AllocError),
         Err(_) => return Ok(None),
     };
-    match words_with(rt.alloc(), words, path, text)? {
-        Some(words) => {
-            Ok(Some(CaseInput {
-                words,
-                text: hex_of(rt.alloc(), script.as_slice())?,
-                idle_line: idle_line(rt.alloc(), text)?,
-            }))
-        }
-        None => Ok(None),
+    let alloc = rt.alloc();
+    let mut all = Vec::new(alloc);
+    for line in text.split('\n') {
+        all.push(line.as_bytes())?;
     }
+    let lines = all.as_slice();
+    let (words, refusal) = match words_with(alloc, words, path, lines)? {
+        Some(words) => (words, refusal_of_idle(alloc, path, lines)?),
+        None => (
+            copy_of(alloc, words)?,
+            Some(format!(in alloc; "error: {path}: a quote in its lines ;@ is not closed\n")?),
+        ),
+    };
+    Ok(Some(CaseInput {
+        words,
+        text: Ok(hex_of(alloc, script.as_slice())?),
+        refusal,
+    }))
 }
 
 /// Whether a file can be read twice: a pipe can't be.
@@ -182,8 +181,21 @@ fn dump_in(rt: &HostRuntime, octets: &[u8], is_quiet: bool) -> Result<Option<Vec
     Ok(hex)
 }
 
-/// What a file gives a command, where it is a case that can be read, or a dump; and of a pipe what it had, since it can't
-/// be read again.
+/// What a text gives a command that is no case.
+fn no_case(
+    rt: &HostRuntime,
+    words: &Words,
+    text: Result<Vec<u8>, ErrorKind>,
+) -> Result<Option<CaseInput>, AllocError> {
+    Ok(Some(CaseInput {
+        words: copy_of(rt.alloc(), words)?,
+        text,
+        refusal: None,
+    }))
+}
+
+/// What a file gives a command, where it is a case that can be read, or a dump; and of a pipe or standard input what it had,
+/// since that can't be read again.
 fn case_at(
     rt: &HostRuntime,
     words: &Words,
@@ -193,6 +205,7 @@ fn case_at(
     let octets = match read_file(rt, path, MAX_INPUT) {
         Ok(octets) => octets,
         Err(ErrorKind::OutOfMemory) => return Err(AllocError),
+        Err(ErrorKind::FileTooLarge) => return no_case(rt, words, Err(ErrorKind::FileTooLarge)),
         Err(_) => return Ok(None),
     };
     let case = case_in(rt, words, path, octets.as_slice())?;
@@ -201,17 +214,14 @@ fn case_at(
     }
     let text = match dump_in(rt, octets.as_slice(), is_quiet)? {
         Some(hex) => hex,
-        None if is_lasting(rt, path) => return Ok(None),
+        None if !has_offsets(octets.as_slice()) && is_lasting(rt, path) => return Ok(None),
         None => octets,
     };
-    Ok(Some(CaseInput {
-        words: copy_of(rt.alloc(), words)?,
-        text,
-        idle_line: None,
-    }))
+    no_case(rt, words, Ok(text))
 }
 
-/// What a case gives a command, where its file is one. Where memory for that is refused, the words are refused for it.
+/// What a case gives a command, where its file is one, or a dump. Where memory for that is refused, the words are refused for
+/// it.
 pub fn case_input<'w>(
     rt: &HostRuntime,
     words: &Words,

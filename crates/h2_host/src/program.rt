@@ -1,7 +1,7 @@
 //! What the words of the command line ask for is done over the devices that they name, and what there is to say about a fault
 //! is said.
 
-use crate::case_input::{CaseInput, case_input, path_of, refusal_of_case};
+use crate::case_input::{CaseInput, case_input, path_of};
 use crate::commands::Commands;
 use crate::devices::file_word::with_file;
 use crate::devices::files::NamedFiles;
@@ -12,7 +12,7 @@ use h2_cmd_args::Words;
 use h2_cmd_args::command::{Command, Devices, Plan, Refusal, parse_command};
 use h2_io::{FromRead, IntoWrite, Output};
 use std::io;
-use std::io::{BufWriter, Write};
+use std::io::{BufWriter, ErrorKind, Write};
 use std::process::ExitCode;
 
 /// How many octets of output are gathered before they are written.
@@ -139,7 +139,7 @@ fn run_over<'w, C: Commands>(
     words: &Words,
     asked: &mut Result<Plan<'w>, Refusal>,
     devices: Devices<'w>,
-    case: Option<Vec<u8>>,
+    case: Option<Result<Vec<u8>, ErrorKind>>,
     gathered: &mut BufWriter<Standard<'_>>,
 ) -> ExitCode {
     let state = SessionState::new();
@@ -179,14 +179,18 @@ fn run_case<C: Commands>(
     case: CaseInput,
     gathered: &mut BufWriter<Standard<'_>>,
 ) -> ExitCode {
-    let refusal = refusal_of_case(rt, path, &case);
-    let CaseInput { words, text, .. } = case;
+    let CaseInput {
+        words,
+        text,
+        refusal,
+    } = case;
+    if let Some(refusal) = refusal {
+        return refuse_words(gathered, refusal.as_str());
+    }
     let (asked, devices) = asked_of(rt, &words);
-    let mut asked = match (refusal, asked) {
-        (Ok(Some(text)), _) => return refuse_words(gathered, text.as_str()),
-        (Err(_), _) => Err(Refusal::NoMemory),
-        (Ok(None), Err(Refusal::Words(printed))) => Err(refused_in(rt, path, printed.as_str())),
-        (Ok(None), asked) => asked,
+    let mut asked = match asked {
+        Err(Refusal::Words(printed)) => Err(refused_in(rt, path, printed.as_str())),
+        asked => asked,
     };
     run_over(
         rt,

@@ -6,7 +6,7 @@ use h2_cmd_messages::{
     InputSource, TextBuilder, has_digits, has_offsets, is_hex, range_of, say_bad_line, say_limits,
     say_long_session, say_more_octets, say_no_file, say_no_hex, say_no_memory, say_no_octets,
     say_no_text, say_offsets, say_port, say_range, say_strange, say_table_faults, say_too_long,
-    say_unread, say_unwritten,
+    say_unclear, say_unread, say_unwritten,
 };
 use h2_io::MAX_INPUT;
 use h2_script::{ScriptFault, assemble};
@@ -53,13 +53,14 @@ impl Outcome<'_> {
         false
     }
 
-    /// Says what is wrong with octets as hex, or with the limits of a connection.
-    fn say_octets(&self, config: Option<Config>, out: &mut TextBuilder) {
+    /// Says what is wrong with octets as hex, which may be those of a dump, or with the limits of a connection.
+    fn say_octets(&self, config: Option<Config>, reads_dumps: bool, out: &mut TextBuilder) {
         if !self.say_input(out) {
             return;
         }
         match config {
             _ if !is_hex(self.seen) => say_no_hex(self.source, self.seen, out),
+            _ if reads_dumps && has_offsets(self.seen) => say_unclear(self.source, out),
             Some(config) if !config.is_allowed() => say_limits(config, out),
             _ => say_no_memory(out),
         }
@@ -80,9 +81,15 @@ impl Outcome<'_> {
     }
 
     /// Says of octets that were refused why, and warns of others.
-    fn say_hex(&self, alloc: Global, config: Option<Config>, out: &mut TextBuilder) {
+    fn say_hex(
+        &self,
+        alloc: Global,
+        config: Option<Config>,
+        reads_dumps: bool,
+        out: &mut TextBuilder,
+    ) {
         if self.status == 1 {
-            self.say_octets(config, out);
+            self.say_octets(config, reads_dumps, out);
         } else {
             self.warn(alloc, out);
         }
@@ -123,8 +130,8 @@ impl Outcome<'_> {
     /// Says why a command that reads its whole input was refused.
     fn say_batch(&self, alloc: Global, batch: &Batch<'_>, out: &mut TextBuilder) {
         match batch {
-            Batch::Play(play) => self.say_hex(alloc, Some(play.config), out),
-            Batch::Dis => self.say_hex(alloc, None, out),
+            Batch::Play(play) => self.say_hex(alloc, Some(play.config), false, out),
+            Batch::Dis => self.say_hex(alloc, None, false, out),
             Batch::Asm => self.say_script(alloc, out),
             Batch::Table(limit) => self.say_table(*limit, out),
         }
@@ -160,8 +167,9 @@ impl Outcome<'_> {
         if self.status != 1 || !self.say_input(out) {
             return;
         }
-        if !is_hex(self.first().seen) || !config.is_allowed() {
-            self.first().say_octets(Some(config), out);
+        let first = self.first();
+        if !is_hex(first.seen) || has_offsets(first.seen) || !config.is_allowed() {
+            first.say_octets(Some(config), true, out);
         }
     }
 
@@ -197,7 +205,7 @@ pub fn say_outcome(alloc: Global, plan: &Plan<'_>, outcome: Outcome<'_>, out: &m
             Plan::Batch(batch) => outcome.say_batch(alloc, batch, out),
             Plan::Debug(debug) => outcome.say_session(alloc, debug.config, out),
             Plan::Serve(serve) => outcome.say_served(serve.config, serve.port, out),
-            Plan::Explain(explain) => outcome.say_hex(alloc, Some(explain.config), out),
+            Plan::Explain(explain) => outcome.say_hex(alloc, Some(explain.config), true, out),
             // What can't be read of its files has its sentence by the program, which has the files.
             Plan::Check(_) => {}
         }

@@ -2,15 +2,15 @@
 //! the octets themselves or their hex.
 
 use crate::commands::Commands;
-use crate::devices::files::STANDARD_INPUT;
+use crate::devices::files::{NamedFiles, STANDARD_INPUT};
 use crate::prompt::session_explainer::SessionExplainer;
 use crate::{
     Behind, Console, Front, Hexed, Manner, SessionState, TakenInput, WaitingInput, WaitingOutput,
     hex_of, one_line,
 };
 use h2_cmd_args::command::{Batch, Check, Devices, Plan, Refusal};
-use h2_cmd_book_file::{Files, FilesFault, StdFiles};
-use h2_cmd_messages::{InputSource, is_capture};
+use h2_cmd_book_file::{Files, FilesFault};
+use h2_cmd_messages::{InputSource, has_offsets, is_capture};
 use h2_io::MAX_INPUT;
 use std::alloc::AllocError;
 use std::io::{ErrorKind, Stderr, Stdin, Stdout};
@@ -202,7 +202,7 @@ fn behind<'r, 'c, C: Commands>(
 
 /// The octets of a file, at most that many as an input may have; `OutOfMemory` only where memory was refused.
 pub fn read_file(rt: &HostRuntime, path: &str, most: usize) -> Result<Vec<u8>, ErrorKind> {
-    let mut files = StdFiles { runtime: rt };
+    let mut files = NamedFiles { rt };
     match files.read(rt.alloc(), path, most) {
         Ok(octets) => Ok(octets),
         Err(FilesFault::NoMemory) => Err(ErrorKind::OutOfMemory),
@@ -226,6 +226,17 @@ fn text_of(rt: &HostRuntime, path: &str, is_raw: bool) -> Result<Vec<u8>, ErrorK
     }
 }
 
+/// What `explain` or a session is given of a text. One with offsets is a dump whose octets are not clear, since a dump that
+/// is read has none any more: what is given then is no hex.
+fn clear_text(rt: &HostRuntime, text: &[u8]) -> Result<Vec<u8>, AllocError> {
+    let given = if has_offsets(text) {
+        b"?".as_slice()
+    } else {
+        text
+    };
+    given.to_vec(rt.alloc())
+}
+
 /// What a session is given of a file: its text as one line; and the text itself, where a person or a program may ask what
 /// it means.
 fn session_front(
@@ -233,7 +244,7 @@ fn session_front(
     has_prompt: bool,
     text: Vec<u8>,
 ) -> Result<(Front, Vec<u8>), AllocError> {
-    let line = one_line(rt.alloc(), text.as_slice())?;
+    let line = one_line(rt.alloc(), clear_text(rt, text.as_slice())?.as_slice())?;
     let octets = if has_prompt {
         text.as_slice().to_vec(rt.alloc())?
     } else {
@@ -249,8 +260,11 @@ fn session_front(
 }
 
 /// What a command other than a session is given of a file.
-fn whole_front(rt: &HostRuntime, text: Vec<u8>) -> Result<(Front, Vec<u8>), AllocError> {
-    let seen = text.as_slice().to_vec(rt.alloc())?;
+fn whole_front(
+    rt: &HostRuntime,
+    text: Vec<u8>,
+    seen: Vec<u8>,
+) -> Result<(Front, Vec<u8>), AllocError> {
     let front = Front {
         text,
         seen,
@@ -269,7 +283,8 @@ fn front_over(
 ) -> Result<(Front, Vec<u8>), AllocError> {
     match asked {
         Ok(Plan::Debug(_)) => session_front(rt, has_prompt, text),
-        _ => whole_front(rt, text),
+        Ok(Plan::Explain(_)) => whole_front(rt, clear_text(rt, text.as_slice())?, text),
+        _ => whole_front(rt, text.as_slice().to_vec(rt.alloc())?, text),
     }
 }
 
@@ -279,10 +294,10 @@ fn front_of(
     asked: &Result<Plan<'_>, Refusal>,
     devices: Devices<'_>,
     path: &str,
-    case: Option<Vec<u8>>,
+    case: Option<Result<Vec<u8>, ErrorKind>>,
 ) -> (Front, Vec<u8>) {
     let read = match case {
-        Some(text) => Ok(text),
+        Some(read) => read,
         None => text_of(rt, path, devices.raw),
     };
     let text = match read {
@@ -305,19 +320,19 @@ fn refuse_for_memory(asked: &mut Result<Plan<'_>, Refusal>, failure: Option<Erro
     }
 }
 
-/// The input of a command; `case` is the text of its file, where that is a case. Where memory for a file is refused, the
-/// words are refused for that.
+/// The input of a command; `case` is the text of its file, where that is a case or can be read only once. Where memory for a
+/// file is refused, the words are refused for that.
 pub fn input_of<'r, 'c, 'w: 'c, C: Commands>(
     rt: &'r HostRuntime,
     commands: &'r C,
     asked: &mut Result<Plan<'w>, Refusal>,
     devices: Devices<'w>,
-    case: Option<Vec<u8>>,
+    case: Option<Result<Vec<u8>, ErrorKind>>,
     state: &'c SessionState,
 ) -> Given<'r, 'c, C> {
     let path = file_of(asked, devices, case.is_some());
     let explainer = SessionExplainer::new(rt, commands, asked);
-    if path == "" {
+    if path == "" && case.is_none() {
         let behind = behind(rt, devices, None, explainer, state);
         return Given {
             taken: TakenInput::new(Front::empty(rt.alloc()), behind),
@@ -328,9 +343,14 @@ pub fn input_of<'r, 'c, 'w: 'c, C: Commands>(
     let (front, octets) = front_of(rt, asked, devices, path, case);
     refuse_for_memory(asked, front.failure);
     let behind = behind(rt, devices, Some(octets), explainer, state);
+    let source = if path == "" || path == STANDARD_INPUT {
+        InputSource::Input
+    } else {
+        InputSource::File(path)
+    };
     Given {
         taken: TakenInput::new(front, behind),
-        source: InputSource::File(path),
+        source,
         state,
     }
 }
