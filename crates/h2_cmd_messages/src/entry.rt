@@ -38,7 +38,7 @@ pub fn field_reason(name: &[u8], value: &[u8]) -> Option<&'static str> {
         Some(b'A'..=b'Z') => Some("has an upper-case letter; names are lower case (RFC 9113, 8.2)"),
         Some(_) => Some("has an octet that no name may have (RFC 9113, 8.2.1)"),
         None if name.is_empty() => Some("has an empty name"),
-        None if is_connection_name(name) || name == b"content-length" => Some(
+        None if is_connection_name(name) || name == "content-length".as_bytes() => Some(
             "is not allowed: it is one of a connection, or what the server writes itself (RFC 9113, 8.2.2)",
         ),
         None if bad_octet_of_value(value).is_some() => Some(
