@@ -139,19 +139,18 @@ fn take_in_hand<'b, A: Allocator + Copy, O: Outgoing<'b, A>>(
     ensures rest { OnOk result (IsAtRest false state.new splitter.new) }
     ensures err { OnErr result ((state.new ≡ state.old) × (O.octets out.new ≡ O.octets out.old)) }
 {
-    match take_first(state, scratch, piece, out) {
-        Ok(Some(used)) => {
+    match take_first(state, scratch, piece, out)? {
+        Some(used) => {
             splitter.expect_preface(false);
             Ok(One { used, item: true })
         }
-        Ok(None) => {
+        None => {
             splitter.push(piece)?;
             Ok(One {
                 used: piece.len(),
                 item: false,
             })
         }
-        Err(error) => Err(error),
     }
 }
 
