@@ -9,7 +9,7 @@ use Rattle.h2_conn.proofs.feed.feeding.take_in_hand.Goals as goal
 
 pub returns-in-Some-clause-rest : goal.returns-in-Some-clause-rest
 returns-in-Some-clause-rest g c =
-    let first = rw c.in-Some.is at c.in_ok-take_first.ensures.ok in
+    let first = rw c.in-Some.is at c.in_ok-used.ensures.ok in
     rw c.expect_preface.ensures (
       fits-past c.args.state.now c.take_first.new.state c.args.splitter.now _ _ _ _ c.requires.rest.0 c.requires.goes first,
       octet-rest c.take_first.new.state c.args.splitter.now.octets c.requires.empty,
@@ -17,7 +17,7 @@ returns-in-Some-clause-rest g c =
 
 pub returns-in_ok-push-in-None-clause-rest : goal.returns-in_ok-push-in-None-clause-rest
 returns-in_ok-push-in-None-clause-rest g c =
-    let x = rw c.in-None.is at c.in_ok-take_first.ensures.ok in
+    let x = rw c.in-None.is at c.in_ok-used.ensures.ok in
     let pushed : c.push.new.self ≡ with_more c.args.splitter.now c.args.piece.now = c.in_ok-push-in-None.ensures.ok in
     rw (pushed, x.same) (
       fits-more c.args.state.now.core.phase c.args.splitter.now c.args.piece.now c.requires.rest.0,
