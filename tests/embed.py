@@ -11,6 +11,7 @@ import glob
 import json
 import os
 import random
+import re
 import shutil
 import subprocess
 import sys
@@ -143,7 +144,7 @@ def memory():
         while True:
             status, lines, refused = run(number)
             lines = [line for line in lines if line not in wanted]
-            check(f"allocation {number} refused", status == 0 and all(line.endswith((": fault 0 out of memory", ": fault 0 ", ": no memory")) for line in lines), (status, lines))
+            check(f"allocation {number} refused", status == 0 and all(re.match(r"\w+: (fault 0 |no memory$)", line) for line in lines), (status, lines))
             if not refused:
                 break
             number += 1
