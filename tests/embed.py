@@ -136,7 +136,10 @@ def memory():
 
         def run(number):
             how = {**os.environ, "REFUSED_CALL": str(number), "LD_PRELOAD": f"{room}/refuse.so"}
-            ran = subprocess.run(["sh", "-c", f"exec {room}/calls 9>{room}/refused"], capture_output=True, text=True, env=how, check=False)
+            with open(f"{room}/refused", "wb") as file:
+                os.dup2(file.fileno(), 9)
+            ran = subprocess.run([f"{room}/calls"], capture_output=True, text=True, env=how, pass_fds=(9,), check=False)
+            os.close(9)
             return ran.returncode, ran.stdout.splitlines(), os.path.getsize(f"{room}/refused")
 
         number, wanted = 1, run(0)[1]
