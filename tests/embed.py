@@ -11,6 +11,7 @@ import glob
 import json
 import os
 import random
+import re
 import shutil
 import subprocess
 import sys
@@ -135,7 +136,10 @@ def memory():
 
         def run(number):
             how = {**os.environ, "REFUSED_CALL": str(number), "LD_PRELOAD": f"{room}/refuse.so"}
-            ran = subprocess.run(["sh", "-c", f"exec {room}/calls 9>{room}/refused"], capture_output=True, text=True, env=how, check=False)
+            with open(f"{room}/refused", "wb") as file:
+                os.dup2(file.fileno(), 9)
+            ran = subprocess.run([f"{room}/calls"], capture_output=True, text=True, env=how, pass_fds=(9,), check=False)
+            os.close(9)
             return ran.returncode, ran.stdout.splitlines(), os.path.getsize(f"{room}/refused")
 
         number, wanted = 1, run(0)[1]
@@ -143,7 +147,7 @@ def memory():
         while True:
             status, lines, refused = run(number)
             lines = [line for line in lines if line not in wanted]
-            check(f"allocation {number} refused", status == 0 and all(line.endswith((": fault 0 out of memory", ": fault 0 ", ": no memory")) for line in lines), (status, lines))
+            check(f"allocation {number} refused", status == 0 and all(re.match(r"\w+: (fault 0 |no memory$)", line) for line in lines), (status, lines))
             if not refused:
                 break
             number += 1

@@ -3,7 +3,7 @@
 
 static void say(const char *call, const char *given, const h2_bench_text *text) {
     printf("%s: ", call);
-    if (!given) printf("fault %d %s", text->fault, text->sentence);
+    if (!given) printf("fault %d %.*s", text->fault, (int)strcspn(text->sentence, "\n"), text->sentence);
     for (; given && *given; given++) putchar(*given == '\n' ? '|' : *given);
     putchar('\n');
 }
