@@ -54,11 +54,9 @@ pub(crate) struct Walk<'t, 'b> {
     any: bool,
     /// Which error ended the connection, if one did.
     end: Option<Cause>,
-    /// Whether a line that does not hold after its end was said.
-    tells_end: bool,
-    /// How many lines that don't hold were only counted, and the number of the first of them.
-    more: u64,
-    first_more: usize,
+    /// How many lines did not hold after its end, and the number of the second of them.
+    after: u64,
+    second: usize,
     /// Whether all lines hold.
     holds: bool,
     /// Those that don't.
@@ -78,9 +76,8 @@ impl<'t, 'b> Drop for Walk<'t, 'b> {
             speaker: _,
             any: _,
             end: _,
-            tells_end: _,
-            more: _,
-            first_more: _,
+            after: _,
+            second: _,
             holds: _,
             wrongs: _,
         } = self;
@@ -101,9 +98,6 @@ pub(crate) struct Sight<'s> {
     /// Why the item before is ignored.
     pub ignored: Option<Ignored>,
 }
-
-/// How many lines that don't hold are said; those after them are counted.
-const MOST_WRONGS: usize = 100;
 
 /// What a line is that has no space after its mark.
 const UNSPACED: &str = "a mark with no space after it: `; ` begins a comment";
@@ -236,9 +230,8 @@ impl<'t, 'b> Walk<'t, 'b> {
             speaker: 0,
             any: false,
             end: None,
-            tells_end: false,
-            more: 0,
-            first_more: 0,
+            after: 0,
+            second: 0,
             holds: true,
             wrongs: Vec::new(alloc),
         }
@@ -258,9 +251,8 @@ impl<'t, 'b> Walk<'t, 'b> {
             speaker: _,
             any: _,
             end: _,
-            tells_end: _,
-            more: _,
-            first_more: _,
+            after: _,
+            second: _,
             holds,
             wrongs,
         } = self;
@@ -273,18 +265,7 @@ impl<'t, 'b> Walk<'t, 'b> {
         }
     }
 
-    /// Counts a line that does not hold.
-    fn count(&mut self, line: usize)
-        ensures { Finds false self.old self.new }
-    {
-        self.holds = false;
-        if self.more == 0 {
-            self.first_more = line;
-        }
-        self.more = self.more.saturating_add(1);
-    }
-
-    /// Adds a line to those that don't hold; it is only counted where there are a hundred.
+    /// Adds a line to those that don't hold.
     fn add_wrong(
         &mut self,
         line: usize,
@@ -294,10 +275,6 @@ impl<'t, 'b> Walk<'t, 'b> {
     ) -> Result<(), AllocError>
         ensures { OnOk result (Finds false self.old self.new) }
     {
-        if self.wrongs.len() >= MOST_WRONGS {
-            self.count(line);
-            return Ok(());
-        }
         let Ok(found) = found else {
             return Err(AllocError);
         };
@@ -340,42 +317,34 @@ impl<'t, 'b> Walk<'t, 'b> {
         if self.end.is_none() || self.debugger.is_present() {
             return self.add_wrong(line, wanted, found, None);
         }
-        if !self.tells_end {
-            self.tells_end = true;
+        self.after = self.after.saturating_add(1);
+        if self.after == 1 {
             return self.add_wrong(line, wanted, found, self.end);
         }
-        self.count(line);
+        if self.after == 2 {
+            self.second = line;
+        }
+        self.holds = false;
         Ok(())
     }
 
-    /// Whether the last line that was said is the one after the end of the connection.
-    fn is_last_at_end(&self) -> bool {
-        match self.wrongs.as_slice().last() {
-            Some(wrong) => wrong.ended.is_some(),
-            None => false,
-        }
-    }
-
-    /// Says how many lines were counted: after the end of the connection, or beyond the first hundred.
+    /// Says how many lines were counted after the end of the connection.
     fn tell_rest(&mut self, alloc: Global) -> Result<(), AllocError>
         ensures { OnOk result (self.new.holds ≡ self.old.holds) }
     {
-        let more = self.more;
-        if more == 0 {
+        if self.after < 2 {
             return Ok(());
         }
-        let (here, what) = if self.is_last_at_end() {
-            ("the connection ended here; ", "expectation")
-        } else {
-            ("", "line")
-        };
+        let more = self.after - 1;
         let end = if more == 1 { "" } else { "s" };
-        let found = match format!(in alloc; "{here}{more} more {what}{end}") {
+        let found = match format!(in alloc;
+            "the connection ended here; {more} more expectation{end}"
+        ) {
             Ok(found) => found,
             Err(_) => return Err(AllocError),
         };
         match self.wrongs.push(Wrong {
-            line: self.first_more,
+            line: self.second,
             wanted: b"what is expected from here on",
             found,
             ended: None,
@@ -949,8 +918,8 @@ fn go_over<'t, 'b>(
     walk.close(alloc)
 }
 
-/// Goes over the lines of a case, the first of which has this number in the file, and says how many of them were only
-/// counted.
+/// Goes over the lines of a case, the first of which has this number in the file, and says how many of them were counted
+/// after the end of the connection.
 ///
 /// `AllocError` where memory is refused.
 pub(crate) fn check_lines<'t, 'b>(
