@@ -74,6 +74,10 @@ block_of h = record { stream = h.stream; ends = has h.flags END_STREAM }
 abbrev pub begin : ServerFrames → ServerFrames
 begin s = record s { blocks = begun_with s.blocks.reading.table }
 
+-- HEADERS opens a block, with this fragment (6.2)
+abbrev pub opened_by : ServerFrames → Head → List ℕ → Taken
+opened_by s h fragment = with_fragment (begin s) (block_of h) h.flags fragment
+
 -- ---- a frame
 
 -- a frame that changes nothing of the blocks
@@ -88,7 +92,7 @@ continued s None flags fragment = stays s None
 -- after a frame with this payload
 abbrev pub with_part : ServerFrames → Head → Part → Taken
 with_part s h (OfData d) = stays s (event_if (has h.flags END_STREAM) (Ended h.stream))
-with_part s h (OfHeaders p) = with_fragment (begin s) (block_of h) h.flags p.fragment
+with_part s h (OfHeaders p) = opened_by s h p.fragment
 with_part s h OfPriority = stays s None
 with_part s h (OfRstStream code) = stays s (Some (Reset h.stream code))
 with_part s h (OfSettings pairs) = stays s None

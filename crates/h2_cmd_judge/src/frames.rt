@@ -2,7 +2,7 @@
 
 ghost use Rattle.std.specs.Prelude.{◌≡◌, ◌++◌, ℕ, List, IfOk, OnOk};
 ghost use Rattle.h2_frame.specs.Parts.{part_seen};
-ghost use Rattle.h2_cmd_judge.specs.ServerFrames.{answer_event, begin, block_event, block_of, continued, event_if, is_digit, is_read, read_on, stamped, status_number, status_of, with_fragment, with_frame, with_part, with_taken};
+ghost use Rattle.h2_cmd_judge.specs.ServerFrames.{answer_event, begin, block_event, block_of, continued, event_if, is_digit, is_read, opened_by, read_on, stamped, status_number, status_of, with_fragment, with_frame, with_part, with_taken};
 
 use crate::event::{Event, Seen};
 use h2_explain_words::sent::next_frame;
@@ -184,6 +184,19 @@ impl ServerFrames {
         }
     }
 
+    /// HEADERS opens a block, with this fragment (RFC 9113, 6.2).
+    fn opened_by(
+        &mut self,
+        alloc: Global,
+        head: Head,
+        fragment: &[u8],
+    ) -> Result<Option<Event>, AllocError>
+        ensures { IfOk result (λ event. opened_by self.old head fragment.now ≡ record { after = self.new; event = event }) }
+    {
+        self.begin();
+        self.with_fragment(alloc, block_of(head), head, fragment)
+    }
+
     /// Takes a frame with this payload, and says what it is.
     fn with_part(
         &mut self,
@@ -195,10 +208,7 @@ impl ServerFrames {
     {
         match part {
             Part::Data(_) => Ok(event_if(head.has(END_STREAM), Event::Ended(head.stream))),
-            Part::Headers(headers) => {
-                self.begin();
-                self.with_fragment(alloc, block_of(head), head, headers.fragment)
-            }
+            Part::Headers(headers) => { self.opened_by(alloc, head, headers.fragment) }
             Part::RstStream(code) => Ok(Some(Event::Reset(head.stream, code))),
             Part::SettingsAck => Ok(Some(Event::Acknowledged)),
             Part::Ping(octets) => Ok(event_if(head.has(ACK), Event::Pong(octets))),
