@@ -1,6 +1,6 @@
 -- The verdict on a server beside an item: what it does is what this server does, or what the rule of the item lets a server
 -- do, or what is open, or none of these (RFC 9113, 5.4 and 8.1.1).
-use Rattle.std.specs.Prelude.{ℕ, ◌+◌, ◌==◌, ◌&&◌, ◌||◌, Bool, true, false, not, nat_le, nat_lt, if◌then◌else◌, is_some, Option, Some, None}
+use Rattle.std.specs.Prelude.{ℕ, ◌==◌, ◌&&◌, ◌||◌, Bool, true, false, not, nat_le, nat_lt, if◌then◌else◌, is_some, Option, Some, None}
 use Rattle.h2_spec.specs.declared.conforming.Conforming.{Conforming}
 use Rattle.h2_spec.specs.declared.conforming.Observed.{Observed}
 use Rattle.h2_spec.specs.declared.conforming.Observed.TheVariants.{ConnectionError, StreamError, Close, Answer, Ignore, Accept, Wait, Http1}
