@@ -1,0 +1,116 @@
+-- What a server is seen to do beside an item that a client sends: what came before it, and what came after it.
+use Rattle.std.specs.Prelude.{ℕ, ◌+◌, ◌-◌, ◌^◌, min, ◌==◌, ◌&&◌, ◌||◌, Bool, true, false, not, List, [], ◌∷◌, nat_le, nat_lt, if◌then◌else◌, Option, Some, None}
+use Rattle.std.specs.Str.{bytes_eq}
+use Rattle.h2_cmd_judge.specs.declared.event.Event.{Event}
+use Rattle.h2_cmd_judge.specs.declared.event.Event.TheVariants.{Goaway, Reset, Answered, Ended, Acknowledged, Pong, Credit, Unreadable}
+use Rattle.h2_cmd_judge.specs.declared.event.Item.{Item}
+use Rattle.h2_cmd_judge.specs.declared.event.Seen.{Seen}
+use Rattle.h2_cmd_judge.specs.declared.event.Shown.{Shown}
+
+-- a count with more, which stays at 2^64 - 1 once there
+abbrev pub plus : ℕ → ℕ → ℕ
+plus a b = min (a + b) (2 ^ 64 - 1)
+
+-- the same, where the more counts
+abbrev pub added : ℕ → ℕ → Bool → ℕ
+added a b counts = if counts then plus a b else a
+
+-- a value, or else another
+abbrev pub or_else : Option ℕ → Option ℕ → Option ℕ
+or_else (Some a) other = Some a
+or_else None other = other
+
+-- a value where something holds
+abbrev pub if_so : Bool → ℕ → Option ℕ
+if_so true a = Some a
+if_so false a = None
+
+-- whether an event came before an item
+abbrev pub is_before : Item → ℕ → Bool
+is_before item after = nat_lt after item.low
+
+-- whether it came after it, and before the next that is judged
+abbrev pub is_behind : Item → ℕ → Bool
+is_behind item after = nat_le item.low after && nat_lt after item.until
+
+-- whether an event on a stream is on that of the item
+abbrev pub is_own : Item → ℕ → Bool
+is_own item stream = not (stream == 0) && stream == item.stream
+
+-- nothing was seen
+abbrev pub nothing : Shown
+nothing = record { goaway = None; reset = None; answered = None; answered_before = false; was_over = false; had_ended = false; ended_behind = false; ends = 0; acknowledged = 0; pong = false; credit = 0; stream_credit = 0 }
+
+-- with GOAWAY: NO_ERROR is no error (RFC 9113, 6.8)
+abbrev pub with_goaway : Item → Shown → (after code : ℕ) → Shown
+with_goaway item s after code = record s {
+  goaway = or_else s.goaway (if_so (is_behind item after && not (code == 0)) code);
+  was_over = s.was_over || (is_before item after && not (code == 0));
+}
+
+-- with the end of the server's side of a stream (5.1)
+abbrev pub with_end : Item → Shown → (after stream : ℕ) → Shown
+with_end item s after stream = record s {
+  had_ended = s.had_ended || (is_before item after && is_own item stream);
+  ended_behind = s.ended_behind || (is_behind item after && is_own item stream);
+  ends = if is_before item after then plus s.ends 1 else s.ends;
+}
+
+-- with RST_STREAM: NO_ERROR, or any code after the end of the answer, only says that the rest of the request is not needed
+-- (8.1)
+abbrev pub with_reset : Item → Shown → (after stream code : ℕ) → Shown
+with_reset item s after stream code = with_end item (record s {
+  reset = or_else s.reset (if_so (is_behind item after && (is_own item stream && (not (code == 0) && not s.ended_behind))) code);
+}) after stream
+
+-- with the end of a stream, where an answer has it
+abbrev pub with_end_if : Item → Shown → (after stream : ℕ) → Bool → Shown
+with_end_if item s after stream true = with_end item s after stream
+with_end_if item s after stream false = s
+
+-- with an answer, which may have the end of the stream (8.1)
+abbrev pub with_answer : Item → Shown → (after stream status : ℕ) → Bool → Shown
+with_answer item s after stream status ends = with_end_if item (record s {
+  answered = or_else s.answered (if_so (is_behind item after && is_own item stream) status);
+  answered_before = s.answered_before || is_own item stream;
+}) after stream ends
+
+-- with an acknowledgement of SETTINGS (6.5.3)
+abbrev pub with_acknowledgement : Shown → Shown
+with_acknowledgement s = record s { acknowledged = plus s.acknowledged 1 }
+
+-- whether octets are those of the item's PING
+abbrev pub is_ping_of : Option (List ℕ) → List ℕ → Bool
+is_ping_of (Some own) octets = bytes_eq own octets
+is_ping_of None octets = false
+
+-- with an acknowledgement of PING (6.7)
+abbrev pub with_pong : Item → Shown → (after : ℕ) → List ℕ → Shown
+with_pong item s after octets = record s { pong = s.pong || (nat_le item.low after && is_ping_of item.ping octets) }
+
+-- with octets that the client may send besides (6.9)
+abbrev pub with_credit : Item → Shown → (after stream octets : ℕ) → Shown
+with_credit item s after stream octets = record s {
+  credit = added s.credit octets (is_before item after && stream == 0);
+  stream_credit = added s.stream_credit octets (is_before item after && is_own item stream);
+}
+
+-- with one more event
+abbrev pub with_event : Item → Shown → (after : ℕ) → Event → Shown
+with_event item s after (Goaway code) = with_goaway item s after code
+with_event item s after (Reset stream code) = with_reset item s after stream code
+with_event item s after (Answered stream status ends) = with_answer item s after stream status ends
+with_event item s after (Ended stream) = with_end item s after stream
+with_event item s after Acknowledged = with_acknowledgement s
+with_event item s after (Pong octets) = with_pong item s after octets
+with_event item s after (Credit stream octets) = with_credit item s after stream octets
+with_event item s after (Unreadable stream) = s
+
+-- what is seen with these events besides
+abbrev pub shown_after : Item → Shown → List Seen → Shown
+shown_after item s [] = s
+shown_after item s (e ∷ es) = shown_after item (with_event item s e.after e.event) es
+
+-- what is seen of a server beside an item
+abbrev pub shown_by : Item → List Seen → Shown
+shown_by item events = shown_after item nothing events
