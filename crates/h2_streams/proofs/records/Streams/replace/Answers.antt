@@ -13,7 +13,7 @@ use Rattle.h2_streams.proofs.records.Streams.replace.Goals as goal
 can-all : (b : Base) (own : Records) {v : Records} (st : Stream) → with_base b own ≡ v → can_become (kind_of v.last v.streams st.id) st.kind ≡ true → can_become (kind_of (with_base b own).last (with_base b own).streams st.id) st.kind ≡ true
 can-all b own st is can = subst (λ (v : Records). can_become (kind_of v.last v.streams st.id) st.kind ≡ true) (sym is) can
 
-written : Stream → Records → Records
+abbrev written : Stream → Records → Records
 written st r = record r { streams = put st r.streams }
 
 pub replace-requires : goal.replace-requires
@@ -23,8 +23,8 @@ replace-requires g c =
     let known = copied-some c.get.result c.get.ensures (sym c.is_some.ensures ∙ c.if-is_some.true) in
     subst (λ (x : Stream). can_become x.kind st.kind ≡ true) (own-stream s.base s.own c.self.invariant st.id known) (can-all s.base s.own st c.self.view_is c.requires.can)
 
-pub invariant_of-self-then-is_some : goal.invariant_of-self-then-is_some
-invariant_of-self-then-is_some g c =
+pub invariant_of-self : goal.invariant_of-self
+invariant_of-self g c =
     let s = c.self.inside in
     let st = c.args.stream in
     let old = the-one (record_of s.own.streams st.id) (copied-some c.get.result c.get.ensures (sym c.is_some.ensures ∙ c.if-is_some.true)) in
