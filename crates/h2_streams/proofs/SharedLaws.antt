@@ -1,5 +1,5 @@
 -- Records of which the first are in brief: what is found, counted or changed in one's own is so in all.
-use Rattle.std.proofs.Common.{◌≡◌, ℕ, ◌<◌, ◌≤◌, ◌%◌, Bool, true, false, ◌&&◌, cond, eqb, nat_lt, ◌+ℤ◌, map, List, [], ◌∷◌, ◌++◌, Some, refl, ap, ◌∙◌, sym, subst, arith, ℤ, true≢false}
+use Rattle.std.proofs.Common.{◌≡◌, ℕ, ◌<◌, ◌≤◌, ◌%◌, Bool, true, false, ◌&&◌, cond, eqb, nat_lt, ◌+ℤ◌, map, List, [], ◌∷◌, ◌++◌, Some, Result, Ok, Err, OnOk, OnErr, refl, ap, ◌∙◌, sym, subst, arith, ℤ, true≢false}
 use Rattle.std.specs.Prelude.{find}
 use Rattle.std.specs.List.{AllByRecursion, filter, list_any}
 use Rattle.std.specs.Option.{option_map}
@@ -203,6 +203,11 @@ go-added b own st g k odd above = record {
   base_brief = g.base_brief;
   is_joined = joined-push b.records b.front own.streams own.last st g.is_joined above odd;
 }
+
+-- where there was memory for it, and where not
+pub go-added-or : {E : Type 0} (b : Base) (own new : Records) (st : Stream) (r : Result (Unit {0}) E) → OnOk r (new ≡ added st own) → OnErr r (new ≡ own) → GoWith b own → IsBrief st → st.id % 2 ≡ 1 → own.last < st.id → GoWith b new
+go-added-or b own new st (Ok x) ok err g k odd above = subst (λ (v : Records). GoWith b v) (sym ok) (go-added b own st g k odd above)
+go-added-or b own new st (Err e) ok err g k odd above = subst (λ (v : Records). GoWith b v) (sym err) g
 
 pub added-all : (b : Base) (own : Records) (st : Stream) → GoWith b own → with_base b (added st own) ≡ added st (with_base b own)
 added-all b own st g =

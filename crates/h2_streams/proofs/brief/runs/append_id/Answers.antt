@@ -1,4 +1,4 @@
-use Rattle.std.proofs.Common.{◌≡◌, ◌-◌, List, Some, length, subst}
+use Rattle.std.proofs.Common.{◌≡◌, ◌-◌, List, Some, arith, length, subst}
 use Rattle.std.specs.Prelude.{slice_get}
 use Rattle.h2_streams.specs.declared.brief.runs.IdRun.{IdRun}
 use Rattle.h2_streams.proofs.RunLaws.{appended, extended-last}
@@ -28,7 +28,8 @@ returns-clause-before g c =
     let next = c.is_next.ensures c.if-not-is_next.false in
     let there = subst (λ (rs : List IdRun). slice_get rs (length rs - 1) ≡ Some next.0) c.as_slice.ensures.value next.1 in
     let done = extended-last c.args.runs.now.items next.0 run c.requires.ends.0 c.requires.ends.1 there next.2 in
-    done.before
+    let len : c.len-last.result ≡ length c.args.runs.now.items = omega (arith, c.len-last.ensures) in
+    rw len done.before
 
 pub returns-clause-last : goal.returns-clause-last
 returns-clause-last g c =
@@ -36,7 +37,8 @@ returns-clause-last g c =
     let next = c.is_next.ensures c.if-not-is_next.false in
     let there = subst (λ (rs : List IdRun). slice_get rs (length rs - 1) ≡ Some next.0) c.as_slice.ensures.value next.1 in
     let done = extended-last c.args.runs.now.items next.0 run c.requires.ends.0 c.requires.ends.1 there next.2 in
-    done.last
+    let len : c.len-last.result ≡ length c.args.runs.now.items = omega (arith, c.len-last.ensures) in
+    rw len done.last
 
 pub returns-clause-ends : goal.returns-clause-ends
 returns-clause-ends g c =
@@ -44,4 +46,5 @@ returns-clause-ends g c =
     let next = c.is_next.ensures c.if-not-is_next.false in
     let there = subst (λ (rs : List IdRun). slice_get rs (length rs - 1) ≡ Some next.0) c.as_slice.ensures.value next.1 in
     let done = extended-last c.args.runs.now.items next.0 run c.requires.ends.0 c.requires.ends.1 there next.2 in
-    (done.ends, done.end_is)
+    let len : c.len-last.result ≡ length c.args.runs.now.items = omega (arith, c.len-last.ensures) in
+    rw len (done.ends, done.end_is)
