@@ -9,7 +9,6 @@ use Rattle.h2_spec.specs.declared.streams.StreamState.TheVariants.{Idle, Skipped
 use Rattle.h2_spec.specs.Requests.StreamEnds.{server_ended_as, with_body_remaining}
 use Rattle.h2_spec.specs.Requests.Answer.{Entry, picked}
 use Rattle.h2_spec.specs.Window.{sendable}
-use Rattle.h2_streams.specs.Brief.{IsBrief}
 use Rattle.h2_streams.specs.Put.{CanPut, is_closed}
 use Rattle.h2_streams.specs.Kept.{is_ready, ready_above, next_ready}
 use Rattle.h2_spec.specs.Stream.{AreRising, Records, put, record_of, stream_at, octets_waiting, octets_left, id_of, is_live}
@@ -387,29 +386,6 @@ can_put n last ss st x known e =
     let live : is_live (stream_at last ss x.id).kind ≡ true = ap (λ i. is_live (stream_at last ss i).kind) same ∙ ap (λ (y : Stream). is_live y.kind) known.found ∙ known.live in
     let k = (stream_at last ss x.id).kind in
     (λ above. odd, λ within. ap (λ t. t || (is_closed k && not (is_live x.kind))) live)
-
--- and nothing is counted on it where it has ended then
-pub brief-after_sending : (n : ℕ) (st : Stream) → is_live st.kind ≡ true → IsBrief (after_sending n st)
-unfolding after_sending
-brief-after_sending n st live = at (n == 0) (octets_waiting st == n)
-  where
-    stays : (k : StreamState) → is_live k ≡ true → is_live k ≡ false → {A : Type 0} → A
-    stays k is no = absurd (false≢true (sym no ∙ is))
-
-    ended : (k : StreamState) → is_live k ≡ true → st.kind ≡ k → IsBrief (server_ended_as k (with_paid st n))
-    ended Idle is same = absurd (false≢true is)
-    ended Skipped is same = absurd (false≢true is)
-    ended BothOpen is same = λ e. absurd (false≢true (sym e))
-    ended HalfRemote is same = λ e. refl
-    ended HalfLocal is same = λ e. stays st.kind live e
-    ended Ended is same = absurd (false≢true is)
-    ended PeerReset is same = absurd (false≢true is)
-    ended WeReset is same = absurd (false≢true is)
-
-    at : (a b : Bool) → IsBrief (cond a st (cond b (server_ended_as st.kind (with_paid st n)) (with_body_remaining (with_paid st n) (octets_waiting st - n))))
-    at true b = λ e. stays st.kind live e
-    at false true = ended st.kind live refl
-    at false false = λ e. stays st.kind live e
 
 -- the last stream stays the last
 pub last_stays : (n last : ℕ) (ss : List Stream) (st x : Stream) → IsWaiting last ss st → x ≡ after_sending n st → max last x.id ≡ last

@@ -1,5 +1,4 @@
 mod BaseLaws
-mod BriefLaws
 mod IdsLaws
 mod JoinedEntries
 mod JoinedLaws
@@ -9,7 +8,6 @@ mod PatchLaws
 pub mod PlaceLaws
 mod ReadyRows
 pub mod RebuiltLaws
-mod RunLaws
 mod SendLaws
 mod SharedLaws
 mod ShiftLaws

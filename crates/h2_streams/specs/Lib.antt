@@ -1,4 +1,3 @@
-pub mod Brief
 pub mod Greatest
 pub mod Hash
 pub mod Joined

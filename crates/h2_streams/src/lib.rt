@@ -3,7 +3,6 @@
 //! `h2_spec/specs/Stream.antt`.
 #![tactic(auto)]
 
-mod brief;
 mod kinds;
 mod lookup;
 mod own;

@@ -1,15 +1,15 @@
-//! The records: what opens, changes and ends a stream. Those that can change are a list of their own, and most others
-//! are kept in brief (RFC 9113, 5.1). The program does not call `open_stream`, `open_reset`, `set`, `end_remote`,
-//! `end_local` and `next_waiting`, which are for users of the library: its rules return the whole record after a frame,
-//! which `put` puts in place, and `next_ready` finds the next stream that can send.
-//! Definitions: `h2_spec/specs/Stream.antt`; what is in brief: `specs/Joined.antt`.
+//! The records: what opens, changes and ends a stream. They are a list of their own, or the first of them are shared with
+//! other lists, those at an earlier or a later time. The program does not call `open_stream`, `open_reset`, `set`,
+//! `end_remote`, `end_local` and `next_waiting`, which are for users of the library: its rules return the whole record
+//! after a frame, which `put` puts in place, and `next_ready` finds the next stream that can send.
+//! Definitions: `h2_spec/specs/Stream.antt`; what is shared: `specs/Joined.antt`.
 
 ghost use Rattle.std.specs.Prelude.{◌≡◌, false, not, take, ◌<◌, ◌≤◌, ◌%◌, ◌==◌, ◌||◌, nat_lt, length, IsOk, OnOk, OnErr, IfOk, IfErr, IfSome, IsTrue, is_err, slice_get};
 ghost use Rattle.std.specs.List.{AllByRecursion, filter, list_any};
+ghost use Rattle.std.specs.Option.{option_copied};
 ghost use Rattle.h2_spec.specs.Stream as spec;
 ghost use Rattle.h2_spec.specs.Requests.StreamEnds as ends;
 ghost use Rattle.h2_spec.specs.Change as changes;
-ghost use Rattle.h2_streams.specs.Brief.{IsBrief};
 ghost use Rattle.h2_streams.specs.Greatest.{IsGreatest};
 ghost use Rattle.h2_streams.specs.Kept as kept;
 ghost use Rattle.h2_streams.specs.Put.{CanPut, can_become};
@@ -17,9 +17,9 @@ ghost use Rattle.h2_streams.specs.Raised.{can_rise, raised};
 ghost use Rattle.h2_streams.specs.Rebuilt as earlier;
 ghost use Rattle.h2_streams.specs.Shift as shift;
 
-use crate::brief::base::Base;
-use crate::kinds::{are_brief, is_brief, not_live, peer_closed, reset_kind, server_ended};
+use crate::kinds::{not_live, peer_closed, raise, reset_kind, server_ended};
 use crate::own::OwnRecords;
+use crate::sharing::base::{Base, replace, share_again, share_first};
 use crate::sharing::rebuilt::insert_closed;
 use crate::windows::greatest::overflows_with;
 use h2_spec::errors::FlowFault;
@@ -30,13 +30,14 @@ use std::marker::Model;
 
 /// The records of a connection's streams.
 ///
-/// The record of a live stream is found by one look-up in a map. Of a stream that is not live only the identifier and the
-/// state are kept once many are: an octet, where identifiers follow one another, and else 17. They are found by binary
-/// search.
+/// The record of a live stream is found by one look-up in a map. That of another stream is found by binary search over
+/// the identifiers: by at most 31 comparisons, since there are at most 2^30 odd identifiers of 31 bits (RFC 9113,
+/// 5.1.1), and by at most 20 among a million. The peer chooses identifiers, and could crowd a map of all records, but
+/// this one has at most two entries for each live stream, and 32.
 pub struct Streams<A: Allocator> {
     own: OwnRecords<A>,
-    /// The first of the records, in brief.
-    base: Base<A>,
+    /// The first of the records, where they are shared.
+    base: Option<Base<A>>,
 }
 
 impl<A: Allocator> Model for Streams<A> {
@@ -64,15 +65,15 @@ impl<A: Allocator + Copy> Streams<A> {
     {
         Streams {
             own: OwnRecords::new(alloc),
-            base: Base::new(alloc),
+            base: None,
         }
     }
 
-    /// A copy of the records.
+    /// A copy of the records; those that are shared are shared by it too.
     pub fn try_clone(&self) -> Result<Self, AllocError>
         ensures { IfOk result (λ copy. copy ≡ self.now) }
     {
-        let base = self.base.try_clone()?;
+        let base = share_again(&self.base, &self.own)?;
         let own = self.own.try_clone()?;
         Ok(Streams { own, base })
     }
@@ -92,15 +93,14 @@ impl<A: Allocator + Copy> Streams<A> {
         let Some(stream) = self.get(id) else {
             return Ok(list);
         };
-        insert_closed(&mut list, &stream)?;
+        insert_closed(&mut list, stream)?;
         Ok(list)
     }
 
     /// That many first records where those that have changed since are as in `changed`: the records at an earlier time,
-    /// when `last` was the last stream that was opened.
+    /// when `last` was the last stream that was opened. No record is copied: both share those that cannot change any more.
     ///
-    /// `AllocError` where memory is refused, or something is counted on a stream that is not live. The records are as they
-    /// were.
+    /// `AllocError` where memory is refused. The records are as they were.
     pub fn rebuilt(
         &mut self,
         count: usize,
@@ -115,13 +115,13 @@ impl<A: Allocator + Copy> Streams<A> {
         ensures rebuilt { IfOk result (λ streams. streams ≡ record { streams = earlier.rebuilt count changed.items self.old.streams; last = last }) }
         ensures same { self.new ≡ self.old }
     {
-        if !are_brief(changed.as_slice()) {
-            return Err(AllocError);
-        }
-        self.base.settle(&mut self.own)?;
-        let base = self.base.first(count, changed.as_slice().len())?;
+        let front = changed.as_slice().len();
         let own = OwnRecords::of(changed, last)?;
-        Ok(Streams { own, base })
+        let base = share_first(&mut self.own, &mut self.base, count, front)?;
+        Ok(Streams {
+            own,
+            base: Some(base),
+        })
     }
 }
 
@@ -137,10 +137,13 @@ impl<A: Allocator> Streams<A> {
 
     /// The record of the stream, if it has one: by one look-up where it is live, and else by binary search.
     #[inline(always)]
-    pub fn get(&self, id: u32) -> Option<Stream>
-        ensures { result ≡ spec.record_of self.now.streams id }
+    pub fn get(&self, id: u32) -> Option<&Stream>
+        ensures { option_copied result ≡ spec.record_of self.now.streams id }
     {
-        self.base.find(&self.own, id)
+        match &self.base {
+            None => self.own.get(id),
+            Some(base) => base.find(&self.own, id),
+        }
     }
 
     /// Looks the stream's record up, so that the calls that come next find it at once. Nothing changes.
@@ -151,17 +154,23 @@ impl<A: Allocator> Streams<A> {
     }
 
     /// The i-th record in the order of opening, from 0.
-    pub fn at(&self, i: usize) -> Option<Stream>
-        ensures { result ≡ slice_get self.now.streams i }
+    pub fn at(&self, i: usize) -> Option<&Stream>
+        ensures { option_copied result ≡ slice_get self.now.streams i }
     {
-        self.base.at(&self.own, i)
+        match &self.base {
+            None => self.own.at(i),
+            Some(base) => base.at(&self.own, i),
+        }
     }
 
     /// The number of records.
     pub fn count(&self) -> usize
         ensures { result ≡ length self.now.streams }
     {
-        self.base.count(&self.own)
+        match &self.base {
+            None => self.own.count(),
+            Some(base) => base.records().len() + (self.own.as_slice().len() - base.front()),
+        }
     }
 
     /// The number of live streams.
@@ -183,7 +192,7 @@ impl<A: Allocator> Streams<A> {
         }
         match self.get(id) {
             None => not_live(id, StreamState::Skipped),
-            Some(stream) => stream,
+            Some(stream) => *stream,
         }
     }
 
@@ -248,7 +257,13 @@ impl<A: Allocator> Streams<A> {
         requires fits { IsTrue (can_rise increment (spec.stream_at self.old.last self.old.streams id)) }
         ensures { self.new ≡ spec.changed id (raised increment) self.old }
     {
-        self.own.raise(id, increment);
+        if self.base.is_some() {
+            let mut risen = self.stream_at(id);
+            raise(&mut risen, increment);
+            self.replace(risen);
+        } else {
+            self.own.raise(id, increment);
+        }
     }
 
     /// The peer's side ends: a stream that was open on both sides is half-closed then, a half-closed one has ended.
@@ -278,19 +293,15 @@ impl<A: Allocator> Streams<A> {
     }
 
     /// Puts a record: in the place of the one of the same stream, or after all, of a stream above them. A live stream
-    /// may move to any state, one that is closed stays closed (RFC 9113, 5.1). Only a new record takes memory. A record of a
-    /// stream that is not live, with counts or an answer, is refused as one for which there is no memory; `Err` leaves the
-    /// records as they were.
+    /// may move to any state, one that is closed stays closed (RFC 9113, 5.1). Only a new record takes memory; `Err`
+    /// leaves the records as they were.
     #[inline(always)]
     pub fn put(&mut self, stream: Stream) -> Result<(), AllocError>
         requires { CanPut stream self.old }
         ensures ok { OnOk result (self.new ≡ spec.with_record stream self.old) }
         ensures err { OnErr result (self.new ≡ self.old) }
-        ensures known { stream.id ≤ self.old.last → IsBrief stream → IsOk result }
+        ensures known { stream.id ≤ self.old.last → IsOk result }
     {
-        if !is_brief(&stream) {
-            return Err(AllocError);
-        }
         if self.last() < stream.id {
             return self.add(stream);
         }
@@ -366,41 +377,30 @@ impl<A: Allocator> Streams<A> {
         self.own.shift_recv(delta);
     }
 
-    /// Puts a record in the place of the one of the same stream.
-    #[inline(always)]
-    fn replace(&mut self, stream: Stream)
-        requires can { IsTrue (can_become (spec.kind_of self.old.last self.old.streams stream.id) stream.kind) }
-        requires brief { IsBrief stream }
-        ensures { self.new ≡ record self.old { streams = spec.put stream self.old.streams } }
-    {
-        if self.own.get(stream.id).is_some() {
-            self.own.replace(stream);
-        } else {
-            self.base.write(&stream);
-        }
-    }
-
     /// Records a stream above all others.
     fn add(&mut self, stream: Stream) -> Result<(), AllocError>
         requires odd { stream.id % 2 ≡ 1 }
         requires above { self.old.last < stream.id }
-        requires brief { IsBrief stream }
         ensures ok { OnOk result (self.new ≡ spec.added stream self.old) }
         ensures err { OnErr result (self.new ≡ self.old) }
     {
-        self.settle()?;
-        self.own.add(stream)
+        match &mut self.base {
+            None => self.own.add(stream),
+            Some(base) => base.add(&mut self.own, stream),
+        }
     }
 
-    /// Keeps the records of streams that are not live in brief, once there are many. Nothing else changes.
+    /// Puts a record in the place of the one of the same stream.
     #[inline(always)]
-    fn settle(&mut self) -> Result<(), AllocError>
-        ensures { self.new ≡ self.old }
+    fn replace(&mut self, stream: Stream)
+        requires { IsTrue (can_become (spec.kind_of self.old.last self.old.streams stream.id) stream.kind) }
+        ensures { self.new ≡ record self.old { streams = spec.put stream self.old.streams } }
     {
-        if !self.own.is_crowded() {
-            return Ok(());
+        if self.base.is_some() {
+            replace(&mut self.own, &mut self.base, stream);
+        } else {
+            self.own.replace(stream);
         }
-        self.base.settle(&mut self.own)
     }
 }
 

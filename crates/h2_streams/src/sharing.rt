@@ -1,5 +1,6 @@
 //! Records that lists have in common, and lists that are kept to be made again.
 
+pub(crate) mod base;
 pub(crate) mod kept;
 pub(crate) mod patch;
 pub(crate) mod rebuilt;

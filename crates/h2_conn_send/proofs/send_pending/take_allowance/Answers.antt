@@ -2,8 +2,7 @@ use Rattle.std.proofs.Common.{◌≡◌, ◌≤◌, ◌∙◌, ap, sym, subst}
 use Rattle.h2_spec.specs.Stream.{put, with_record}
 use Rattle.h2_spec.specs.declared.streams.Stream.{Stream}
 use Rattle.h2_spec.specs.SendPending.{after_sending}
-use Rattle.h2_streams.specs.Brief.{IsBrief}
-use Rattle.h2_conn_send.proofs.AboveLaws.{both, brief-after_sending, can_put, last_stays, id-after_sending, on_ok}
+use Rattle.h2_conn_send.proofs.AboveLaws.{both, can_put, last_stays, id-after_sending, on_ok}
 use Rattle.h2_conn_send.proofs.send_pending.take_allowance.Goals as goal
 
 pub put-requires : goal.put-requires
@@ -18,7 +17,6 @@ returns-clause-sent g c =
     let n = c.allowance-allowance.result in
     let w = c.requires.within in
     let within = subst (λ i. i ≤ last) (sym (ap (λ (y : Stream). y.id) c.after_sending.ensures ∙ id-after_sending n st)) w in
-    let brief = subst IsBrief (sym c.after_sending.ensures) (brief-after_sending n st c.requires.live) in
-    let done = on_ok c.put.result (c.put.new.self ≡ with_record x c.args.streams.now) (c.put.ensures.known within brief) c.put.ensures.ok in
+    let done = on_ok c.put.result (c.put.new.self ≡ with_record x c.args.streams.now) (c.put.ensures.known within) c.put.ensures.ok in
     done ∙ ap (λ l. both (put x ss) l) (last_stays n last ss st x c.requires c.after_sending.ensures)
     ∙ ap (λ y. both (put y ss) last) (c.after_sending.ensures ∙ ap (λ m. after_sending m st) c.allowance-allowance.ensures.allowance)
