@@ -343,7 +343,7 @@ def declares(name, path):
 def sources():
     """Each source file and script, by its name alone."""
     found = {}
-    for pattern in ("crates/*/src/**/*.rt", "crates/*/specs/**/*.antt", "crates/*/proofs/**/*.antt", "tools/*", "tests/*", "tests/*/*", "bench/**/*", "examples/embed/*", "cases/**/*", "dialogues/*"):
+    for pattern in ("crates/*/src/**/*.rt", "crates/*/specs/**/*.antt", "crates/*/proofs/**/*.antt", "tools/*", "tests/*", "tests/*/*", "bench/**/*", "cases/**/*", "dialogues/*"):
         for path in glob.glob(pattern, recursive=True):
             if os.path.isfile(path):
                 found.setdefault(os.path.basename(path), []).append(path)
@@ -434,8 +434,7 @@ def files_in_comments(known):
 
 def check(made, wrong, known):
     """Shows what is wrong, and counts."""
-    # The calls of the header begin as the names of crates do.
-    crates = {*re.findall(r"^(\w+)[^:\n]*:", read("crates.txt"), re.M), *CRATE.findall(read("share/h2_bench.h"))}
+    crates = set(re.findall(r"^(\w+)[^:\n]*:", read("crates.txt"), re.M))
     wrong += [*faults_of_table(), *faults_of_errors()]
     if not os.path.exists(MADE) or read(MADE) != made:
         wrong.append(f"{MADE} is not what tools/docs.py writes: run it")
