@@ -115,7 +115,7 @@ fn say_front(octets: &[u8], start: usize, out: &mut TextBuilder) {
     }
 }
 
-/// Says a line from a place on, after a name, as a block, so that nothing in it needs a quote; a long one is cut.
+/// Says a name and a line from a place on, as a YAML block, in which nothing needs a quote; a long line is cut.
 fn say_block(name: &str, line: &[u8], start: usize, out: &mut TextBuilder) {
     say_all!(out; "    ", name, ": |\n      ");
     if start > 0 {

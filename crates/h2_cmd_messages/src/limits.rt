@@ -71,7 +71,7 @@ pub fn say_no_file(command: &str, word: &str, out: &mut TextBuilder) {
     say_all!(out; crate::place::Quoted(word.as_bytes()), ": there is no such file; ", command, " reads standard input, or one file.\n");
 }
 
-/// The values of the options, in the order of their ranges.
+/// The limits and settings of a connection, in the order of `RANGES`.
 fn values(config: Config) -> [u32; 5] {
     [
         config.streams,

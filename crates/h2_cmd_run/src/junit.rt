@@ -117,7 +117,7 @@ fn print_results<O: Output>(output: &mut O, text: &[u8], ended: Result<bool, Pri
     }
 }
 
-/// Writes the results of files to the file of the words, and then prints them. Gives the status.
+/// Writes the results of the files of cases as XML to the FILE of `--junit`, and then prints them as TAP. Returns the status.
 fn print_suites<F: Files, O: Output, E: Output>(
     alloc: Global,
     plan: &Check<'_>,

@@ -1,4 +1,5 @@
-//! The clients of a port, one after another. Definitions: `specs/Lines.antt`, `specs/Ports.antt` and `specs/Serves.antt`.
+//! The clients of a port, one after another. The program does not call `serve_on`, which is for users of the library.
+//! Definitions: `specs/Lines.antt`, `specs/Ports.antt` and `specs/Serves.antt`.
 
 ghost use Rattle.std.specs.Prelude.{◌≡◌, ◌⊎◌, ◌++◌, [], ◌∷◌, None, true, false, Ok, Err, IfErr, IfOk, OnOk, OnErr};
 ghost use Rattle.h2_spec.specs.State.{is_allowed, opening};

@@ -21,7 +21,8 @@ fn opening_fault<'h>(
     opened_conn(book, config_of(call), out).err()
 }
 
-/// Opens a connection after an octet with an allocation refused, and once more where it was.
+/// Opens a connection that writes its SETTINGS after the octet 01, in memory that refuses the allocation of number
+/// `turn`. Where that was refused, opens it once more, with memory. Says the fault and the octets written, of both.
 fn opened_twice<'h>(
     alloc: Global,
     heap: &'h Heap,

@@ -82,7 +82,7 @@ fn keep(line: &mut LineStart, octet: u8)
     }
 }
 
-/// How a line ends that the end of the input follows; `None` where there is no octet of it.
+/// How a last line without a line feed ends: with the input; `None` where it has no octet, and so is no line.
 fn last_end(line: &LineStart) -> Option<LineEnd>
     ensures none { result ≡ None → line.now.items ≡ [] }
     ensures some { IfSome result (λ end. (end ≡ Input) × (0 < length line.now.items)) }
