@@ -307,6 +307,9 @@ def faults_of_errors():
     of_stream = set(re.findall(r"^is_of_stream (\w+) = true$", read("crates/h2_spec_laws/specs/Conformance.antt"), re.M))
     for row in rows_of("causes"):
         said = re.search(rf"(connection|stream) error (\w+): {row.name}, ", read(f"examples/causes/{row.name}.h2"))
+        if not said:
+            yield f"examples/causes/{row.name}.h2 has no line of the error {row.name}"
+            continue
         named = row.stream.split() + (row.connection.split() if said[1] == "connection" else [])
         if CODES[said[2]] not in named:
             yield f"{row.name}: this server's {said[1]} error {said[2]} is not in its row"

@@ -8,7 +8,7 @@ set -euo pipefail
 cd "$(dirname "$0")/.."
 name=${1:?a name such as ping-too-often} after=${2:?the cause after which it is listed}
 code=crates/h2_spec/src/causes.rt words=crates/h2_spec/specs/Causes/CauseWords.antt codes=crates/h2_spec/specs/Causes/Cause.antt
-places=crates/h2_spec/proofs/causes/place_of/Answers.antt known=crates/h2_cmd_check/src/names.rt example=examples/causes/$name.h2
+places=crates/h2_spec/proofs/causes/place_of/Answers.antt example=examples/causes/$name.h2
 law=crates/h2_spec_laws/specs/Conformance.antt laws=crates/h2_spec_laws/proofs/ConformanceLaws.antt
 
 variant_of() { sed -E 's/(^|-)([a-z])/\U\2/g' <<<"$1"; }
@@ -32,7 +32,6 @@ awk -v row="        \"$after\"," -v name="$name" '
 ' "$code" >"$code.new"
 mv "$code.new" "$code"
 sed -i "s/^\(static .*; \)$count\] = causes!/\1$((count + 1))] = causes!/" "$code"
-sed -i "s|^    Cause::$before,\$|&\n    Cause::$variant,|; s/^\(static .*; \)$count\] = \[\$/\1$((count + 1))] = [/" "$known"
 sed -i "/pub fn code(self)/,/^    }/s/Cause::$before\b/& | Cause::$variant/" "$code"
 
 for file in "$words" "$codes" "$places" "$law"; do
@@ -42,13 +41,13 @@ sed -i "s/^code_of $before = \(.*\)\$/&\ncode_of $variant = \1/" "$codes"
 sed -i "s/^row_of $before = \(.*\) name = codes \"[^\"]*\";\(.*\) sentence = codes \".*\" }\$/&\nrow_of $variant = \1 name = codes \"$name\";\2 sentence = codes \"$name: say the rule\" }/" "$words"
 sed -i "/^all_causes =\$/,/\[\]/s/\b$before ∷/& $variant ∷/" "$words"
 sed -i "s/\b$before ↦ refl/& | $variant ↦ refl/" "$places"
-sed -i "s/\bcause\.$before ↦ (refl, refl)/& | cause.$variant ↦ (refl, refl)/" "$laws"
+sed -i "s/\bcause\.$before ↦ refl/& | cause.$variant ↦ refl/" "$laws"
 sed -i "s/^is_of_stream $before = true\$/&\nis_of_stream $variant = true/" "$law"
 
 printf ';# %s: say in a sentence what the client does (RFC 9113, 0)\nPREFACE\nSETTINGS 00 0 -\n' "$name" >"$example"
 
 cat <<TEXT
-Written: $code, $words, $codes, $places, $known, $law, $laws, $example.
+Written: $code, $words, $codes, $places, $law, $laws, $example.
 Each has a sentence to replace (grep -rn '$name:' crates examples), and the code, the scope and the row of $after to compare with the RFC.
 Then, in this order:
   the definition that answers cause.$variant, by this name (crates/h2_spec/specs), and its laws in crates/h2_spec_laws
