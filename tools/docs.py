@@ -13,7 +13,7 @@ What is checked:
   - each file, link (with its heading), crate, path, function and type that README.md, CONTRIBUTING.md, CHANGELOG.md or docs/*.md names is there, and is in the file that is
     named with it: `feed` (feeding.rt), `feed` (h2_conn, feeding.rt);
   - each crate and file that a comment of a source names is there;
-  - README.md has at most 8 KB.
+  - README.md has at most 8 KB, and the pages of docs that are written by hand have at most 120 KB.
 
 CRATE, NAME, TOPIC and FILE are any name in a path: `tests/runs/TOPIC.run`.
 """
@@ -25,6 +25,7 @@ import re
 import sys
 
 MADE = "docs/RULES.md"
+MADE_ELSEWHERE = "docs/CLIENTS.md"
 TABLE = "docs/TABLE.md"
 Row = collections.namedtuple("Row", "variant name server section client client_section least connection stream also open_connection open_stream open_also sentence said")
 
@@ -444,7 +445,10 @@ def check(made, wrong, known):
         wrong.append(f"{MADE} is not what tools/docs.py writes: run it")
     if os.path.getsize("README.md") > 8192:
         wrong.append("README.md has more than 8 KB")
-    passed, all_words = 3 * len(rows_of("causes")) + len(rows_of("ignored")) + 2, words_of(known)
+    by_hand = sum(os.path.getsize(page) for page in glob.glob("docs/*.md") if page not in (MADE, MADE_ELSEWHERE))
+    if by_hand > 120 * 1024:
+        wrong.append(f"the pages of docs that are written by hand have {by_hand} octets, more than 120 KB")
+    passed, all_words = 3 * len(rows_of("causes")) + len(rows_of("ignored")) + 3, words_of(known)
     for page in ["README.md", "CONTRIBUTING.md", "CHANGELOG.md", *sorted(glob.glob("docs/*.md"))]:
         for number, word, there in names(page, known, crates, all_words):
             passed += 1
