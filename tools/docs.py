@@ -13,6 +13,7 @@ What is checked:
   - each file, link (with its heading), crate, path, function and type that README.md, CONTRIBUTING.md, CHANGELOG.md or docs/*.md names is there, and is in the file that is
     named with it: `feed` (feeding.rt), `feed` (h2_conn, feeding.rt);
   - each crate and file that a comment of a source names is there;
+  - docs/PROOFS.md counts the functions without a contract, and their lines, as `tools/calls.py --without` does;
   - README.md has at most 8 KB, and the pages of docs that are written by hand have at most 120 KB.
 
 CRATE, NAME, TOPIC and FILE are any name in a path: `tests/runs/TOPIC.run`.
@@ -22,6 +23,7 @@ import collections
 import glob
 import os
 import re
+import subprocess
 import sys
 
 MADE = "docs/RULES.md"
@@ -318,6 +320,21 @@ def faults_of_errors():
             yield f"{row.name}: this server's error is one of the {said[1]}, and is_of_stream says otherwise"
 
 
+# ---- what has no contract
+
+COUNT = re.compile(r"(h2_\w+) \((\d+)(?: of its (\d+))? functions, ([\d,]+) lines")
+
+
+def faults_of_counts():
+    """Counts of docs/PROOFS.md that are not those of `tools/calls.py --without`."""
+    counts = COUNT.findall(read("docs/PROOFS.md"))
+    ran = subprocess.run([sys.executable, "tools/calls.py", "--without", *[crate for crate, *_ in counts]], stdout=subprocess.PIPE, text=True, check=True)
+    for (crate, bare, of, lines), said in zip(counts, ran.stdout.splitlines()):
+        found = re.fullmatch(rf"{crate}: (\d+) of (\d+) functions, (\d+) lines", said)
+        if (bare, of or found[2], lines.replace(",", "")) != found.groups():
+            yield f"docs/PROOFS.md: {crate} has without a contract {said.split(': ')[1]}"
+
+
 # ---- names
 
 FOLDERS = ("crates", "docs", "edits", "examples", "tests", "tools", "bench", "cases", "dialogues", "share", "specs", "proofs", "src", "must-fail", ".ci")
@@ -440,7 +457,7 @@ def files_in_comments(known):
 def check(made, wrong, known):
     """Shows what is wrong, and counts."""
     crates = set(re.findall(r"^(\w+)[^:\n]*:", read("crates.txt"), re.M))
-    wrong += [*faults_of_table(), *faults_of_errors()]
+    wrong += [*faults_of_table(), *faults_of_errors(), *faults_of_counts()]
     if not os.path.exists(MADE) or read(MADE) != made:
         wrong.append(f"{MADE} is not what tools/docs.py writes: run it")
     if os.path.getsize("README.md") > 8192:
@@ -448,7 +465,7 @@ def check(made, wrong, known):
     by_hand = sum(os.path.getsize(page) for page in glob.glob("docs/*.md") if page not in (MADE, MADE_ELSEWHERE))
     if by_hand > 120 * 1024:
         wrong.append(f"the pages of docs that are written by hand have {by_hand} octets, more than 120 KB")
-    passed, all_words = 3 * len(rows_of("causes")) + len(rows_of("ignored")) + 3, words_of(known)
+    passed, all_words = 3 * len(rows_of("causes")) + len(rows_of("ignored")) + 4, words_of(known)
     for page in ["README.md", "CONTRIBUTING.md", "CHANGELOG.md", *sorted(glob.glob("docs/*.md"))]:
         for number, word, there in names(page, known, crates, all_words):
             passed += 1
