@@ -6,7 +6,7 @@
 
 What is checked:
 
-  - each cause and reason has a definition, a function and a case, each cause its script in examples/causes and one place in the text of docs/TABLE.md;
+  - each cause, reason and special case has a definition, a function and a case, each cause its script in examples/causes and one place in the text of docs/TABLE.md;
   - the error that this script shows is one that the row of the cause allows, and of the scope that the laws have;
   - where TABLE.md has a cause in brackets with sections, as `(6.9.1; **own**; CAUSE)`, one of them is the section of its rule, of what the client had to do, or of one of
     its special cases, and **own** is there where the RFC demands nothing;
@@ -48,6 +48,8 @@ TRANSLATES = {"request_cause", "trailers_cause", "fault_cause", "cause_by"}
 WORDS = {"Cause", "CauseWords", "IgnoredWords", "Rules", "SpecialCases", "AcceptedWords", "ErrorContext", "Special", "Ignoring", "Account"}
 # Crates whose functions decide; those above them speak of causes alone.
 DECIDING = ["h2_frame", "h2_conn_rules", "h2_conn", "h2_spec"]
+# The enums of the rows, as definitions import them.
+MODULES = {"Cause": "causes.Cause", "Ignored": "ignored.Ignored", "SpecialCase": "special_cases.SpecialCase"}
 # What decides where a translated reason or fault arises: (definition, its file), (function, its crate and file).
 DECIDED = {
     "bad-name": ("has_bad_name Request.antt", "has_bad_name h2_hpack_validity/mark.rt"),
@@ -158,8 +160,7 @@ def is_code(line):
 
 def spelled(text, enum, variant):
     """How a file of definitions spells a variant, by its `use` lines; None where it does not import it."""
-    module = "causes.Cause" if enum == "Cause" else "ignored.Ignored"
-    for line in re.findall(rf"^use \S*{re.escape(module)}\.TheVariants.*$", text, re.M):
+    for line in re.findall(rf"^use \S*{re.escape(MODULES[enum])}\.TheVariants.*$", text, re.M):
         alias = re.search(r" as (\w+)$", line)
         if alias:
             return rf"(?<![\w.]){alias[1]}\.{variant}(?!\w)"
@@ -183,7 +184,8 @@ def places(lines, head, word, right_of):
 def definitions(enum, variant):
     """The definitions that result in a variant: (name, path)."""
     for path in sorted(glob.glob("crates/*/specs/**/*.antt", recursive=True)):
-        if os.path.basename(path)[:-5] in WORDS or "h2_spec_laws" in path:
+        name = os.path.basename(path)[:-5]
+        if "h2_spec_laws" in path or name in WORDS and (enum, name) != ("SpecialCase", "Special"):
             continue
         text = read(path)
         word = spelled(text, enum, variant)
@@ -195,7 +197,7 @@ def definitions(enum, variant):
 
 def functions(enum, variant):
     """The functions that return a variant: (name, path)."""
-    for crate in DECIDING:
+    for crate in DECIDING if enum != "SpecialCase" else ["h2_explain_item"]:
         for path in sorted(glob.glob(f"crates/{crate}/src/**/*.rt", recursive=True)):
             if os.path.basename(path) not in ("causes.rt", "ignored.rt"):
                 for name in places(read(path).split("\n"), r"\s*(?:pub(?:\(crate\))? )?(?:const )?fn (\w+)", rf"\b{enum}::{variant}\b", lambda line: line):
@@ -233,6 +235,19 @@ def cases():
     return found
 
 
+EXPLAINED = re.compile(r"^;> (?:\w+ error \w+|ignored): (?P<name>[\w-]+), (?P<section>[^,]+), (?P<server>[^;]+); broken: (?P<client>[^,\n]+), (?P<client_section>.+)$", re.M)
+
+
+def special_files(row, of):
+    """The files of cases with a line of `explain` that has the duties of a special case, for a cause or a reason that it is of."""
+    names = {name for name in re.findall(r"`([a-z-]+)`", row.said)}
+    wanted = (row.section, SERVER[row.server], CLIENT[row.client], row.client_section)
+    assert names <= {it.name for it in of}, f"docs.py: {row.name} is of {names}"
+    for path in sorted(glob.glob("cases/**/*.h2", recursive=True)):
+        if any(said["name"] in names and said.group("section", "server", "client", "client_section") == wanted for said in EXPLAINED.finditer(read(path))):
+            yield path
+
+
 def made_page(known, wrong):
     """docs/RULES.md; what a cause or reason lacks is added to `wrong`."""
     played, codes = cases(), codes_of()
@@ -254,8 +269,11 @@ def made_page(known, wrong):
             wrong += [f"{row.name} has no {what}" for what, cell in zip(("definition", "function", "case"), (*decided, files)) if not cell]
             code = f"{codes[row.variant]}: " if enum == "Cause" else ""
             out.append(f"| `{row.name}` | {row.section}; {code}{row.sentence} | {duties(row)} | {'; '.join(decided)} | {', '.join(files)} |")
-    out += ["", "## Special cases", "", "Here `explain` prints other duties than those of the cause or reason.", "", f"| Name | Of | Rule | {head} |", "|---|---|---|---|---|---|---|---|"]
-    out += [f"| `{row.name}` | {row.said.rstrip('.')} | {row.section} | {duties(row)} |" for row in special]
+    out += ["", "## Special cases", "", "Here `explain` prints other duties than those of the cause or reason.", "", f"| Name | Of | Rule | {head} | Decided by | Cases |", "|---|---|---|---|---|---|---|---|---|---|"]
+    for row in special:
+        decided, files = [listed(definitions("SpecialCase", row.variant)), listed(functions("SpecialCase", row.variant))], list(special_files(row, causes + reasons))
+        wrong += [f"{row.name} has no {what}" for what, cell in zip(("definition", "function", "case"), (*decided, files)) if not cell]
+        out.append(f"| `{row.name}` | {row.said.rstrip('.')} | {row.section} | {duties(row)} | {'; '.join(decided)} | {', '.join(files)} |")
     out += ["", "## What is accepted", "", "Items without an error for which the RFC says more than that they are lawful.", "", f"| Name | Rule | {head} |", "|---|---|---|---|---|---|---|"]
     out += [f"| `{row.name}` | {row.section}; {row.sentence} | {duties(row)} |" for row in rows_of("accepted")]
     out += ["", "## Warnings", "", "What `explain` [warns](EXPLAIN.md#warnings) of. A note is no broken rule: `--strict` has no status 5 for it.", "",
