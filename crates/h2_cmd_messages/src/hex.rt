@@ -82,11 +82,15 @@ pub fn say_no_hex(source: InputSource<'_>, text: &[u8], out: &mut TextBuilder) {
     }
 }
 
-/// Says which octet of a text is no hex digit, and what to do.
+/// Says which octet of a text is no hex digit, and what to do. A capture is refused with `--raw` too, so its octets are
+/// not compared with digits.
 fn say_bad_digit(source: InputSource<'_>, text: &[u8], at: usize, out: &mut TextBuilder) {
     let octet = Octet(text.get(at).copied().unwrap_or(0));
-    let advice = advice(look_of(text, at));
-    say_all!(out; source, ", ", place_at(text, at), ": ", octet, " is no hex digit; ", advice, ".\n");
+    match look_of(text, at) {
+        Look::Capture => say_all!(out; source, ": ", advice(Look::Capture), ".\n"),
+        look =>
+            say_all!(out; source, ", ", place_at(text, at), ": ", octet, " is no hex digit; ", advice(look), ".\n"),
+    }
 }
 
 /// What to do with an odd number of digits.
