@@ -9,6 +9,7 @@ use Rattle.h2_cmd_run.specs.Memory.{IsDebugged, IsDebuggedWith, unserved}
 use Rattle.h2_cmd_batch.specs.Printed.{OrCutShort, Printed, failed, places_with, places_within, printed_with, printed_within}
 use Rattle.h2_cmd_batch.specs.CommandEnd.{AnswersAs, EndsBatch, Prints, PrintsSome}
 use Rattle.h2_cmd_run.specs.ProgramEnd.{EndsServe, EndsSession, SessionAs}
+use Rattle.h2_debug.specs.Session.{IsSession}
 use Rattle.h2_cmd_batch.specs.declared.fault.BenchFault.TheVariants.{NoMemory}
 
 -- all that was gathered is what was printed
@@ -31,7 +32,7 @@ batch-whole files asked input o status ends = elim (printed-such _ o status ends
   | inr known ↦ by-book (book_in files asked) asked input _ known
 ]
 
-with-book : (made : Result (List Entry) ℕ) (config : Config) (input o : List ℕ) (left : Option (List ℕ)) (status : ℕ) → SessionAs made config (Some input) left false (Some []) (Some o) status
+with-book : (made : Result (List Entry) ℕ) (config : Config) (input o : List ℕ) (left : Option (List ℕ)) (status : ℕ) → SessionAs IsSession made config (Some input) left false (Some []) (Some o) status
     → IsDebuggedWith made config input (record { text = o; status = status })
 with-book (Err fault) config input o left status ends = printed-such _ o status ends
 with-book (Ok entries) config input o left status ends =

@@ -48,18 +48,30 @@ PrintsRefusal before after status = PrintsSome IsRefusal before after status
 
 -- ---- sessions, and connections that are served
 
--- what h2_debug says of a session with the entries of a book; or the fault of the book
-abbrev pub SessionAs : Result (List Entry) ℕ → Config → Option (List ℕ) → Option (List ℕ) → Bool → Option (List ℕ) → Option (List ℕ) → ℕ → Type 0
-SessionAs (Err fault) config input left input_failed before after status = PrintsSome (λ t. t ≡ refused fault) before after status
-SessionAs (Ok entries) config input left input_failed before after status =
-    (octets held : List ℕ) → input ≡ Some octets → before ≡ Some held
-    → (t : session.Printed) × session.IsSession entries config octets input_failed left t × session.Prints t held after status
+-- the entries of a book, the limits, the octets of the input, whether its last read failed, what it has left, what is printed
+abbrev pub SessionKind : Type 1
+SessionKind = List Entry → Config → List ℕ → Bool → Option (List ℕ) → session.Printed → Type 0
 
--- memory for the book was refused, and nothing was read; or this is the session; `left` is what the input has left
+-- what h2_debug says of such a session with the entries of a book; or the fault of the book
+abbrev pub SessionAs : SessionKind → Result (List Entry) ℕ → Config → Option (List ℕ) → Option (List ℕ) → Bool → Option (List ℕ) → Option (List ℕ) → ℕ → Type 0
+SessionAs IsSome (Err fault) config input left input_failed before after status = PrintsSome (λ t. t ≡ refused fault) before after status
+SessionAs IsSome (Ok entries) config input left input_failed before after status =
+    (octets held : List ℕ) → input ≡ Some octets → before ≡ Some held
+    → (t : session.Printed) × IsSome entries config octets input_failed left t × session.Prints t held after status
+
+-- memory for the book was refused, and nothing was read; or this is such a session; `left` is what the input has left
 -- after it
+abbrev pub EndsSessionAs : SessionKind → Directory → Config → BookAsked → Option (List ℕ) → Option (List ℕ) → Bool → Option (List ℕ) → Option (List ℕ) → ℕ → Type 0
+EndsSessionAs IsSome files config book input left input_failed before after status =
+    (PrintsSome (λ t. t ≡ failed NoMemory) before after status × (input_failed ≡ false)) ⊎ SessionAs IsSome (book_said files book) config input left input_failed before after status
+
+-- a session over an input
 abbrev pub EndsSession : Directory → Config → BookAsked → Option (List ℕ) → Option (List ℕ) → Bool → Option (List ℕ) → Option (List ℕ) → ℕ → Type 0
-EndsSession files config book input left input_failed before after status =
-    (PrintsSome (λ t. t ≡ failed NoMemory) before after status × (input_failed ≡ false)) ⊎ SessionAs (book_said files book) config input left input_failed before after status
+EndsSession = EndsSessionAs session.IsSession
+
+-- a session over the octets that this line spells, which is not of the input
+abbrev pub EndsSessionOver : List ℕ → Directory → Config → BookAsked → Option (List ℕ) → Option (List ℕ) → Bool → Option (List ℕ) → Option (List ℕ) → ℕ → Type 0
+EndsSessionOver line = EndsSessionAs (session.IsSessionOver line)
 
 -- nothing is printed for words that ask for connections to be served, and the status is 2; or memory was refused
 abbrev pub EndsServe : Option (List ℕ) → Option (List ℕ) → ℕ → Type 0

@@ -11,7 +11,7 @@ ghost use Rattle.h2_cmd_run.specs.CheckProgram.{EndsCheck};
 ghost use Rattle.h2_cmd_batch.specs.CommandEnd.{EndsBatch, KnowsFile, PrintsSome, file_of, no_files};
 ghost use Rattle.h2_cmd_run.specs.ExplainProgram.{EndsExplain, form_of};
 ghost use Rattle.h2_cmd_run.specs.JUnitProgram.{ChangesAlone, EndsJUnit};
-ghost use Rattle.h2_cmd_run.specs.ProgramEnd.{EndsServe, EndsSession, EndsSomehow, PrintsRefusal, asks_why, is_reader, is_serve, printed_for};
+ghost use Rattle.h2_cmd_run.specs.ProgramEnd.{EndsServe, EndsSession, EndsSessionOver, EndsSomehow, PrintsRefusal, asks_why, is_reader, is_serve, printed_for};
 
 use crate::check::check_plan;
 use crate::print::explain_plan;
@@ -19,7 +19,7 @@ use h2_cmd_args::Words;
 use h2_cmd_args::command::{Debug, Plan, Refusal, parse};
 use h2_cmd_batch::{BenchFault, book_for_words, print, print_fault, respond};
 use h2_cmd_book_file::{Files, FilesInMemory};
-use h2_debug::debug_session;
+use h2_debug::{debug_session, debug_session_over};
 use h2_io::{FromRead, Input, IntoWrite, Output};
 use std::alloc::Global;
 use std::io;
@@ -48,6 +48,36 @@ fn debug<F: Files, I: Input, O: Output, E: Output>(
 {
     match book_for_words(alloc, &debug.book, files, errors) {
         Ok(book) => debug_session(alloc, &book, debug.config, input, output),
+        Err(fault) => print_fault(output, fault),
+    }
+}
+
+/// Makes the book of a session, and runs it over the octets that `line` spells in hex, which is not of the input.
+///
+/// The status and the faults are those of `carry_out` for a session.
+pub fn debug_over<F: Files, I: Input, O: Output, E: Output>(
+    alloc: Global,
+    debug: &Debug<'_>,
+    line: Vec<u8>,
+    files: &mut F,
+    input: &mut I,
+    output: &mut O,
+    errors: &mut E,
+) -> u8
+    requires reader { I.has_failed input.old ≡ false }
+    requires writer { O.has_failed output.old ≡ false }
+    ensures printed { KnowsFile debug.now.book.file.now (F.is_printed files.old) → O.has_failed output.new ≡ false
+        → EndsSessionOver line.items (F.file files.old) debug.now.config (book_asked debug.now.book) (I.remaining input.old)
+        (I.remaining input.new) (I.has_failed input.new) (O.written output.old) (O.written output.new) result }
+    ensures flag { O.has_failed output.new ≡ (result == 3) }
+    ensures input { I.name input.new ≡ I.name input.old }
+    ensures name { O.name output.new ≡ O.name output.old }
+    ensures quiet { debug.now.book.why ≡ false → errors.new ≡ errors.old }
+    ensures errors { E.name errors.new ≡ E.name errors.old }
+    ensures same_files { F.file files.new ≡ F.file files.old }
+{
+    match book_for_words(alloc, &debug.book, files, errors) {
+        Ok(book) => debug_session_over(alloc, &book, debug.config, line, input, output),
         Err(fault) => print_fault(output, fault),
     }
 }

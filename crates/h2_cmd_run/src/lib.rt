@@ -12,7 +12,7 @@ mod memory;
 mod print;
 mod server;
 
-pub use execute::{carry_out, run, run_on};
+pub use execute::{carry_out, debug_over, run, run_on};
 pub use h2_cmd_args::Words;
 pub use h2_cmd_args::command::{Plan, parse};
 pub use h2_serve::{Keeper, NoKeeper, Port, TcpPort};

@@ -16,6 +16,6 @@ mod reasons;
 pub use breakpoints::Break;
 pub use commands::command::{Command, command_of};
 pub use commands::reply::{FaultLine, Reply, ReplyText};
-pub use commands::session::debug_session;
+pub use commands::session::{debug_session, debug_session_over};
 pub use debugger::Debugger;
 pub use fault::DebugFault;

@@ -2,7 +2,7 @@
 
 ghost use Rattle.std.specs.Prelude.{◌≡◌, false};
 
-use h2_cmd_args::command::{Plan, Refusal, Serve};
+use h2_cmd_args::command::{Debug, Plan, Refusal, Serve};
 use h2_cmd_book_file::Files;
 use h2_io::{Input, Output};
 use std::alloc::Global;
@@ -16,6 +16,21 @@ pub trait Commands {
         &self,
         alloc: Global,
         asked: &Result<Plan<'_>, Refusal>,
+        files: &mut F,
+        input: &mut I,
+        output: &mut O,
+        errors: &mut E,
+    ) -> u8
+        requires reader { I.has_failed input.old ≡ false }
+        requires writer { O.has_failed output.old ≡ false };
+
+    /// Does what `carry_out` does of a session, over the octets that `line` spells in hex: all lines of the input are
+    /// commands.
+    fn debug_over<F: Files, I: Input, O: Output, E: Output>(
+        &self,
+        alloc: Global,
+        debug: &Debug<'_>,
+        line: Vec<u8>,
         files: &mut F,
         input: &mut I,
         output: &mut O,

@@ -72,7 +72,6 @@ fn say_of_file(
                 Outcome {
                     source,
                     seen,
-                    count: seen.len(),
                     ..outcome
                 },
                 out,

@@ -21,7 +21,7 @@ pub use commands::Commands;
 pub use devices::files::NamedFiles;
 pub use devices::hexed::{Hexed, hex_of};
 pub use devices::stopwatch::Stopwatch;
-pub use devices::taken::{Front, TakenInput, one_line};
+pub use devices::taken::{Front, TakenInput};
 pub use devices::waiting::{WaitingInput, WaitingOutput};
 pub use program::run_program;
 pub use prompt::console::{Behind, Console, Manner, OctetsExplainer};

@@ -74,6 +74,7 @@ fn run_session<C: Commands, O: Output, E: Output>(
     let has_dots = devices.prompt == "dot";
     let state = given.state;
     let line = given.first_command(devices);
+    let octets = given.taken.take_line();
     let mut input = FromRead::new(&mut given.taken);
     let mut watched = SessionOutput::new(
         rt.alloc(),
@@ -84,6 +85,17 @@ fn run_session<C: Commands, O: Output, E: Output>(
         state,
         line,
     );
+    if let (Ok(Plan::Debug(debug)), Some(octets)) = (asked, octets) {
+        return commands.debug_over(
+            rt.alloc(),
+            debug,
+            octets,
+            &mut files,
+            &mut input,
+            &mut watched,
+            errors,
+        );
+    }
     commands.carry_out(
         rt.alloc(),
         asked,

@@ -4,9 +4,9 @@
 use h2_cmd_args::command::{Batch, Plan, Refusal};
 use h2_cmd_messages::{
     InputSource, TextBuilder, has_digits, has_offsets, is_hex, range_of, say_bad_line, say_limits,
-    say_long_session, say_more_octets, say_no_file, say_no_hex, say_no_memory, say_no_octets,
-    say_no_text, say_offsets, say_port, say_range, say_strange, say_table_faults, say_too_long,
-    say_unclear, say_unread, say_unwritten,
+    say_more_octets, say_no_file, say_no_hex, say_no_memory, say_no_octets, say_no_text,
+    say_offsets, say_port, say_range, say_strange, say_table_faults, say_too_long, say_unclear,
+    say_unread, say_unwritten,
 };
 use h2_io::MAX_INPUT;
 use h2_script::{ScriptFault, assemble};
@@ -26,7 +26,7 @@ pub struct Outcome<'o> {
     pub source: InputSource<'o>,
     /// What was read of it.
     pub seen: &'o [u8],
-    /// How many octets were read, of a session over a file with its commands.
+    /// How many octets standard input gave.
     pub count: usize,
     /// Whether memory for that was refused.
     pub is_cut: bool,
@@ -41,10 +41,8 @@ impl Outcome<'_> {
     fn say_input(&self, out: &mut TextBuilder) -> bool {
         if let Some(kind) = self.failure {
             say_unread(self.source, kind, out);
-        } else if self.seen.len() > MAX_INPUT {
-            say_too_long(self.source, MAX_INPUT, out);
-        } else if self.count > MAX_INPUT {
-            say_long_session(self.source, MAX_INPUT, out);
+        } else if self.seen.len() > MAX_INPUT || self.count > MAX_INPUT {
+            say_too_long(InputSource::Input, MAX_INPUT, out);
         } else if self.is_cut {
             say_no_memory(out);
         } else {

@@ -3,9 +3,9 @@
 
 ghost use Rattle.std.specs.Prelude.{◌≡◌, false};
 
-use h2_cmd_args::command::{Refusal, Serve};
+use h2_cmd_args::command::{Debug, Refusal, Serve};
 use h2_cmd_book_file::Files;
-use h2_cmd_run::{Keeper, NoKeeper, Plan, TcpPort, carry_out, serve};
+use h2_cmd_run::{Keeper, NoKeeper, Plan, TcpPort, carry_out, debug_over, serve};
 use h2_host::{Commands, NamedFiles, Noted, ServerOutput, Stopwatch, run_program};
 use h2_host_recording::{recordings_for, refuse_recording};
 use h2_io::{Input, IntoWrite, Output};
@@ -82,6 +82,19 @@ impl Commands for Program {
         errors: &mut E,
     ) -> u8 {
         carry_out(alloc, asked, files, input, output, errors)
+    }
+
+    fn debug_over<F: Files, I: Input, O: Output, E: Output>(
+        &self,
+        alloc: Global,
+        debug: &Debug<'_>,
+        line: Vec<u8>,
+        files: &mut F,
+        input: &mut I,
+        output: &mut O,
+        errors: &mut E,
+    ) -> u8 {
+        debug_over(alloc, debug, line, files, input, output, errors)
     }
 
     fn serve<W: Write>(&self, rt: &HostRuntime, plan: &Serve<'_>, output: &mut W) -> (u8, bool) {

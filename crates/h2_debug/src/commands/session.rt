@@ -8,7 +8,7 @@ ghost use Rattle.h2_debug.specs.Commands.{command_of};
 ghost use Rattle.h2_io.specs.HexText.{octets_spelled};
 ghost use Rattle.h2_debug.specs.Reading.{ahead, most};
 ghost use Rattle.h2_debug.specs.Replies.{Obeys, reply_text};
-ghost use Rattle.h2_debug.specs.Session.{AnswersLine, IsFollowed, IsSession, Prints, Printed, failed};
+ghost use Rattle.h2_debug.specs.Session.{AnswersLine, IsFollowed, IsSession, IsSessionOver, Prints, Printed, failed};
 ghost use Rattle.h2_debug.specs.Responses.{IsRefusal, IsResponse};
 ghost use Rattle.h2_debug.specs.declared.commands.line.LineEnd.TheVariants.{Input as LastLine};
 ghost use Rattle.h2_debug.specs.Loading.{Loads, load_fault};
@@ -203,4 +203,31 @@ pub fn debug_session<I: Input, O: Output>(
         }
         Err(fault) => refuse(output, fault),
     }
+}
+
+/// The same session over the octets that `line` spells in hex, which is not of the input: all lines of the input are
+/// commands, and have at most 16,777,216 octets by themselves.
+///
+/// The status and the faults are those of `debug_session`.
+pub fn debug_session_over<I: Input, O: Output>(
+    alloc: Global,
+    book: &Book<Global>,
+    config: Config,
+    line: Vec<u8>,
+    input: &mut I,
+    output: &mut O,
+) -> u8
+    requires reader { I.has_failed input.old ≡ false }
+    requires writer { O.has_failed output.old ≡ false }
+    ensures printed { O.has_failed output.new ≡ false → (octets held : List ℕ) → I.remaining input.old ≡ Some octets → O.written output.old ≡ Some held
+        → (t : Printed) × IsSessionOver line.items book.now config octets (I.has_failed input.new) (I.remaining input.new) t × Prints t held (O.written output.new) result }
+    ensures flag { O.has_failed output.new ≡ (result == 3) }
+    ensures input { I.name input.new ≡ I.name input.old }
+    ensures name { O.name output.new ≡ O.name output.old }
+{
+    let mut reader = Reader::new();
+    let mut loaded = load(alloc, book, config, line);
+    let status = respond(&mut loaded, LineEnd::LineFeed, &mut reader, input, output);
+    drop(loaded);
+    status
 }

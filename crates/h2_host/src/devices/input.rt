@@ -6,7 +6,7 @@ use crate::devices::files::{NamedFiles, STANDARD_INPUT};
 use crate::prompt::session_explainer::SessionExplainer;
 use crate::{
     Behind, Console, Front, Hexed, Manner, SessionState, TakenInput, WaitingInput, WaitingOutput,
-    hex_of, one_line,
+    hex_of,
 };
 use h2_cmd_args::command::{Batch, Check, Devices, Plan, Refusal};
 use h2_cmd_book_file::{Files, FilesFault};
@@ -237,14 +237,13 @@ fn clear_text(rt: &HostRuntime, text: &[u8]) -> Result<Vec<u8>, AllocError> {
     given.to_vec(rt.alloc())
 }
 
-/// What a session is given of a file: its text as one line; and the text itself, where a person or a program may ask what
-/// it means.
+/// What a session is given of a file: its text; and that once more, where a person or a program may ask what it means.
 fn session_front(
     rt: &HostRuntime,
     has_prompt: bool,
     text: Vec<u8>,
 ) -> Result<(Front, Vec<u8>), AllocError> {
-    let line = one_line(rt.alloc(), clear_text(rt, text.as_slice())?.as_slice())?;
+    let line = clear_text(rt, text.as_slice())?;
     let octets = if has_prompt {
         text.as_slice().to_vec(rt.alloc())?
     } else {
@@ -255,6 +254,7 @@ fn session_front(
         seen: text,
         failure: None,
         reads_on: true,
+        keeps: false,
     };
     Ok((front, octets))
 }
@@ -270,6 +270,7 @@ fn whole_front(
         seen,
         failure: None,
         reads_on: false,
+        keeps: false,
     };
     Ok((front, Vec::new(rt.alloc())))
 }

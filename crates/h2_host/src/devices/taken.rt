@@ -4,21 +4,23 @@
 ghost use Rattle.std.specs.Prelude.{◌≤◌, length, IfOk};
 
 use crate::devices::copied::copy_from;
-use std::alloc::{AllocError, Global};
-use std::io;
+use std::alloc::Global;
 use std::io::{ErrorKind, Read};
+use std::{io, mem};
 
-/// What a file gives before the reader is read, if that is read at all.
+/// What a file gives: the input of a command, or the octets of a session, whose commands the reader gives.
 #[derive(Drop)]
 pub struct Front {
-    /// What is given first.
+    /// What is given of it.
     pub text: Vec<u8>,
     /// What was refused is looked for in this text.
     pub seen: Vec<u8>,
     /// Why the file was not read, where it was not.
     pub failure: Option<ErrorKind>,
-    /// Whether the reader is read after it.
+    /// Whether the reader is read.
     pub reads_on: bool,
+    /// Whether what it gives is kept in `seen`.
+    pub keeps: bool,
 }
 
 impl Front {
@@ -29,6 +31,7 @@ impl Front {
             seen: Vec::new(alloc),
             failure: None,
             reads_on: true,
+            keeps: true,
         }
     }
 
@@ -39,6 +42,7 @@ impl Front {
             seen: Vec::new(alloc),
             failure: Some(failure),
             reads_on: false,
+            keeps: false,
         }
     }
 }
@@ -56,7 +60,7 @@ pub struct TakenInput<R> {
     seen: Vec<u8>,
     /// Whether the reader's text is kept there.
     keeps: bool,
-    /// How many octets there were in all.
+    /// How many octets the reader gave.
     count: usize,
     /// Whether it was the reader that could not be read.
     is_reader_failure: bool,
@@ -66,24 +70,12 @@ pub struct TakenInput<R> {
     failure: Option<ErrorKind>,
 }
 
-/// The text of a file as the first line of a session: without white space, which no session looks at, and a line feed after it.
-pub fn one_line(alloc: Global, text: &[u8]) -> Result<Vec<u8>, AllocError> {
-    let mut line = Vec::new(alloc);
-    for octet in text {
-        if !matches!(*octet, b' ' | b'\t' | b'\r' | b'\n') {
-            line.push(*octet)?;
-        }
-    }
-    line.push(b'\n')?;
-    Ok(line)
-}
-
 impl<R: Read> TakenInput<R> {
-    /// What a file gives, and then what a reader gives, if that is read at all.
+    /// What a file gives, or what a reader gives.
     pub fn new(front: Front, reader: R) -> TakenInput<R> {
         TakenInput {
-            keeps: front.text.is_empty(),
-            count: front.text.len(),
+            keeps: front.keeps,
+            count: 0,
             front: front.text,
             given: 0,
             reader,
@@ -100,7 +92,16 @@ impl<R: Read> TakenInput<R> {
         self.seen.as_slice()
     }
 
-    /// How many octets there were in all: those of the file, and those that were read after it.
+    /// The octets of a session in hex, where a file gave them, and the reader gives commands alone.
+    pub fn take_line(&mut self) -> Option<Vec<u8>> {
+        if self.keeps || !self.reads_on {
+            return None;
+        }
+        let none = Vec::new(*self.front.allocator());
+        Some(mem::replace(&mut self.front, none))
+    }
+
+    /// How many octets the reader gave.
     pub fn count(&self) -> usize {
         self.count
     }

@@ -1,6 +1,7 @@
 use Rattle.std.proofs.Common.{ℕ, List, Result, ap, inl, inr, refl, subst, sym}
 use Rattle.h2_spec.specs.Requests.Answer.{Entry}
 use Rattle.h2_cmd_run.specs.ProgramEnd.{SessionAs}
+use Rattle.h2_debug.specs.Session.{IsSession}
 use Rattle.h2_cmd_batch.specs.Printed.{failed}
 use Rattle.h2_cmd_batch.specs.declared.fault.BenchFault.{BenchFault}
 use Rattle.h2_cmd_run.proofs.execute.debug.Goals as goal
@@ -10,6 +11,6 @@ returns-in-Err-clause-printed g c = λ known well.
     let refusal = c.in-Err.ensures.err known in
     elim refusal [
       | inl memory ↦ inl (λ held is. (failed c.in-Err.fault, ap (λ (f : BenchFault). failed f) memory, c.print_fault.ensures.printed well held is), c.requires.reader)
-      | inr found ↦ inr (subst (λ (r : Result (List Entry) ℕ). SessionAs r c.args.debug.now.config (g.I.Input.remaining c.args.input.now) (g.I.Input.remaining c.args.input.now) (g.I.Input.has_failed c.args.input.now) (g.O.Output.written c.args.output.now) (g.O.Output.written c.print_fault.new.output) c.print_fault.result)
+      | inr found ↦ inr (subst (λ (r : Result (List Entry) ℕ). SessionAs IsSession r c.args.debug.now.config (g.I.Input.remaining c.args.input.now) (g.I.Input.remaining c.args.input.now) (g.I.Input.has_failed c.args.input.now) (g.O.Output.written c.args.output.now) (g.O.Output.written c.print_fault.new.output) c.print_fault.result)
           (sym found) (λ held is. (failed c.in-Err.fault, refl, c.print_fault.ensures.printed well held is)))
     ]
