@@ -15,7 +15,7 @@ top=$(dirname "$(dirname "$(readlink -f "${BASH_SOURCE[0]}")")")
 cd "$top"
 # What each of the two is made of.
 of_program=(crates crates.txt)
-of_page=(web examples cases tools/page.py crates crates.txt)
+of_page=(web share/js examples cases tools/page.py crates crates.txt)
 passed=0 failed=0
 
 fail() {
@@ -81,7 +81,7 @@ released() {
 sum_of_page() {
     {
         python3 -B tools/program.py sum h2_page
-        git rev-parse HEAD:web HEAD:examples HEAD:cases HEAD:tools/page.py
+        git rev-parse HEAD:web HEAD:share/js HEAD:examples HEAD:cases HEAD:tools/page.py
     } | sha256sum | cut -d ' ' -f 1
 }
 
