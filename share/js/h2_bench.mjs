@@ -1,4 +1,4 @@
-// h2_bench in JavaScript: what an HTTP/2 server must do with the octets of a client, and why. In Node 24 or later, or a browser; docs/PAGE.md has the calls.
+// h2_bench in JavaScript: what an HTTP/2 server must do with the octets of a client, and why. In Node 24 or later, or a browser; docs/EMBED.md has the calls.
 //
 //   import { readFileSync } from "node:fs";
 //   import { load } from "./h2_bench.mjs";
