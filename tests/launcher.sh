@@ -223,7 +223,7 @@ installed() {
     runs "the installed launcher by a link" 0 "released play" "" as plain sh "$work/link" play
     runs "the installed launcher: --which" 0 "$work/prefix/bin/../libexec/h2_bench/h2_bench" "" as plain sh "$work/prefix/bin/h2_bench" --which
     for file in man/man1/h2_bench.1 bash-completion/completions/h2_bench zsh/site-functions/_h2_bench fish/vendor_completions.d/h2_bench.fish \
-        doc/h2_bench/{h2_bench.html,{TABLE,RULES,EXPLAIN,FORMATS,CASES,BOOKS,CLIENT-CI,CAPTURE}.md}; do
+        doc/h2_bench/{h2_bench.html,{TABLE,RULES,EXPLAIN,FORMATS,CASES,BOOKS,CLIENT-CI,CAPTURE,EMBED}.md}; do
         test -s "$work/prefix/share/$file"
         count "$?" "install.sh: $file"
     done

@@ -6,6 +6,7 @@ import { tmpdir } from "node:os";
 import { dirname, join, resolve } from "node:path";
 import { fileURLToPath, pathToFileURL } from "node:url";
 import { gunzipSync } from "node:zlib";
+import { Fault, load } from "../share/js/h2_bench.mjs";
 
 const top = dirname(dirname(fileURLToPath(import.meta.url)));
 const [pageFile, programFile, ...words] = process.argv.slice(2);
@@ -23,11 +24,12 @@ function run(args, input) {
   return { text: stdout.toString("latin1"), status };
 }
 
-// The functions of the page that call the code, as they are there.
-const engineSource = page.slice(page.indexOf("function engineOf("), page.indexOf("// ---- what was typed"));
-const engineOf = new Function(`${engineSource}; return engineOf;`)();
+// The functions of the module that call the code, and that they are those of the page.
+const bare = text => text.replace(/^export /gm, "");
+const source = readFileSync(join(top, "share/js/h2_bench.mjs"), "utf8").split("// ---- what others call")[0];
+check("the page has the functions of share/js", page.includes(bare(source.slice(source.indexOf("export "))).trimEnd()));
 const stock = JSON.parse(gunzipSync(Buffer.from(page.match(/const STOCK = "([^"]*)"/)[1], "base64")));
-const engine = engineOf(await WebAssembly.compile(gunzipSync(Buffer.from(page.match(/const WASM = "([^"]*)"/)[1], "base64"))));
+const bench = await load(page), { engine } = bench;
 const config = (more = {}) => ({ streams: 100, credit: 32768, table: 4096, window: 65535, frame: 16384, ...more });
 const limitWords = it => Object.entries(it).flatMap(([name, value]) => [`--${name}`, String(value)]);
 const hexOf = octets => Buffer.from(octets).toString("hex");
@@ -55,6 +57,26 @@ function sameWords(title, octets, limits, answers) {
   const fault = wanted.match(/^fault (\d+)$/m);
   check(`${title}: explanation`, fault ? found.fault === Number(fault[1]) && !found.octets.length : found.fault === 0 && latin(found) === wanted, `fault ${found.fault}`);
 }
+// The same as JSON, whole and with the verdict.
+function sameJson(title, octets, limits, answers) {
+  const wanted = run(["explain", "--json", "--full", "--strict", ...limitWords(limits), ...answers], hexOf(octets)).text, found = engine.json(limits, answers.join("\n"), octets);
+  const fault = wanted.match(/^\{"fault":\{"number":(\d+)\}\}$/m);
+  check(`${title}: JSON`, fault ? found.fault === Number(fault[1]) && !found.octets.length : found.fault === 0 && latin(found) === wanted, `fault ${found.fault}`);
+}
+// The module's calls: the items of octets in some cuts are those of the whole, and the state is that of `play`.
+function sameCalls(title, octets, limits, answers) {
+  const lines = run(["explain", "--json", "--full", "--strict", ...limitWords(limits), ...answers], hexOf(octets)).text.trimEnd().split("\n").map(it => JSON.parse(it));
+  const connection = bench.connection(answers, limits), found = [], step = 1 + Math.ceil(octets.length / 4);
+  if (lines[0].fault) {
+    let thrown;
+    try { connection.feed(octets); } catch (e) { thrown = e; }
+    check(`${title}: a fault is thrown`, thrown instanceof Fault && thrown.number === lines[0].fault.number, thrown);
+    return;
+  }
+  for (let at = 0; at === 0 || at < octets.length; at += step) found.push(...connection.feed(octets.subarray(at, at + step)));
+  check(`${title}: items in cuts`, JSON.stringify([...found, { end: connection.end }]) === JSON.stringify(lines));
+  check(`${title}: state`, connection.state() === run(["play", ...limitWords(limits), ...answers], hexOf(octets)).text.replace(/^.*\n/, ""));
+}
 function sameScript(title, octets) {
   const wanted = run(["dis"], hexOf(octets)), found = engine.scriptOf(octets);
   check(`${title}: script`, found.fault === 0 && latin(found) === wanted.text);
@@ -80,6 +102,8 @@ for (const it of stock) {
   if (places.length) sameSpan(it.name, octets, limits, answers, places, places.length >> 1, places.length + 3);
   if (places.length) sameWhys(it.name, octets, limits, answers, places.length - 1);
   sameWords(it.name, octets, limits, answers);
+  sameJson(it.name, octets, limits, answers);
+  sameCalls(it.name, octets, limits, answers);
 }
 console.log(`${stock.length} examples, scripts of causes and cases`);
 
@@ -112,6 +136,8 @@ for (; done < inputs && Date.now() < until; done++) {
   sameWords(title, octets, limits, answers);
   if (done % 4 === 3 && places.length) sameWhys(title, octets, limits, answers, places.length - 1);
   if (done % 4 === 0) sameScript(title, octets);
+  if (done % 4 === 1) sameCalls(title, octets, limits, answers);
+  if (done % 4 === 2) sameJson(title, octets, limits, answers);
   if (done % 4 === 1) { const text = run(["dis"], hexOf(octets)).text.split(""); if (text.length) text[random(text.length)] = pick([" ", "x", "\n", "9", "\"", ",", "\u0001"]); sameOctets(title, text.join("")); }
   if (done % 4 === 2 && places.length) sameSpan(title, octets, limits, [], samePlaces(title, octets, limits, []), random(places.length + 2), random(places.length + 2));
 }
@@ -128,7 +154,7 @@ console.log(`${done} random inputs${done < inputs ? `; ${inputs - done} were lef
     let places, octets, text, words;
     try {
       places = engine.call("places", [...engine.numbers(it.limits), 0n, ALL], [utf8(it.answers.join("\n")), it.octets], 65536, size);
-      words = engine.call("explanation", engine.numbers(it.limits), [utf8(it.answers.join("\n")), it.octets], 65536, size);
+      words = engine.call("explanation", [0, ...engine.numbers(it.limits)], [utf8(it.answers.join("\n")), it.octets], 65536, size);
       octets = engine.call("octets_of", [], [script], 65536, size);
       text = engine.call("script_of", [], [it.octets], 65536, size);
     } catch (e) { check(`memory of ${size} octets`, false, e); continue; }
@@ -144,7 +170,7 @@ console.log(`${done} random inputs${done < inputs ? `; ${inputs - done} were lef
   for (const room of [0, 1, 100, 900]) {
     const places = engine.call("places", [...engine.numbers(it.limits), 0n, ALL], [utf8(it.answers.join("\n")), it.octets], room, 1 << 20);
     check(`room of ${room} octets`, places.fault === 2 && !places.octets.length, `fault ${places.fault}`);
-    const words = engine.call("explanation", engine.numbers(it.limits), [utf8(it.answers.join("\n")), it.octets], room, 1 << 20);
+    const words = engine.call("explanation", [0, ...engine.numbers(it.limits)], [utf8(it.answers.join("\n")), it.octets], room, 1 << 20);
     check(`room of ${room} octets for an explanation`, words.fault === 2 && !words.octets.length, `fault ${words.fault}`);
   }
 }

@@ -383,7 +383,7 @@ def declares(name, path):
 def sources():
     """Each source file and script, by its name alone."""
     found = {}
-    for pattern in ("crates/*/src/**/*.rt", "crates/*/specs/**/*.antt", "crates/*/proofs/**/*.antt", "tools/*", "tests/*", "tests/*/*", "bench/**/*", "cases/**/*", "dialogues/*"):
+    for pattern in ("crates/*/src/**/*.rt", "crates/*/specs/**/*.antt", "crates/*/proofs/**/*.antt", "tools/*", "tests/*", "tests/*/*", "bench/**/*", "examples/embed/*", "cases/**/*", "dialogues/*"):
         for path in glob.glob(pattern, recursive=True):
             if os.path.isfile(path):
                 found.setdefault(os.path.basename(path), []).append(path)
@@ -474,7 +474,8 @@ def files_in_comments(known):
 
 def check(made, wrong, known):
     """Shows what is wrong, and counts."""
-    crates = set(re.findall(r"^(\w+)[^:\n]*:", read("crates.txt"), re.M))
+    # The calls of the header begin as the names of crates do.
+    crates = {*re.findall(r"^(\w+)[^:\n]*:", read("crates.txt"), re.M), *CRATE.findall(read("share/h2_bench.h"))}
     wrong += [*faults_of_table(), *faults_of_errors(), *faults_of_counts()]
     if not os.path.exists(MADE) or read(MADE) != made:
         wrong.append(f"{MADE} is not what tools/docs.py writes: run it")

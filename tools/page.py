@@ -1,5 +1,5 @@
 #!/usr/bin/env python3
-"""Puts the page together: page.py WASM OUT writes web/page.html with the code, the examples, the scripts of causes and the cases in it.
+"""Puts the page together: page.py WASM OUT writes web/page.html with the code, the functions of share/js that call it, the examples, the scripts of causes and the cases in it.
 
 It is the same, octet for octet, for the same code and the same files.
 """
@@ -56,6 +56,12 @@ def stock(top=TOP):
     return found
 
 
+def engine(top=TOP):
+    """What calls the code, as the module of share/js has it up to what only others call."""
+    module = read(f"{top}/share/js/h2_bench.mjs").partition("// ---- what others call")[0]
+    return re.sub(r"^export ", "", module[module.index("export ") :], flags=re.M).rstrip()
+
+
 def packed(octets):
     made = bytearray(gzip.compress(octets, 9, mtime=0))
     made[9] = 255  # the system, which some versions of Python name and others do not
@@ -67,7 +73,7 @@ def main():
     with open(wasm, "rb") as file:
         code = file.read()
     page = read(f"{TOP}/web/page.html")
-    page = page.replace("@WASM@", packed(code)).replace("@STOCK@", packed(json.dumps(stock(), sort_keys=True).encode()))
+    page = page.replace("@ENGINE@", engine()).replace("@WASM@", packed(code)).replace("@STOCK@", packed(json.dumps(stock(), sort_keys=True).encode()))
     if len(page.encode()) > MOST:
         sys.exit(f"page.py: the page has {len(page.encode())} octets, more than {MOST}")
     with open(out, "w", encoding="utf-8") as file:

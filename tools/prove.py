@@ -1,9 +1,10 @@
 #!/usr/bin/env python3
-"""Proves and builds the program, or the page.
+"""Proves and builds the program, the page, or the library for other languages.
 
-    prove.py [--anew]                         the program: ./h2_bench --prove
-    prove.py --page OUT [--anew]              the page: tools/web.sh
-    prove.py --program --page OUT [--anew]    both, over one proof: tools/release.sh
+    prove.py [--anew]                                      the program: ./h2_bench --prove
+    prove.py --page OUT [--anew]                           the page: tools/web.sh
+    prove.py --library FOLDER [--anew]                     the library: tools/lib.sh
+    prove.py [--program] [--page OUT] [--library FOLDER]   several, over one proof: tools/release.sh
 
 The crates that it is made of are copied to a temporary folder, without their must-fail edits, and `rt ci` proves them there: as many side by side as there are
 processors and as memory carries. Where the kit keeps what it has proved, a later call and the gate prove only what has changed since; --anew takes nothing of that.
@@ -12,7 +13,8 @@ Of the program `rt ci` also makes an executable by both compilers, and runs it. 
 that were proved.
 
 Of the page `rt ci` proves the crates below h2_page, which are most of the program's, so after --prove they are taken as they are. It takes no crate for WebAssembly, so
-h2_page is then proved for that target and built as `rt lib` does it, over these libraries. The same sources make the same octets.
+h2_page is then proved for that target and built as `rt lib` does it, over these libraries. In the same way h2_embed is proved and built for this machine, and linked with
+the kit's call of malloc. The same sources make the same octets.
 """
 
 import os
@@ -28,6 +30,8 @@ import program
 from program import NAME, PROVED, TOP, Progress, say
 
 PAGE = "h2_page"
+EMBED = "h2_embed"
+EXPORTS = "{ global: h2_bench_run; local: *; };\n"
 WASM = "wasm64-unknown-unknown"
 
 
@@ -104,58 +108,86 @@ def install(room, begun):
         file.write(program.sources_sum(room))
 
 
-def page_words(room, crates, archive):
-    """The call of rattle that proves h2_page for WebAssembly, over the libraries that `rt ci` has left in the copy, and builds it."""
-    kit = program.kit()
-    libraries = {name: f"{room}/crates/{name}/out/rlib" for name in crates}
-    words = [f"{kit}/bin/rattle", "build", "--crate-name", PAGE, "src/lib.rt", "-L", f"dependency={kit}/rlibs"]
-    for name in dict.fromkeys(["std", *program.uses(program.lines_of(), PAGE)]):
+def static_words(top, room, archive, *target):
+    """The call of rattle that proves a static library, over the libraries that `rt ci` has left in the copy, and builds it."""
+    kit, lines = program.kit(), program.lines_of()
+    libraries = {name: f"{room}/crates/{name}/out/rlib" for name in program.needed(lines, top)[:-1]}
+    words = [f"{kit}/bin/rattle", "build", "--crate-name", top, "src/lib.rt", "-L", f"dependency={kit}/rlibs"]
+    for name in dict.fromkeys(["std", *program.uses(lines, top)]):
         words += ["--extern", f"{name}={libraries.get(name, f'{kit}/rlibs')}/{name}.rlib"]
     for folder in libraries.values():
         words += ["-L", f"dependency={folder}"]
     words += ["--antt-project", f"{kit}/rattle/logic/antt-project.json", "--logic-built", f"{kit}/logic_built", "--jobs", str(program.side_by_side())]
-    return [*words, "--links", f"{PAGE}=", "--crate-type", "staticlib", "--target", WASM, "--toolchain", f"{kit}/toolchain", "--backend", "llvm", "-o", archive]
+    return [*words, "--links", f"{top}=", "--crate-type", "staticlib", *target, "--toolchain", f"{kit}/toolchain", "--backend", "llvm", "-o", archive]
 
 
-def build_page(room, crates, out):
+def build_page(room, out):
     """Proves and builds the code of the page in a copy of h2_page, and puts the page together."""
     archive, module = f"{room}/lib{PAGE}.a", f"{room}/{PAGE}.wasm"
     with Progress(lambda: f"proving {PAGE} for WebAssembly and building it"):
-        ran(page_words(f"{room}/below", crates, archive), f"{room}/{PAGE}")
+        ran(static_words(PAGE, f"{room}/below", archive, "--target", WASM), f"{room}/{PAGE}")
         ran([f"{program.kit()}/bin/rattle-link", "--target", WASM, "--toolchain", f"{program.kit()}/toolchain", "-o", module, archive], room)
     subprocess.run([sys.executable, "-B", f"{TOP}/tools/page.py", module, out], check=True)
 
 
-def make(has_program, page, anew):
-    """Proves and builds the program, and the page where its path is given."""
+def build_library(room, out, sources):
+    """Proves and builds the library in a copy of h2_embed, and links it: libh2_bench.so, which needs the C library alone, and libh2_bench.a, with all that it needs but that."""
+    archive, kit = f"{room}/lib{EMBED}.a", program.kit()
+    linker, parts = f"{kit}/toolchain/bin/ld.lld", ["--whole-archive", archive, "--no-whole-archive", f"{kit}/c/liblibc_c.a", f"{kit}/c/libos_c.a"]
+    with open(f"{room}/exports", "w", encoding="utf-8") as file:
+        file.write(EXPORTS)
+    with Progress(lambda: f"proving {EMBED} and building it"):
+        ran(static_words(EMBED, f"{room}/below", archive), f"{room}/{EMBED}")
+        how = ["-soname", "libh2_bench.so", "--build-id=none", "--gc-sections", "--strip-all", "-z", "noexecstack", "-z", "relro", "-z", "now", "--version-script", f"{room}/exports"]
+        ran([linker, "-shared", *how, "-o", f"{room}/libh2_bench.so", *parts, f"{kit}/toolchain/lib/libc.so.6"], room)
+        ran([linker, "-r", "-o", f"{room}/h2_bench.o", *parts], room)
+        ran([f"{kit}/toolchain/bin/llvm-ar", "crsD", "libh2_bench.a", "h2_bench.o"], room)
+    os.makedirs(out, exist_ok=True)
+    for name in ("libh2_bench.so", "libh2_bench.a"):
+        shutil.copy(f"{room}/{name}", f"{out}/{name}.new")
+        os.replace(f"{out}/{name}.new", f"{out}/{name}")
+        print(f"{out}/{name}: {os.path.getsize(f'{out}/{name}')} octets")
+    with open(f"{out}/sources", "w", encoding="utf-8") as file:
+        file.write(f"library {sources}\n")
+
+
+def make(has_program, page, library, anew):
+    """Proves and builds the program; the page and the library where their paths are given."""
     lines = program.lines_of()
-    crates = list(dict.fromkeys([*(program.needed(lines, PAGE)[:-1] if page else []), *(program.needed(lines) if has_program else [])]))
+    statics = [name for name, out in ((PAGE, page), (EMBED, library)) if out]
+    crates = list(dict.fromkeys([it for name in statics for it in program.needed(lines, name)[:-1]] + (program.needed(lines) if has_program else [])))
     with tempfile.TemporaryDirectory(prefix="h2_bench-prove-") as room:
-        begun = time.time()
+        begun, sources = time.time(), program.sources_sum(TOP, EMBED)
         copy_to(f"{room}/below", crates)
-        if page:
-            copy_crate(PAGE, f"{room}/{PAGE}")
+        for name in statics:
+            copy_crate(name, f"{room}/{name}")
         say(f"proving {len(crates)} crates: half an hour on four processors, an hour on two, where none is proved yet")
         prove(f"{room}/below", crates, anew)
         if has_program:
             install(f"{room}/below", begun)
         if page:
-            build_page(room, program.needed(lines, PAGE)[:-1], page)
+            build_page(room, page)
+        if library:
+            build_library(room, library, sources)
 
 
 def main(words):
     for number in (signal.SIGTERM, signal.SIGHUP, signal.SIGINT):
         signal.signal(number, lambda number, _: sys.exit(128 + number))
-    has_program, page = words[:1] == ["--program"] or words[:1] != ["--page"], None
-    words = words[words[:1] == ["--program"] :]
-    if words[:1] == ["--page"] and len(words) > 1:
-        page, words = os.path.abspath(words[1]), words[2:]
+    given = {"--page": None, "--library": None}
+    has_program = "--program" in words or not any(word in given for word in words)
+    words = [word for word in words if word != "--program"]
+    for word in given:
+        if word in words[:-1]:
+            at = words.index(word)
+            given[word] = os.path.abspath(words[at + 1])
+            del words[at : at + 2]
     if [word for word in words if word != "--anew"]:
         sys.exit("h2_bench: --prove takes no other word than --anew")
     program.kit()
     whole = Progress(None)
     try:
-        make(has_program, page, "--anew" in words)
+        make(has_program, *given.values(), "--anew" in words)
     except Failed as failed:
         print(failed, end="", file=sys.stderr)
         sys.exit(f"h2_bench: not proved, after {whole.clock()}")

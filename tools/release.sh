@@ -1,7 +1,7 @@
 #!/usr/bin/env bash
-# The release: the proved program and the page, as release/ has them. docs/RELEASE.md has what they are.
+# The release: the proved program, the page and the library, as release/ has them. docs/RELEASE.md has what they are.
 #
-#   tools/release.sh [--anew] [--page FILE]             proves and builds the program where that is not done yet, builds the page, and writes release/
+#   tools/release.sh [--anew] [--page FILE]             proves and builds the program where that is not done yet, builds the page and the library, and writes release/
 #   tools/release.sh --check [--anew] [--page FILE]     does the same, writes nothing, and compares octet for octet what was made of the same sources
 #   tools/release.sh --compare PROGRAM                  compares the released program with that one, which was built from the sources as they are; where these are newer
 #                                                       than the release it says by how many commits, and compares nothing
@@ -13,9 +13,10 @@
 set -eu -o pipefail
 top=$(dirname "$(dirname "$(readlink -f "${BASH_SOURCE[0]}")")")
 cd "$top"
-# What each of the two is made of.
+# What each is made of.
 of_program=(crates crates.txt)
-of_page=(web examples cases tools/page.py crates crates.txt)
+of_page=(web share/js examples cases tools/page.py crates crates.txt)
+files=(h2_bench h2_bench.html libh2_bench.so SHA256SUMS SOURCES)
 passed=0 failed=0
 
 fail() {
@@ -43,7 +44,7 @@ sum_of() {
     sha256sum <"$1" | cut -d ' ' -f 1
 }
 
-# Both sums of what does not have the octets of SHA256SUMS. Each file of a release has to be there, and both to be in SHA256SUMS.
+# What does not have the octets of SHA256SUMS. Each file of a release has to be there, and be in SHA256SUMS; one of before 0.3.0 has no library.
 sums() {
     local sum name found
     if [ ! -d release ]; then
@@ -53,7 +54,7 @@ sums() {
     for name in SOURCES SHA256SUMS; do
         if [ ! -f "release/$name" ]; then bad "release/$name is not there"; fi
     done
-    for name in h2_bench h2_bench.html; do
+    for name in h2_bench h2_bench.html $(sed -n 's/.*  \(lib.*\)$/\1/p' release/SHA256SUMS); do
         if [ ! -f "release/$name" ]; then
             bad "release/$name is not there"
             continue
@@ -81,7 +82,7 @@ released() {
 sum_of_page() {
     {
         python3 -B tools/program.py sum h2_page
-        git rev-parse HEAD:web HEAD:examples HEAD:cases HEAD:tools/page.py
+        git rev-parse HEAD:web HEAD:share/js HEAD:examples HEAD:cases HEAD:tools/page.py
     } | sha256sum | cut -d ' ' -f 1
 }
 
@@ -91,6 +92,10 @@ is_program_of_these_sources() {
 
 is_page_of_these_sources() {
     [ "$(released page)" = "$(sum_of_page)" ] && [ -z "$(git status --porcelain -- "${of_page[@]}")" ]
+}
+
+is_library_of_these_sources() {
+    [ "$(released library)" = "$(python3 -B tools/program.py sum h2_embed)" ]
 }
 
 # Says by how many commits these paths are newer than the release.
@@ -123,32 +128,24 @@ sources_of() {
     echo "version $version"
     echo "tree $(git rev-parse HEAD:crates)"
     echo "page $(sum_of_page)"
+    echo "library $(python3 -B tools/program.py sum h2_embed)"
     echo "sources $(python3 -B tools/program.py sum)"
     echo "kit $(rt version)"
     echo "needs Linux, x86-64-v2, $(least_library "$1")"
 }
 
-# Makes the four files of a release in a folder.
+# Makes the five files of a release in a folder.
 make() {
-    local size page=$page
-    if [ -n "$anew" ] || ! python3 -B tools/program.py is-proved; then
-        if [ -n "$page" ]; then
-            ./h2_bench --prove $anew
-        else
-            page=$1/page
-            python3 -B tools/prove.py --program --page "$page" $anew
-        fi
-    fi
+    local size what=()
+    if [ -n "$anew" ] || ! python3 -B tools/program.py is-proved; then what=(--program); fi
+    if [ -z "$page" ]; then what+=(--page "$1/page"); fi
+    python3 -B tools/prove.py "${what[@]}" --library "$1" $anew
     # As the compiler made it: the symbols are 71 KB of 1.85 MB, and strip of one machine may write other octets than that of the next.
     install -m 755 crates/h2_program/out/h2_program "$1/h2_bench"
-    if [ -z "$page" ]; then
-        page=$1/page
-        tools/web.sh "$page" $anew
-    fi
-    install -m 644 "$page" "$1/h2_bench.html"
-    (cd "$1" && sha256sum h2_bench h2_bench.html >SHA256SUMS)
+    install -m 644 "${page:-$1/page}" "$1/h2_bench.html"
+    (cd "$1" && sha256sum h2_bench h2_bench.html libh2_bench.so >SHA256SUMS)
     sources_of "$1/h2_bench" >"$1/SOURCES"
-    size=$(cd "$1" && cat h2_bench h2_bench.html SHA256SUMS SOURCES | wc -c)
+    size=$(cd "$1" && cat "${files[@]}" | wc -c)
     [ "$size" -le 5000000 ] || fail "the release has $size octets, and may have 5,000,000"
     echo "release.sh: made a release of $size octets"
 }
@@ -156,13 +153,20 @@ make() {
 check_release() {
     if is_program_of_these_sources; then same "$1/h2_bench" release/h2_bench; else newer "the sources are" "${of_program[@]}"; fi
     if is_page_of_these_sources; then same "$1/h2_bench.html" release/h2_bench.html; else newer "what the page is made of is" "${of_page[@]}"; fi
+    if [ ! -f release/libh2_bench.so ]; then
+        echo "release.sh: no library is released"
+    elif is_library_of_these_sources; then
+        same "$1/libh2_bench.so" release/libh2_bench.so
+    else
+        newer "the sources of the library are" "${of_program[@]}"
+    fi
     end
 }
 
 write_release() {
     local name
     mkdir -p release
-    for name in h2_bench h2_bench.html SHA256SUMS SOURCES; do
+    for name in "${files[@]}"; do
         # A program that is being run can't be written, but its name can be taken.
         cp -p "$1/$name" "release/.$name.new"
         mv "release/.$name.new" "release/$name"

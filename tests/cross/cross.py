@@ -40,7 +40,7 @@ class Report:
 
 def main():
     words = argparse.ArgumentParser()
-    words.add_argument("--program", required=True)
+    words.add_argument("--program", help="a process for each call; else the library, in this one")
     words.add_argument("--seed", type=int, default=1)
     words.add_argument("--count", type=int, default=100)
     words.add_argument("--stories")
