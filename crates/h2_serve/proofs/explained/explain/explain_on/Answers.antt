@@ -1,4 +1,4 @@
-use Rattle.std.proofs.Common.{◌+◌, [], arith, refl}
+use Rattle.std.proofs.Common.{[], arith, refl}
 use Rattle.h2_serve.specs.Passes.{grew-none}
 use Rattle.h2_serve.specs.Ports.{start_of}
 use Rattle.h2_serve.proofs.ServeLemmas.{handles-none}

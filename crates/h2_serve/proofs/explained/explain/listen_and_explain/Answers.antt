@@ -1,4 +1,3 @@
-use Rattle.std.proofs.Common.{refl}
 use Rattle.h2_serve.specs.Lines.{listening_line}
 use Rattle.h2_serve.specs.Passes.{grew-more}
 use Rattle.h2_serve.specs.Ports.{start_of}
