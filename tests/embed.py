@@ -26,6 +26,7 @@ sys.dont_write_bytecode = True
 
 import h2_bench  # noqa: E402
 
+BOOK = b'[[answer]]\nmethod = "GET"\npath = "/"\nstatus = 200\nbody = "hi"\n'
 passed = failed = 0
 
 
@@ -68,7 +69,10 @@ def whole_runs():
                 same(path, words, ran.printed)
         if b"--book" not in script:
             same(path, ["check", path], b"", path)
-    same("a book", ["explain", "--book=examples/site.toml", "--json"], open("examples/get.hex", "rb").read(), "examples/site.toml")
+    with tempfile.NamedTemporaryFile(suffix=".toml") as file:
+        file.write(BOOK)
+        file.flush()
+        same("a book", ["explain", f"--book={file.name}", "--json"], open("examples/get.hex", "rb").read(), file.name)
     same("a session", ["debug"], open("examples/get.hex", "rb").read() + b"step 2\nwhy\nback 1\nshow\n")
     return kept
 
@@ -156,11 +160,11 @@ def memory():
 
 def threads():
     """Four threads at once, with stacks of 256 KB, get what one gets."""
-    with open("cases/frames/heads.h2", encoding="utf-8") as cases, open("examples/site.toml", "rb") as book, open("examples/get.hex", encoding="utf-8") as octets:
-        cases, book, octets = cases.read(), book.read(), bytes.fromhex(octets.read())
+    with open("cases/frames/heads.h2", encoding="utf-8") as cases, open("examples/get.hex", encoding="utf-8") as octets:
+        cases, octets = cases.read(), bytes.fromhex(octets.read())
 
     def calls():
-        connection = h2_bench.Connection(book=book)
+        connection = h2_bench.Connection(book=BOOK)
         return h2_bench.check(cases), connection.feed(octets), connection.state(), h2_bench.assemble(h2_bench.disassemble(octets + bytes(900)))
 
     def work():

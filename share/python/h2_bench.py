@@ -436,7 +436,7 @@ def _printed(words: Sequence[str], input: bytes, name: str = "", file: bytes = b
 
 class Connection:
     """A connection of a server with these answers, each METHOD|PATH|STATUS|BODYHEX, and these limits: `streams`, `credit`, `table`, `window`, `frame`.
-    `book` is the text of a TOML file with further answers (docs/BOOKS.md).
+    `book` is the text of a TOML file with further answers (docs/BOOKS.md), none with `body-file`.
 
     It is the octets so far: each call plays them from the first on, so feed what is there at once rather than octet by octet. With `full` off, long texts
     of items are cut to 100 octets."""
