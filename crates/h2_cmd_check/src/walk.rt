@@ -53,7 +53,7 @@ pub(crate) struct Walk<'t, 'b> {
     any: bool,
     /// Which error ended the connection, if one did.
     end: Option<Cause>,
-    /// Whether a line that does not hold after its end was said.
+    /// Whether the first line that does not hold after its end was said.
     tells_end: bool,
     /// How many lines that don't hold were only counted, and the number of the first of them.
     more: u64,
@@ -340,19 +340,11 @@ impl<'t, 'b> Walk<'t, 'b> {
             return self.add_wrong(line, wanted, found, None);
         }
         if !self.tells_end {
-            self.tells_end = true;
+            self.tells_end = self.wrongs.len() < MOST_WRONGS;
             return self.add_wrong(line, wanted, found, self.end);
         }
         self.count(line);
         Ok(())
-    }
-
-    /// Whether the last line that was said is the one after the end of the connection.
-    fn is_last_at_end(&self) -> bool {
-        match self.wrongs.as_slice().last() {
-            Some(wrong) => wrong.ended.is_some(),
-            None => false,
-        }
     }
 
     /// Says how many lines were counted: after the end of the connection, or beyond the first hundred.
@@ -363,7 +355,7 @@ impl<'t, 'b> Walk<'t, 'b> {
         if more == 0 {
             return Ok(());
         }
-        let (here, what) = if self.is_last_at_end() {
+        let (here, what) = if self.tells_end {
             ("the connection ended here; ", "expectation")
         } else {
             ("", "line")

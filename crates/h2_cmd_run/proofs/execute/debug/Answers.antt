@@ -14,3 +14,8 @@ returns-in-Err-clause-printed g c = λ known well.
       | inr found ↦ inr (subst (λ (r : Result (List Entry) ℕ). SessionAs IsSession r c.args.debug.now.config (g.I.Input.remaining c.args.input.now) (g.I.Input.remaining c.args.input.now) (g.I.Input.has_failed c.args.input.now) (g.O.Output.written c.args.output.now) (g.O.Output.written c.print_fault.new.output) c.print_fault.result)
           (sym found) (λ held is. (failed c.in-Err.fault, refl, c.print_fault.ensures.printed well held is)))
     ]
+
+pub returns-in-Ok-clause-printed : goal.returns-in-Ok-clause-printed
+returns-in-Ok-clause-printed g c = λ known well.
+    inr (subst (λ (r : Result (List Entry) ℕ). SessionAs IsSession r c.args.debug.now.config (g.I.Input.remaining c.args.input.now) (g.I.Input.remaining c.debug_session.new.input) (g.I.Input.has_failed c.debug_session.new.input) (g.O.Output.written c.args.output.now) (g.O.Output.written c.debug_session.new.output) c.debug_session.result)
+      (sym (c.in-Ok.ensures.ok known)) (c.debug_session.ensures.printed well))
