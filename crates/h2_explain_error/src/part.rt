@@ -195,7 +195,7 @@ fn moment_value(part: SentencePart, before: &Moment) -> ShownValue<'static> {
     }
 }
 
-/// Where the second decoder stopped: at an index, or at a table size update.
+/// Where decoding stopped: at an index, or at a table size update.
 fn stopped_at(stopped: Option<Stopped>) -> u64 {
     match stopped {
         Some(Stopped::Index(number) | Stopped::Update(number)) => number,
@@ -217,10 +217,18 @@ fn block_value<A: Allocator + Copy>(
         )),
         SentencePart::CutOctets => ShownValue::Octets(context.reader.cut() as u64),
         SentencePart::Fields => ShownValue::Fields(context.fields().len()),
-        SentencePart::ListSize => ShownValue::Number(context.reader.size() as u64),
-        SentencePart::StoppedAt => ShownValue::Number(stopped_at(context.reader.stopped())),
-        SentencePart::HighestIndex => ShownValue::Number(context.reader.highest_index() as u64),
+        SentencePart::ListSize => ShownValue::Number(context.reader.size()),
+        SentencePart::StoppedAt => ShownValue::Number(stopped_at(context.stopped())),
+        SentencePart::HighestIndex => ShownValue::Number(highest_index(context)),
         _ => ShownValue::Words(""),
+    }
+}
+
+/// The highest index that has an entry, 0 where it is not known.
+fn highest_index<A: Allocator + Copy>(context: &ErrorContext<'_, '_, A>) -> u64 {
+    match context.table.highest_index() {
+        Some(index) => index as u64,
+        None => 0,
     }
 }
 

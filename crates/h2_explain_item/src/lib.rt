@@ -8,7 +8,9 @@
 //! h2_explain_step's.
 #![tactic(auto)]
 
+pub mod answer_fields;
 pub mod change;
 pub mod diagnosis;
 pub mod item;
 pub mod notes;
+pub mod shown_block;

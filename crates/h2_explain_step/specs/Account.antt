@@ -17,7 +17,6 @@ use Rattle.h2_spec.specs.declared.frames.Head.{Head}
 use Rattle.h2_spec.specs.declared.frames.ItemHead.{ItemHead}
 use Rattle.h2_spec.specs.declared.frames.ItemHead.TheVariants as head
 use Rattle.h2_spec.specs.declared.streams.Stream.{Stream}
-use Rattle.h2_explain_words.specs.Spelled.{BlockRead, begun_with}
 use Rattle.h2_explain_words.specs.Sent.{FirstFrame, first_frame}
 use Rattle.h2_spec.specs.State.{State}
 use Rattle.h2_spec.specs.Stream.{stream_at}
@@ -113,10 +112,6 @@ begun_by x begun = begun_after begun x.number x.before.block x.what
 abbrev pub ended_with : (begun number : ℕ) → Option BlockView → Option Head → ℕ
 ended_with begun number block None = number
 ended_with begun number block (Some h) = if is_of_block block h then begun else number
-
--- a reader of field blocks that has read nothing, whose table has this maximum and limit (RFC 7541, 4.2)
-abbrev pub unread : ℕ → BlockRead
-unread limit = begun_with (record { table = record { entries = []; max = limit }; limit = limit })
 
 -- ---- what an item changed
 

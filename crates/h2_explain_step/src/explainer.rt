@@ -5,13 +5,13 @@ ghost use Rattle.std.specs.Prelude.{◌≡◌, ◌++◌, Some, false, IfOk, OnOk
 ghost use Rattle.std.specs.BTreeMap.{IsEmpty};
 ghost use Rattle.std.specs.Option.{option_map};
 ghost use Rattle.h2_explain_item.specs.Item.{frame_in, head_in, part_in};
-ghost use Rattle.h2_explain_step.specs.Account.{KeepsBlocks, ListsChanges, NotesItem, begun_by, block_end_with, changes_of_sent, changes_seen, ended_with, unread, fragment_in, is_compression, is_of_block, is_of_fields, moves_windows, noted_with, notes_of_sent, notes_seen, opening_if, reads_fields, shows_fields_with};
+ghost use Rattle.h2_explain_step.specs.Account.{KeepsBlocks, ListsChanges, NotesItem, begun_by, block_end_with, changes_of_sent, changes_seen, ended_with, fragment_in, is_compression, is_of_block, is_of_fields, moves_windows, noted_with, notes_of_sent, notes_seen, opening_if, reads_fields, shows_fields_with};
 ghost use Rattle.h2_explain_item.specs.Notes.{AreNotes, note_of};
 ghost use Rattle.h2_explain_item.specs.RunFacts.{empties_after, run_facts};
 ghost use Rattle.h2_explain_item.specs.Warnings.{AreWarnings};
 
 use crate::unshown_changes::{Live, note_moved, put_moved, sent_streams};
-use h2_conn::{Conn, is_ended, write_opening};
+use h2_conn::{Conn, Scratch, is_ended, write_opening};
 use h2_explain_error::sentence::say_sentence;
 use h2_explain_item::change::changes::{
     Changes, connection_changes, is_same_stream, stream_changes,
@@ -28,9 +28,9 @@ use h2_explain_item::diagnosis::special::CaseFacts;
 use h2_explain_item::diagnosis::warning::{opens_stream, warnings_of};
 use h2_explain_item::item::Explained;
 use h2_explain_item::notes::{Notes, StreamNote};
+use h2_explain_item::shown_block::{BlockReader, ShownBlock};
 use h2_explain_text::account::Account;
 use h2_explain_words::sent::next_frame;
-use h2_explain_words::spelled::BlockReader;
 use h2_frame::Part;
 use h2_io::say::TextBuilder;
 use h2_spec::causes::Cause;
@@ -45,7 +45,9 @@ use std::collections::BTreeMap;
 pub struct ItemExplainer<A: Allocator = Global> {
     /// What was noted of the connection and its streams.
     pub notes: Notes<A>,
-    /// The second decoder of the client's field blocks.
+    /// The memory of items, with which the connection lends the fields of the last block.
+    pub memory: Scratch<A>,
+    /// How the client's field blocks are spelled.
     pub reader: BlockReader<A>,
     /// The streams that are live.
     pub live: BTreeMap<u32, (), A>,
@@ -161,12 +163,12 @@ impl<A: Allocator + Copy> ItemExplainer<A> {
     /// Nothing is known.
     pub fn new(alloc: A) -> Result<ItemExplainer<A>, AllocError>
         ensures streams { IfOk result (λ explainer. IsEmpty explainer.notes.streams) }
-        ensures reader { IfOk result (λ explainer. explainer.reader ≡ unread 4096) }
         ensures blocks { IfOk result (λ explainer. (explainer.notes.block ≡ 0) × (explainer.notes.block_end ≡ 0)) }
     {
         Ok(ItemExplainer {
             notes: Notes::new(alloc),
-            reader: BlockReader::new(alloc, 4096)?,
+            memory: Scratch::new(alloc),
+            reader: BlockReader::new(alloc),
             live: BTreeMap::new(alloc),
             table: Followed::new(alloc, 4096),
             refused_ends: BTreeMap::new(alloc),
@@ -178,7 +180,7 @@ impl<A: Allocator + Copy> ItemExplainer<A> {
 
     /// Reads what a frame has of a field block, and says whether the fields of the block are shown with it (RFC 9113,
     /// 4.3).
-    fn read_block(&mut self, alloc: A, item: &Explained<'_>) -> Result<bool, AllocError>
+    fn read_block(&mut self, conn: &Conn<'_, A>, item: &Explained<'_>) -> Result<bool, AllocError>
         ensures shows { IfOk result (λ shows. shows ≡ shows_fields_with item.now) }
         ensures notes { OnOk result (self.new.notes ≡ record self.old.notes { block = begun_by item.now self.old.notes.block }) }
         ensures full { self.new.is_full ≡ self.old.is_full }
@@ -192,13 +194,14 @@ impl<A: Allocator + Copy> ItemExplainer<A> {
         if item.before.block.is_none() {
             self.notes.begin(item.number);
             self.reader.begin();
-            self.reader.set_limit(item.before.counts.own.table)?;
         }
         if !reads_fields(item) {
             return Ok(false);
         }
         if let Some(fragment) = fragment_of(item) {
-            self.reader.read(alloc, fragment)?;
+            let limit = item.before.counts.own.table;
+            let fields = conn.fields(&self.memory);
+            self.reader.read(fields, limit, fragment)?;
         }
         Ok(head.has(END_HEADERS) || is_ended(item.after.counts.phase))
     }
@@ -346,31 +349,37 @@ impl<A: Allocator + Copy> ItemExplainer<A> {
     }
 
     /// What is wrong with the request that an item opens a stream with; nothing where it opens none.
-    fn request_facts(&self, item: &Explained<'_>) -> RequestFacts {
+    fn request_facts(&self, conn: &Conn<'_, A>, item: &Explained<'_>) -> RequestFacts {
         if !opens_stream(item) {
             return RequestFacts::none();
         }
-        request_facts(self.reader.fields())
+        request_facts(self.block(conn).fields)
     }
 
     /// What is wrong with the field block that ends with an item; nothing where none does, or the item is an error.
-    fn block_facts(&self, item: &Explained<'_>, ends: bool) -> BlockFacts {
+    fn block_facts(&self, conn: &Conn<'_, A>, item: &Explained<'_>, ends: bool) -> BlockFacts {
         if !ends || item.cause.is_some() {
             return BlockFacts::none();
         }
-        block_facts(&self.reader)
+        block_facts(self.block(conn))
+    }
+
+    /// The field block of the item that a connection has taken last, as far as it has come.
+    pub fn block<'f>(&'f self, conn: &'f Conn<'_, A>) -> ShownBlock<'f, A> {
+        self.reader.block(conn.fields(&self.memory))
     }
 
     /// What sentences draw their values from.
     fn context<'f, 'o>(
         &'f self,
-        conn: &Conn<'_, A>,
+        conn: &'f Conn<'_, A>,
         item: &'f Explained<'o>,
     ) -> ErrorContext<'f, 'o, A> {
         ErrorContext {
             item,
             notes: &self.notes,
             reader: &self.reader,
+            fields: self.block(conn).fields,
             table: &self.table,
             config: conn.config(),
             widest: self.widest(conn, item),
@@ -460,11 +469,11 @@ impl<A: Allocator + Copy> ItemExplainer<A> {
         let empties = self.empties;
         let run = run_facts(&mut self.granted, empties, item)?;
         account.is_full = self.is_full;
-        account.shows_fields = self.read_block(alloc, item)?;
-        self.follow_refused(alloc, item)?;
+        account.shows_fields = self.read_block(conn, item)?;
+        self.follow_refused(alloc, conn, item)?;
         account.facts = self.facts(conn, item);
-        let request = self.request_facts(item);
-        let block = self.block_facts(item, account.shows_fields);
+        let request = self.request_facts(conn, item);
+        let block = self.block_facts(conn, item, account.shows_fields);
         account.warnings = warnings_of(item, account.facts, request, block, run);
         self.put_error(alloc, conn, item, account)?;
         let sent = sent_streams(alloc, item)?;
@@ -478,7 +487,7 @@ impl<A: Allocator + Copy> ItemExplainer<A> {
         )?;
         self.put_changes(conn, item, &mut account.changes)?;
         self.note_rest(conn, item, &sent)?;
-        self.put_entries(alloc, item, &mut account.entries)?;
+        self.put_entries(alloc, conn, item, &mut account.entries)?;
         put_opening(alloc, conn, item.number == 1, &mut account.opening)?;
         self.empties = empties_after(empties, item.head());
         Ok(())
@@ -486,12 +495,20 @@ impl<A: Allocator + Copy> ItemExplainer<A> {
 
     /// Follows the block of an item that is refused for an index that no entry has.
     #[inline(always)]
-    fn follow_refused(&mut self, alloc: A, item: &Explained<'_>) -> Result<(), AllocError>
+    fn follow_refused(
+        &mut self,
+        alloc: A,
+        conn: &Conn<'_, A>,
+        item: &Explained<'_>,
+    ) -> Result<(), AllocError>
         ensures notes { self.new.notes ≡ self.old.notes }
         ensures full { self.new.is_full ≡ self.old.is_full }
     {
         match item.cause {
-            Some(_) => self.table.follow_refused(alloc, item, &self.reader),
+            Some(_) => {
+                let block = self.reader.block(conn.fields(&self.memory));
+                self.table.follow_refused(alloc, item, block)
+            }
             None => Ok(()),
         }
     }
@@ -501,6 +518,7 @@ impl<A: Allocator + Copy> ItemExplainer<A> {
     fn put_entries(
         &mut self,
         alloc: A,
+        conn: &Conn<'_, A>,
         item: &Explained<'_>,
         entries: &mut Vec<EntryChange<A>, A>,
     ) -> Result<(), AllocError>
@@ -511,7 +529,7 @@ impl<A: Allocator + Copy> ItemExplainer<A> {
             entries.clear();
         }
         match item.head() {
-            Some(head) if is_of_block(item, &head) => self.follow(alloc, item, entries),
+            Some(head) if is_of_block(item, &head) => self.follow(alloc, conn, item, entries),
             _ => Ok(()),
         }
     }
@@ -521,6 +539,7 @@ impl<A: Allocator + Copy> ItemExplainer<A> {
     fn follow(
         &mut self,
         alloc: A,
+        conn: &Conn<'_, A>,
         item: &Explained<'_>,
         entries: &mut Vec<EntryChange<A>, A>,
     ) -> Result<(), AllocError>
@@ -531,7 +550,8 @@ impl<A: Allocator + Copy> ItemExplainer<A> {
             self.table.begin();
         }
         if !is_ended(item.after.counts.phase) {
-            *entries = self.table.follow(alloc, item, &self.reader)?;
+            let block = self.reader.block(conn.fields(&self.memory));
+            *entries = self.table.follow(alloc, item, block)?;
         }
         Ok(())
     }

@@ -17,11 +17,11 @@ use std::alloc::{AllocError, Allocator};
 // The fields of a block say nothing of an item that is ignored, and a client may send many of these after a long block.
 /// What decides whether the rule of an item is a special case.
 pub fn facts_of<A: Allocator + Copy>(context: ErrorContext<'_, '_, A>) -> CaseFacts {
-    let fields = context.reader.fields();
+    let fields = context.fields();
     let fields = if context.item.cause.is_some() {
         fields
     } else {
-        &fields[..0]
+        fields.none()
     };
     CaseFacts {
         continued: context.item.number > context.notes.block.saturating_add(1),
@@ -57,7 +57,7 @@ fn has_lawful_window(item: &Explained<'_>) -> bool {
 fn block_of<'f, A: Allocator + Copy>(context: ErrorContext<'f, '_, A>) -> BlockFields<'f, A> {
     let numbers = &context.item.before.stream.numbers;
     BlockFields {
-        fields: context.reader.fields(),
+        fields: context.fields(),
         ends: context.ends(),
         is_short: match numbers.declared {
             Some(declared) => numbers.content_received < declared,
