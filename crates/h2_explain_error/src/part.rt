@@ -63,7 +63,7 @@ pub(crate) enum SentencePart {
     /// How many fields the block has, and what their list counts.
     Fields,
     ListSize,
-    /// The index, or the size, at which the second decoder stopped.
+    /// The index, or the size, at which decoding stopped.
     StoppedAt,
     /// The highest index of both tables.
     HighestIndex,

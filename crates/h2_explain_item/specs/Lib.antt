@@ -9,3 +9,4 @@ pub mod FrameFacts
 pub mod RunFacts
 pub mod Warnings
 pub mod Others
+pub mod ShownBlock

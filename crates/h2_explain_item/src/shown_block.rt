@@ -1,10 +1,15 @@
 //! A field block as it is shown: the fields that the connection has decoded, lent, each with how it was spelled.
+//! Definitions: `specs/ShownBlock.antt`.
 
-ghost use Rattle.std.specs.Prelude.{◌≡◌};
+ghost use Rattle.std.specs.Prelude.{◌≡◌, ◌==◌, [], length, drop, take, option_map, OnOk};
+ghost use Rattle.h2_spec.specs.Hpack.Instruction.{instr_at};
+ghost use Rattle.h2_explain_words.specs.Spelled.{read_more, stopped_at, unread};
+ghost use Rattle.h2_explain_item.specs.ShownBlock.{counted, counted_on, field_seen, spelled_at};
 
 use h2_explain_words::spelled::{Spelling, Spellings, Stopped};
 use h2_fields::collected::Collected;
 use std::alloc::{AllocError, Allocator, Global};
+use std::marker::Model;
 
 /// The most that the fields before a field may count for it to be shown, in octets: a list that counts more is an error
 /// (RFC 9113, 10.5.1).
@@ -29,6 +34,16 @@ pub struct SpelledFields<'f, A: Allocator = Global> {
     spellings: &'f [Spelling],
 }
 
+impl<'f, A: Allocator> Model for SpelledFields<'f, A> {
+    ghost use Rattle.std.specs.Prelude.{map};
+    ghost use Rattle.h2_explain_words.specs.Spelled.{spelling_seen};
+    ghost use Rattle.h2_explain_item.specs.ShownBlock as spec;
+
+    ghost Value = { spec.SpelledFields };
+
+    ghost view = { λ s. record { fields = s.fields.now.fields; spellings = map spelling_seen s.spellings.now } };
+}
+
 /// By hand, since a derived `clone` copies field by field.
 impl<A: Allocator> Clone for SpelledFields<'_, A> {
     ghost is_clone = { λ x y. y ≡ x };
@@ -44,22 +59,30 @@ impl<A: Allocator> Copy for SpelledFields<'_, A> {}
 
 impl<'f, A: Allocator> SpelledFields<'f, A> {
     /// How many fields there are.
-    pub fn len(self) -> usize {
+    pub fn len(&self) -> usize
+        ensures { result ≡ length self.now.spellings }
+    {
         self.spellings.len()
     }
 
     /// Whether there is no field.
-    pub fn is_empty(self) -> bool {
+    pub fn is_empty(&self) -> bool
+        ensures { result ≡ (length self.now.spellings == 0) }
+    {
         self.spellings.is_empty()
     }
 
     /// Whether these are all fields of the block.
-    pub fn is_whole(self) -> bool {
+    pub fn is_whole(&self) -> bool
+        ensures { result ≡ (length self.now.spellings == length self.now.fields) }
+    {
         self.spellings.len() == self.fields.len()
     }
 
     /// None of the fields.
-    pub fn none(self) -> Self {
+    pub fn none(&self) -> Self
+        ensures { result ≡ record self.now { spellings = [] } }
+    {
         SpelledFields {
             fields: self.fields,
             spellings: &[],
@@ -68,7 +91,9 @@ impl<'f, A: Allocator> SpelledFields<'f, A> {
 
     /// The field at a place, from 0.
     #[inline(always)]
-    pub fn get(self, place: usize) -> Option<SpelledField<'f>> {
+    pub fn get(&self, place: usize) -> Option<SpelledField<'f>>
+        ensures { option_map field_seen result ≡ spelled_at self.now place }
+    {
         let spelling = *self.spellings.get(place)?;
         let (name, value) = self.fields.get(place)?;
         Some(SpelledField {
@@ -111,9 +136,19 @@ pub struct BlockReader<A: Allocator = Global> {
     size: u64,
 }
 
+impl<A: Allocator> Model for BlockReader<A> {
+    ghost use Rattle.h2_explain_item.specs.ShownBlock.{Blocks};
+
+    ghost Value = { Blocks };
+
+    ghost view = { λ b. record { block = b.spellings; count = record { shown = b.shown; size = b.size } } };
+}
+
 impl<A: Allocator + Copy> BlockReader<A> {
     /// No block was read. Takes no memory.
-    pub fn new(alloc: A) -> Self {
+    pub fn new(alloc: A) -> Self
+        ensures { result ≡ record { block = unread; count = record { shown = 0; size = 0 } } }
+    {
         BlockReader {
             spellings: Spellings::new(alloc),
             shown: 0,
@@ -122,7 +157,9 @@ impl<A: Allocator + Copy> BlockReader<A> {
     }
 
     /// A new block begins.
-    pub fn begin(&mut self) {
+    pub fn begin(&mut self)
+        ensures { self.new ≡ record { block = unread; count = record { shown = 0; size = 0 } } }
+    {
         self.spellings.begin();
         self.shown = 0;
         self.size = 0;
@@ -138,14 +175,19 @@ impl<A: Allocator + Copy> BlockReader<A> {
         fields: &Collected<A>,
         limit: u32,
         fragment: &[u8],
-    ) -> Result<(), AllocError> {
+    ) -> Result<(), AllocError>
+        ensures block { OnOk result (self.new.block ≡ read_more (length fields.now.fields) limit self.old.block fragment.now) }
+        ensures count { OnOk result (self.new.count ≡ counted self.old.count fields.now.fields) }
+    {
         self.spellings.read(fields.len(), limit, fragment)?;
         self.count(fields);
         Ok(())
     }
 
     /// Counts the fields that are shown.
-    fn count(&mut self, fields: &Collected<A>) {
+    fn count(&mut self, fields: &Collected<A>)
+        ensures { self.new ≡ record self.old { count = counted self.old.count fields.now.fields } }
+    {
         if fields.list_size() <= MOST {
             self.shown = fields.len();
             self.size = fields.list_size();
@@ -156,25 +198,28 @@ impl<A: Allocator + Copy> BlockReader<A> {
 
     /// Counts on among fields that may not all be shown.
     #[inline(never)]
-    fn count_on(&mut self, fields: &Collected<A>) {
+    fn count_on(&mut self, fields: &Collected<A>)
+        ensures { self.new ≡ record self.old { count = counted_on self.old.count (drop self.old.count.shown fields.now.fields) } }
+    {
         for place in self.shown..fields.len() {
             if self.size > MOST {
                 return;
             }
             if let Some((name, value)) = fields.get(place) {
-                let octets = (name.len() as u64).saturating_add(value.len() as u64);
-                self.size = self.size.saturating_add(octets).saturating_add(32);
+                self.size += name.len() as u64 + value.len() as u64 + 32;
             }
-            self.shown = self.shown.saturating_add(1);
+            self.shown += 1;
         }
     }
 
     /// The fields of the block so far that are shown, in their order.
-    pub fn fields<'f>(&'f self, fields: &'f Collected<A>) -> SpelledFields<'f, A> {
-        let spellings = self.spellings.given();
+    pub fn fields<'f>(&'f self, fields: &'f Collected<A>) -> SpelledFields<'f, A>
+        ensures { result ≡ record { fields = fields.now.fields; spellings = take self.now.count.shown self.now.block.taken.given } }
+    {
+        let given = self.spellings.given();
         SpelledFields {
             fields,
-            spellings: &spellings[..self.shown.min(spellings.len())],
+            spellings: &given[..self.shown.min(given.len())],
         }
     }
 
@@ -187,27 +232,37 @@ impl<A: Allocator + Copy> BlockReader<A> {
     }
 
     /// The table size updates of the block so far, in octets, in their order (RFC 7541, 6.3).
-    pub fn updates(&self) -> &[u64] {
+    pub fn updates(&self) -> &[u64]
+        ensures { result.now ≡ self.now.block.taken.updates }
+    {
         self.spellings.updates()
     }
 
     /// What decoding of the block stopped at, if it did; `is_index` says whether it was an index that no entry has.
-    pub fn stopped(&self, is_index: bool) -> Option<Stopped> {
+    pub fn stopped(&self, is_index: bool) -> Option<Stopped>
+        ensures { result ≡ stopped_at is_index (instr_at self.now.block.rest) }
+    {
         self.spellings.stopped(is_index)
     }
 
     /// How many octets there are after the instructions that were carried out.
-    pub fn cut(&self) -> usize {
+    pub fn cut(&self) -> usize
+        ensures { result ≡ length self.now.block.rest }
+    {
         self.spellings.cut()
     }
 
     /// These octets: they begin with the instruction that is not whole, or was refused.
-    pub fn rest(&self) -> &[u8] {
+    pub fn rest(&self) -> &[u8]
+        ensures { result.now ≡ self.now.block.rest }
+    {
         self.spellings.rest()
     }
 
     /// What the fields that are shown count together, in octets: 32 each beside their own (RFC 9113, 6.5.2).
-    pub fn size(&self) -> u64 {
+    pub fn size(&self) -> u64
+        ensures { result ≡ self.now.count.size }
+    {
         self.size
     }
 }

@@ -1,1 +1,3 @@
+mod Along
 pub mod Fronts
+mod ReadingOn

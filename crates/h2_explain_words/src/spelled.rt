@@ -73,7 +73,7 @@ impl<A: Allocator> Model for Spellings<A> {
 
 /// How a literal is spelled; `huffman` says whether its value is a Huffman string.
 pub fn literal_spelling(mode: Mode, name: RawName<'_>, huffman: bool) -> Spelling
-    ensures { spelling_seen result ≡ literal_spelling (mode_of mode) (name_of name) huffman }
+    ensures { spelling_seen result ≡ literal_spelling (mode_of mode) (name_of name.entry) huffman }
 {
     match name {
         RawName::Ref(index) => Spelling::Literal(mode, Some(index), false, huffman),
@@ -83,7 +83,7 @@ pub fn literal_spelling(mode: Mode, name: RawName<'_>, huffman: bool) -> Spellin
 
 /// What an instruction is that was refused; `is_index` says whether for an index that no entry has.
 fn stopped_by(is_index: bool, shape: Shape<'_>) -> Stopped
-    ensures { result ≡ stopped_by is_index (shape_of shape) }
+    ensures { result ≡ stopped_by is_index (shape_of shape.entry) }
 {
     match shape {
         Shape::Indexed(index) => Stopped::Index(index),
@@ -129,7 +129,7 @@ impl<A: Allocator> Taken<A> {
 
     /// Notes an instruction, and says whether it was carried out.
     fn take(&mut self, count: usize, limit: u32, shape: Shape<'_>) -> Result<bool, AllocError>
-        ensures taken { IfOk result (λ taken. some_if taken self.new ≡ after count limit self.old (shape_of shape)) }
+        ensures taken { IfOk result (λ taken. some_if taken self.new ≡ after count limit self.old (shape_of shape.entry)) }
         ensures stays { IfOk result (λ taken. taken ≡ false → self.new ≡ self.old) }
     {
         match shape {
