@@ -1,23 +1,24 @@
 -- The events of the octets that a server sends: its frames one after another, with the fields of its answers (RFC 9113, 4,
 -- 6 and 8.1).
-use Rattle.std.specs.Prelude.{ℕ, zero, suc, ◌+◌, ◌*◌, ◌-◌, ◌==◌, ◌&&◌, Bool, true, false, not, List, [], ◌∷◌, ◌++◌, codes, length, nat_le, if◌then◌else◌, is_some, Option, Some, None, Result, Ok, Err}
+use Rattle.std.specs.Prelude.{ℕ, zero, suc, ◌+◌, ◌*◌, ◌-◌, ◌&&◌, Bool, true, false, List, [], ◌∷◌, ◌++◌, codes, length, nat_le, if◌then◌else◌, Option, Some, None, Result, Ok, Err}
 use Rattle.std.specs.Str.{bytes_eq}
 use Rattle.h2_spec.specs.Frames.FrameType.{ACK, END_HEADERS, END_STREAM, has}
 use Rattle.h2_spec.specs.Frames.Payload.{Part, part_of, OfData, OfHeaders, OfPriority, OfRstStream, OfSettings, OfSettingsAck, OfPushPromise, OfPing, OfGoaway, OfWindowUpdate, OfContinuation, OfUnknown}
 use Rattle.h2_spec.specs.declared.causes.Cause.{Cause}
 use Rattle.h2_spec.specs.declared.frames.Head.{Head}
 use Rattle.h2_explain_words.specs.Sent.{FirstFrame, first_frame}
-use Rattle.h2_spec.specs.Hpack.Block.{Decoded, Outcome, Unfinished, Faulty, carried_on, start}
+use Rattle.h2_spec.specs.Hpack.Block.{Decoded, Integer, Unfinished, Faulty, carried_on, start}
 use Rattle.h2_spec.specs.Hpack.DynamicTable.{Table}
 use Rattle.h2_spec.specs.Hpack.Field.{Field}
 use Rattle.h2_fields.specs.Blocks.{BlockSoFar, decoded_with, finish_of}
+use Rattle.h2_hpack_instruction.specs.declared.fault.BlockFault.{BlockFault}
 use Rattle.h2_cmd_judge.specs.declared.event.Event.{Event}
 use Rattle.h2_cmd_judge.specs.declared.event.Event.TheVariants.{Goaway, Reset, Answered, Ended, Acknowledged, Pong, Credit, Unreadable}
 use Rattle.h2_cmd_judge.specs.declared.event.Seen.{Seen}
 use Rattle.h2_cmd_judge.specs.declared.frames.OpenBlock.{OpenBlock}
 
 -- how far the server's frames are read: the limit of the header table, the last field block as far as it is decoded, and
--- the block that is open
+-- which block is open
 pub record ServerFrames : Type 0 where
   pub limit : ℕ
   pub block : Decoded
@@ -27,9 +28,9 @@ pub record ServerFrames : Type 0 where
 abbrev pub unread : Table → Decoded
 unread table = record { progress = start table false; outcome = Unfinished [] }
 
--- a block as its decoder has it; where memory was refused, it is not read any further
+-- a block as its decoder has it; one for which memory was refused is not read any further, as a faulty one
 abbrev pub block_seen : Table → BlockSoFar → Decoded
-block_seen table b = elim (decoded_with table b) [ Some d ↦ d | None ↦ unread table ]
+block_seen table b = elim (decoded_with table b) [ Some d ↦ d | None ↦ record { progress = start table false; outcome = Faulty Integer } ]
 
 -- after a frame, with what it was
 pub record Taken : Type 0 where
@@ -64,15 +65,14 @@ abbrev pub answer_event : OpenBlock → Option ℕ → Option Event
 answer_event block (Some status) = event_if (nat_le 200 status) (Answered block.stream status block.ends)
 answer_event block None = if block.ends then Some (Ended block.stream) else Some (Unreadable block.stream)
 
--- whether a block that ends so was read to its end
-abbrev pub is_read : Outcome → Bool
-is_read (Unfinished []) = true
-is_read (Unfinished (o ∷ rest)) = false
-is_read (Faulty fault) = false
+-- what a block is that has ended, by how its decoding ends
+abbrev pub event_by : OpenBlock → List Field → Result (Unit {0}) BlockFault → Option Event
+event_by block fields (Ok end) = answer_event block (status_of fields)
+event_by block fields (Err fault) = Some (Unreadable block.stream)
 
 -- what a block is that has ended
 abbrev pub block_event : OpenBlock → Decoded → Option Event
-block_event block d = if is_read d.outcome then answer_event block (status_of d.progress.fields) else Some (Unreadable block.stream)
+block_event block d = event_by block d.progress.fields (finish_of d.progress.due (Some d.outcome))
 
 -- a fragment is read; with the last one the block ends
 abbrev pub with_fragment : ServerFrames → OpenBlock → (flags : ℕ) → List ℕ → Taken

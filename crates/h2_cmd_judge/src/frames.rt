@@ -2,7 +2,8 @@
 
 ghost use Rattle.std.specs.Prelude.{◌≡◌, ◌++◌, ℕ, List, IfOk, OnOk};
 ghost use Rattle.h2_frame.specs.Parts.{part_seen};
-ghost use Rattle.h2_cmd_judge.specs.ServerFrames.{answer_event, begin, block_event, block_of, continued, event_if, is_digit, is_read, opened_by, read_on, stamped, status_number, status_of, with_fragment, with_frame, with_part, with_taken};
+ghost use Rattle.h2_spec.specs.Hpack.DynamicTable.{Table};
+ghost use Rattle.h2_cmd_judge.specs.ServerFrames.{answer_event, begin, block_event, block_of, block_seen, continued, event_if, is_digit, opened_by, read_on, stamped, status_number, status_of, with_fragment, with_frame, with_part, with_taken};
 
 use crate::event::{Event, Seen};
 use h2_explain_words::sent::next_frame;
@@ -107,7 +108,6 @@ fn event_if(holds: bool, event: Event) -> Option<Event>
 /// What a block is that has ended.
 fn block_event(block: OpenBlock, decoder: &BlockDecoder<Global>) -> Option<Event>
     ensures { (table : Table) → result ≡ block_event block (block_seen table decoder.now) }
-    requires due { decoder.now.due ≡ false }
 {
     match decoder.finish() {
         Ok(()) => answer_event(block, status_of(decoder.fields())),

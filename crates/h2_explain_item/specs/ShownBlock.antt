@@ -14,17 +14,12 @@ pub record Spelled : Type 0 where
 abbrev pub field_seen : SpelledField → Spelled
 field_seen f = record { field = record { name = f.name.now; value = f.value.now }; spelling = spelling_seen f.spelling }
 
--- the fields of a block, and the spellings of the first of them, which are shown
-pub record SpelledFields : Type 0 where
-  pub fields : List Field
-  pub spellings : List Spelling
-
--- the field at a place, with its spelling
+-- the field at a place among those that have a spelling
 abbrev pub with_spelling : Option Field → Spelling → Option Spelled
 with_spelling f s = option_map (λ g. let x : Spelled = record { field = g; spelling = s } in x) f
 
-abbrev pub spelled_at : SpelledFields → ℕ → Option Spelled
-spelled_at s place = elim (slice_get s.spellings place) [ Some spelling ↦ with_spelling (slice_get s.fields place) spelling | None ↦ None ]
+abbrev pub spelled_at : List Field → List Spelling → ℕ → Option Spelled
+spelled_at fields spellings place = elim (slice_get spellings place) [ Some s ↦ with_spelling (slice_get fields place) s | None ↦ None ]
 
 -- how many fields are shown, and what they count together, in octets
 pub record Count : Type 0 where

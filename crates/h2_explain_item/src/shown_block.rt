@@ -1,9 +1,9 @@
 //! A field block as it is shown: the fields that the connection has decoded, lent, each with how it was spelled.
 //! Definitions: `specs/ShownBlock.antt`.
 
-ghost use Rattle.std.specs.Prelude.{◌≡◌, ◌==◌, [], length, drop, take, option_map, OnOk};
+ghost use Rattle.std.specs.Prelude.{◌≡◌, ◌==◌, [], length, drop, map, take, option_map, OnOk};
 ghost use Rattle.h2_spec.specs.Hpack.Instruction.{instr_at};
-ghost use Rattle.h2_explain_words.specs.Spelled.{read_more, stopped_at, unread};
+ghost use Rattle.h2_explain_words.specs.Spelled.{read_more, spelling_seen, stopped_at, unread};
 ghost use Rattle.h2_explain_item.specs.ShownBlock.{counted, counted_on, field_seen, spelled_at};
 
 use h2_explain_words::spelled::{Spelling, Spellings, Stopped};
@@ -34,16 +34,6 @@ pub struct SpelledFields<'f, A: Allocator = Global> {
     spellings: &'f [Spelling],
 }
 
-impl<'f, A: Allocator> Model for SpelledFields<'f, A> {
-    ghost use Rattle.std.specs.Prelude.{map};
-    ghost use Rattle.h2_explain_words.specs.Spelled.{spelling_seen};
-    ghost use Rattle.h2_explain_item.specs.ShownBlock as spec;
-
-    ghost Value = { spec.SpelledFields };
-
-    ghost view = { λ s. record { fields = s.fields.now.fields; spellings = map spelling_seen s.spellings.now } };
-}
-
 /// By hand, since a derived `clone` copies field by field.
 impl<A: Allocator> Clone for SpelledFields<'_, A> {
     ghost is_clone = { λ x y. y ≡ x };
@@ -60,28 +50,29 @@ impl<A: Allocator> Copy for SpelledFields<'_, A> {}
 impl<'f, A: Allocator> SpelledFields<'f, A> {
     /// How many fields there are.
     pub fn len(&self) -> usize
-        ensures { result ≡ length self.now.spellings }
+        ensures { result ≡ length self.now.spellings.now }
     {
         self.spellings.len()
     }
 
     /// Whether there is no field.
     pub fn is_empty(&self) -> bool
-        ensures { result ≡ (length self.now.spellings == 0) }
+        ensures { result ≡ (length self.now.spellings.now == 0) }
     {
         self.spellings.is_empty()
     }
 
     /// Whether these are all fields of the block.
     pub fn is_whole(&self) -> bool
-        ensures { result ≡ (length self.now.spellings == length self.now.fields) }
+        ensures { result ≡ (length self.now.spellings.now == length self.now.fields.now.fields) }
     {
         self.spellings.len() == self.fields.len()
     }
 
     /// None of the fields.
     pub fn none(&self) -> Self
-        ensures { result ≡ record self.now { spellings = [] } }
+        ensures fields { result.fields.now ≡ self.now.fields.now }
+        ensures none { result.spellings.now ≡ [] }
     {
         SpelledFields {
             fields: self.fields,
@@ -92,7 +83,7 @@ impl<'f, A: Allocator> SpelledFields<'f, A> {
     /// The field at a place, from 0.
     #[inline(always)]
     pub fn get(&self, place: usize) -> Option<SpelledField<'f>>
-        ensures { option_map field_seen result ≡ spelled_at self.now place }
+        ensures { option_map field_seen result ≡ spelled_at self.now.fields.now.fields (map spelling_seen self.now.spellings.now) place }
     {
         let spelling = *self.spellings.get(place)?;
         let (name, value) = self.fields.get(place)?;
@@ -214,7 +205,8 @@ impl<A: Allocator + Copy> BlockReader<A> {
 
     /// The fields of the block so far that are shown, in their order.
     pub fn fields<'f>(&'f self, fields: &'f Collected<A>) -> SpelledFields<'f, A>
-        ensures { result ≡ record { fields = fields.now.fields; spellings = take self.now.count.shown self.now.block.taken.given } }
+        ensures fields { result.fields.now ≡ fields.now }
+        ensures spellings { map spelling_seen result.spellings.now ≡ take self.now.count.shown self.now.block.taken.given }
     {
         let given = self.spellings.given();
         SpelledFields {
