@@ -1,5 +1,5 @@
 //! The sentences of Huffman strings that are refused: which string, and what is wrong with it (RFC 7541, 5.2). The
-//! refused literal is what is left of its block.
+//! refused literal is at the front of the rest of its block.
 
 ghost use Rattle.std.specs.Prelude.{◌≤◌};
 

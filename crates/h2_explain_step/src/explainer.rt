@@ -364,7 +364,7 @@ impl<A: Allocator + Copy> ItemExplainer<A> {
         block_facts(self.block(conn))
     }
 
-    /// The field block of the item that a connection has taken last, as far as it has come.
+    /// The field block of the item that a connection has taken last, up to that item.
     pub fn block<'f>(&'f self, conn: &'f Conn<'_, A>) -> ShownBlock<'f, A> {
         self.reader.block(conn.fields(&self.memory))
     }

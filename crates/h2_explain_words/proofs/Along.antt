@@ -68,7 +68,7 @@ fields-stay limit p b = let all = length-append p.fields (fields_given (parse_al
 
 -- ---- one instruction that is carried out
 
--- it is taken, and gives its spelling and its update; then there are so many spellings
+-- it is taken, and gives its spelling and its update; then there are n spellings
 record OneTaken (count limit : ℕ) (t : Taken) (i : Shape) (n : ℕ) : Type 0 where
   now : Taken
   is : after count limit t i ≡ Some now

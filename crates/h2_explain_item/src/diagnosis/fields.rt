@@ -272,9 +272,7 @@ pub fn other_length<'s, A: Allocator>(
         let Some(field) = fields.get(place) else {
             break;
         };
-        if is_wrong(FieldFault::Length, field)
-            && number_of(field.value) != number_of(value)
-        {
+        if is_wrong(FieldFault::Length, field) && number_of(field.value) != number_of(value) {
             return Some(field);
         }
     }
