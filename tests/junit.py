@@ -23,6 +23,8 @@ FILES = [
     ("e.h2", b"\xff\n", [("e.h2", [1])]),
     ("none.h2", None, [("none.h2", [1])]),
     ("f: g.h2", b";# ok 1 - f: g.h2: a\n" + HOLDS, [("ok 1 - f: g.h2: a", [])]),
+    # The first hundred, and then where the others begin.
+    ("k.h2", b"x\n" * 103, [("k.h2", list(range(1, 102)))]),
     ("h - i.h2", b";# - j\n" + HOLDS + b";#  \n" + HOLDS, [("- j", []), (" ", [])]),
 ]
 # The XML of a text is its own octets, but for these.

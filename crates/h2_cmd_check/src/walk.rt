@@ -53,9 +53,11 @@ pub(crate) struct Walk<'t, 'b> {
     any: bool,
     /// Which error ended the connection, if one did.
     end: Option<Cause>,
-    /// How many lines did not hold after its end, and the number of the second of them.
-    after: u64,
-    second: usize,
+    /// Whether a line that does not hold after its end was said.
+    tells_end: bool,
+    /// How many lines that don't hold were only counted, and the number of the first of them.
+    more: u64,
+    first_more: usize,
     /// Whether all lines hold.
     holds: bool,
     /// Those that don't.
@@ -75,8 +77,9 @@ impl<'t, 'b> Drop for Walk<'t, 'b> {
             speaker: _,
             any: _,
             end: _,
-            after: _,
-            second: _,
+            tells_end: _,
+            more: _,
+            first_more: _,
             holds: _,
             wrongs: _,
         } = self;
@@ -97,6 +100,9 @@ pub(crate) struct Sight<'s> {
     /// Why the item before is ignored.
     pub ignored: Option<Ignored>,
 }
+
+/// How many lines that don't hold are said; those after them are counted.
+const MOST_WRONGS: usize = 100;
 
 /// What a line is that has no space after its mark.
 const UNSPACED: &str = "a mark with no space after it: `; ` begins a comment";
@@ -229,8 +235,9 @@ impl<'t, 'b> Walk<'t, 'b> {
             speaker: 0,
             any: false,
             end: None,
-            after: 0,
-            second: 0,
+            tells_end: false,
+            more: 0,
+            first_more: 0,
             holds: true,
             wrongs: Vec::new(alloc),
         }
@@ -250,8 +257,9 @@ impl<'t, 'b> Walk<'t, 'b> {
             speaker: _,
             any: _,
             end: _,
-            after: _,
-            second: _,
+            tells_end: _,
+            more: _,
+            first_more: _,
             holds,
             wrongs,
         } = self;
@@ -264,7 +272,18 @@ impl<'t, 'b> Walk<'t, 'b> {
         }
     }
 
-    /// Adds a line to those that don't hold.
+    /// Counts a line that does not hold.
+    fn count(&mut self, line: usize)
+        ensures { Finds false self.old self.new }
+    {
+        self.holds = false;
+        if self.more == 0 {
+            self.first_more = line;
+        }
+        self.more = self.more.saturating_add(1);
+    }
+
+    /// Adds a line to those that don't hold; it is only counted where there are a hundred.
     fn add_wrong(
         &mut self,
         line: usize,
@@ -274,6 +293,10 @@ impl<'t, 'b> Walk<'t, 'b> {
     ) -> Result<(), AllocError>
         ensures { OnOk result (Finds false self.old self.new) }
     {
+        if self.wrongs.len() >= MOST_WRONGS {
+            self.count(line);
+            return Ok(());
+        }
         let Ok(found) = found else {
             return Err(AllocError);
         };
@@ -316,34 +339,42 @@ impl<'t, 'b> Walk<'t, 'b> {
         if self.end.is_none() || self.debugger.is_present() {
             return self.add_wrong(line, wanted, found, None);
         }
-        self.after = self.after.saturating_add(1);
-        if self.after == 1 {
+        if !self.tells_end {
+            self.tells_end = true;
             return self.add_wrong(line, wanted, found, self.end);
         }
-        if self.after == 2 {
-            self.second = line;
-        }
-        self.holds = false;
+        self.count(line);
         Ok(())
     }
 
-    /// Says how many lines were counted after the end of the connection.
+    /// Whether the last line that was said is the one after the end of the connection.
+    fn is_last_at_end(&self) -> bool {
+        match self.wrongs.as_slice().last() {
+            Some(wrong) => wrong.ended.is_some(),
+            None => false,
+        }
+    }
+
+    /// Says how many lines were counted: after the end of the connection, or beyond the first hundred.
     fn tell_rest(&mut self, alloc: Global) -> Result<(), AllocError>
         ensures { OnOk result (self.new.holds ≡ self.old.holds) }
     {
-        if self.after < 2 {
+        let more = self.more;
+        if more == 0 {
             return Ok(());
         }
-        let more = self.after - 1;
+        let (here, what) = if self.is_last_at_end() {
+            ("the connection ended here; ", "expectation")
+        } else {
+            ("", "line")
+        };
         let end = if more == 1 { "" } else { "s" };
-        let found = match format!(in alloc;
-            "the connection ended here; {more} more expectation{end}"
-        ) {
+        let found = match format!(in alloc; "{here}{more} more {what}{end}") {
             Ok(found) => found,
             Err(_) => return Err(AllocError),
         };
         match self.wrongs.push(Wrong {
-            line: self.second,
+            line: self.first_more,
             wanted: b"what is expected from here on",
             found,
             ended: None,
@@ -917,8 +948,8 @@ fn go_over<'t, 'b>(
     walk.close(alloc)
 }
 
-/// Goes over the lines of a case, the first of which has this number in the file, and says how many of them were counted
-/// after the end of the connection.
+/// Goes over the lines of a case, the first of which has this number in the file, and says how many of them were only
+/// counted.
 ///
 /// `AllocError` where memory is refused.
 pub(crate) fn check_lines<'t, 'b>(
