@@ -1,10 +1,10 @@
 //! The debugger of a case, which is kept from its first command on. Definitions: `specs/Commands.antt`.
 
-ghost use Rattle.std.specs.Prelude.{◌≡◌, IfOk};
+ghost use Rattle.std.specs.Prelude.{◌≡◌, true, IfOk};
 ghost use Rattle.h2_debug.specs.Debugging.{fed};
 ghost use Rattle.h2_debug.specs.Loaded.{loaded};
 ghost use Rattle.h2_cmd_check.specs.Commands.{debugger_or, is_present, left_with};
-ghost use Rattle.h2_cmd_check.specs.declared.case_debugger.CaseDebugger.TheVariants.{Left, Present};
+ghost use Rattle.h2_cmd_check.specs.declared.case_debugger.CaseDebugger.TheVariants.{Absent, Left, Present};
 
 use crate::command::{Given, debugger_over};
 use h2_debug::Debugger;
@@ -35,6 +35,16 @@ fn feed_left<'b>(
 }
 
 impl<'b> CaseDebugger<'b> {
+    /// Whether no command came yet.
+    pub(crate) fn is_absent(&self) -> bool
+        ensures { result ≡ true → self.now ≡ Absent }
+    {
+        match self {
+            CaseDebugger::Absent => true,
+            CaseDebugger::Present(_) | CaseDebugger::Left(_) => false,
+        }
+    }
+
     /// Whether here is its position.
     pub(crate) fn is_present(&self) -> bool
         ensures { result ≡ is_present self.now }

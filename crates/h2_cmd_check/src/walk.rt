@@ -492,6 +492,18 @@ impl<'t, 'b> Walk<'t, 'b> {
     pub(crate) fn leave(&mut self, more: &[u8]) -> Result<(), AllocError>
         ensures { OnOk result (Leaves more.now self.old self.new) }
     {
+        if self.debugger.is_absent() {
+            return Ok(());
+        }
+        self.leave_debugger(more)
+    }
+
+    // A debugger is large, and a function pays for the space of its locals: most cases have none.
+    /// As `leave`, where there is a debugger.
+    #[inline(never)]
+    fn leave_debugger(&mut self, more: &[u8]) -> Result<(), AllocError>
+        ensures { OnOk result (Leaves more.now self.old self.new) }
+    {
         if self.debugger.is_present() {
             self.spoken = self.seen.sent.len();
         }
