@@ -1,5 +1,5 @@
 -- The texts of a connection that is served, each line after its number.
-use Rattle.std.specs.Prelude.{◌≡◌, ℕ, ◌++◌, ◌==◌, Bool, true, false, List, [], ◌∷◌, Option, None, codes, decimal}
+use Rattle.std.specs.Prelude.{◌≡◌, ◌≢◌, ℕ, ◌+◌, ◌<◌, ◌++◌, ◌==◌, length, slice_index, Bool, true, false, List, [], ◌∷◌, Option, None, codes, decimal}
 use Rattle.std.specs.Io.KnownBytes.{Appends}
 use Rattle.h2_spec.specs.Texts.Show.{joined}
 use Rattle.h2_serve.specs.Faults.{failed_by}
@@ -21,6 +21,10 @@ prefixed_octet prefix true true c = prefix
 abbrev pub prefixed : (prefix : List ℕ) → (json fresh : Bool) → List ℕ → List ℕ
 prefixed prefix json fresh [] = []
 prefixed prefix json fresh (c ∷ t) = prefixed_octet prefix json fresh c ++ prefixed prefix json (c == 10) t
+
+-- octets that have a line feed at most at their end
+abbrev pub IsLine : List ℕ → Type 0
+IsLine xs = (k : ℕ) → k + 1 < length xs → slice_index xs k ≢ 10
 
 -- whether a line begins after a text
 abbrev pub fresh_after : Bool → List ℕ → Bool

@@ -1,13 +1,15 @@
 //! The texts of a connection that is served, each line after the connection's number.
 //! Definitions: `specs/Numbered.antt`.
 
-ghost use Rattle.std.specs.Prelude.{◌≡◌, ◌⊎◌, ◌++◌, true, None, Some, OnOk, IfOk};
+ghost use Rattle.std.specs.Prelude.{◌≡◌, ◌⊎◌, ◌<◌, ◌≤◌, ◌++◌, drop, length, true, None, Some, OnOk, IfOk};
 ghost use Rattle.std.specs.Io.KnownBytes.{Appends};
 ghost use Rattle.h2_serve.specs.Faults.{failed_by};
-ghost use Rattle.h2_serve.specs.Numbered.{Grows, PrintsPrefixed, fresh_after, gathered_text, prefix_of, prefixed, prefixed_octet};
+ghost use Rattle.h2_serve.specs.Numbered.{Grows, IsLine, PrintsPrefixed, fresh_after, gathered_text, prefix_of, prefixed};
 
 use crate::fault::TextFault;
 use h2_io::{Gathered, Number, Output, Text, texts};
+use h2_spec::octets::{octets_from, octets_up_to};
+use memchr::memchr;
 use std::alloc::{AllocError, Global};
 
 /// The octets of a text.
@@ -34,23 +36,40 @@ pub(crate) fn prefix_of(alloc: Global, json: bool, number: u32) -> Result<Vec<u8
     }
 }
 
-/// Appends an octet, after the prefix where it begins a line; in JSON the prefix takes its place.
-fn put_octet(
+/// The octets of a text up to its first line feed, and that; all where it has none.
+fn first_line(text: &[u8]) -> &[u8]
+    ensures line { IsLine result.now }
+    ensures parts { text.now ≡ result.now ++ drop (length result.now) text.now }
+    ensures within { length result.now ≤ length text.now }
+    ensures some { 0 < length text.now → 0 < length result.now }
+{
+    match memchr(b'\n', text) {
+        Some(end) => octets_up_to(text, end + 1),
+        None => text,
+    }
+}
+
+/// Appends octets of a line, after the prefix where it begins with them; in JSON the prefix takes the place of the first.
+fn put_line(
     prefix: &[u8],
     json: bool,
     fresh: bool,
-    octet: u8,
+    line: &[u8],
     out: &mut Vec<u8>,
 ) -> Result<(), AllocError>
-    ensures { OnOk result (out.new.items ≡ out.old.items ++ prefixed_octet prefix.now json fresh octet) }
+    requires line { IsLine line.now }
+    requires some { 0 < length line.now }
+    ensures { OnOk result (out.new.items ≡ out.old.items ++ prefixed prefix.now json fresh line.now) }
 {
-    if fresh {
-        out.extend_from_slice(prefix)?;
+    if !fresh {
+        return out.extend_from_slice(line);
     }
-    if fresh && json {
-        return Ok(());
+    out.extend_from_slice(prefix)?;
+    if json {
+        out.extend_from_slice(octets_from(line, 1))
+    } else {
+        out.extend_from_slice(line)
     }
-    out.extend_from_slice(&[octet])
 }
 
 /// Appends a text with the prefix before each of its lines; `fresh` is whether a line begins with it, and then whether
@@ -65,9 +84,12 @@ fn put_text(
     ensures text { OnOk result (out.new.items ≡ out.old.items ++ prefixed prefix.now json fresh.old text.now) }
     ensures fresh { OnOk result (fresh.new ≡ fresh_after fresh.old text.now) }
 {
-    for octet in text {
-        put_octet(prefix, json, *fresh, *octet, out)?;
-        *fresh = *octet == b'\n';
+    let mut rest = text;
+    while !rest.is_empty() {
+        let line = first_line(rest);
+        put_line(prefix, json, *fresh, line, out)?;
+        *fresh = line[line.len() - 1] == b'\n';
+        rest = octets_from(rest, line.len());
     }
     Ok(())
 }
