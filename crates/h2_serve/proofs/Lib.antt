@@ -4,3 +4,4 @@ pub mod Watching
 pub mod Growing
 pub mod Halting
 pub mod Exchanges
+pub mod Prefixes
