@@ -1,2 +1,5 @@
 pub mod ChangeLaws
 pub mod SettingLaws
+pub mod FieldLaws
+pub mod IntegerLaws
+pub mod SpecialLaws
