@@ -1,5 +1,5 @@
 -- The special case of an item of a run.
-use Rattle.std.proofs.Common.{◌≡◌, ◌∙◌, ⊥, Ok, ◌+◌, ◌-◌, ◌<◌, ◌≤◌, ◌||◌, ◌++◌, ℕ, zero, suc, Bool, true, false, List, [], ◌∷◌, Option, Some, None, is_some, refl, sym, ap, subst, cc, absurd, arith}
+use Rattle.std.proofs.Common.{◌≡◌, ◌∙◌, Ok, ◌+◌, ◌-◌, ◌<◌, ◌≤◌, ◌||◌, ◌++◌, ℕ, zero, suc, Bool, true, false, List, [], ◌∷◌, Option, Some, None, is_some, refl, sym, ap, subst, arith}
 use Rattle.h2_spec.specs.declared.causes.Cause.{Cause}
 use Rattle.h2_spec.specs.declared.causes.Cause.TheVariants.{ContinuationOutsideBlock, IntegerTooLong}
 use Rattle.h2_spec.specs.declared.ignored.Ignored.{Ignored}
@@ -25,7 +25,7 @@ use Rattle.h2_debug.specs.Places.{Source, at, cause_at, ignored_at}
 
 pub continued-next : (r : Source) (p : ℕ) → 0 < p → is_continued r p ≡ is_continuation (head_after r (p - 1))
 continued-next r zero some = absurd (omega (arith, some))
-continued-next r (suc p) some = let e : suc p - 1 ≡ p = omega arith in rw e refl
+continued-next r (suc p) some = let e : suc p - 1 ≡ p = omega arith in ap (λ (n : ℕ). is_continuation (head_after r n)) (sym e)
 
 pub block-next : (r : Source) (p q : ℕ) → q ≡ p + 1 → block_octets r q ≡ open_octets (shown_block (at r p).block) (block_octets r p) ++ fragment_of (item_after r p)
 block-next r p q e = let next : q ≡ suc p = omega (arith, e) in rw next refl
@@ -62,7 +62,7 @@ integer-case r p q item case octets e is after block x =
     let is' : cause_at r (suc q) ≡ Some IntegerTooLong = rw next at is in
     let block' : octets ≡ block_octets r (suc q) = rw next at block in
     rw next (rw (after, is') (x (seen_in (at r q) (head_of_item item)) (facts_in (is_continued r q) (at r q) item (block_octets r (suc q)) (is_ended_by r (stream_in (head_of_item item)) q))
-      (ap is_beyond_tables (sym block'))))
+    (ap is_beyond_tables (sym block'))))
 
 pub reason-case : (r : Source) (p q : ℕ) (reason : Ignored) (item : Item) (case : Option SpecialCase) → p ≡ q + 1 → cause_at r p ≡ None → ignored_at r p ≡ Some reason → item_after r q ≡ Some item
     → case ≡ special_reason reason (is_ended_by r (stream_in (head_of_item item)) q) → case ≡ case_at r p
@@ -114,14 +114,14 @@ reason-later r (suc p) reason is = omega arith
 pub stopped-cause : (s : State) (h : Head) (p fragment : List ℕ) (b : OpenBlock) → refusal (block_stream s.block) s.core.phase h ≡ None → part_of h p ≡ Ok (OfContinuation fragment)
     → s.block ≡ Some b → b.decoding ≡ None → cause_of s (WholeFrame h p) ≡ Some ContinuationOutsideBlock
 unfolding cause_of
-stopped-cause s h p fragment b passed read open none = rw (passed, read, open, none) refl
+stopped-cause s h p fragment b passed read is none = rw (passed, read, is, none) refl
 
 -- where CONTINUATION is an error of another cause, its fields are shown
 pub continued-shows : (s : State) (h : Head) (p fragment : List ℕ) (b : OpenBlock) (d : Option Decoding) (cause : Cause) → refusal (block_stream s.block) s.core.phase h ≡ None
     → part_of h p ≡ Ok (OfContinuation fragment) → s.block ≡ Some b → b.decoding ≡ d → cause_of s (WholeFrame h p) ≡ Some cause → (cause ≡ ContinuationOutsideBlock → ⊥)
     → true ≡ is_some (fields_continued_in s b.shown d fragment)
-continued-shows s h p fragment b (Some d) cause passed read open is error other = refl
-continued-shows s h p fragment b None cause passed read open is error other =
-    let known = stopped-cause s h p fragment b passed read open is in
+continued-shows s h p fragment b (Some d) cause passed read at is error other = refl
+continued-shows s h p fragment b None cause passed read at is error other =
+    let known = stopped-cause s h p fragment b passed read at is in
     let same : cause ≡ ContinuationOutsideBlock = cc in
     absurd (other same)

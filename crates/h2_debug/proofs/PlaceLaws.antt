@@ -220,14 +220,14 @@ item-in (suc n) [] more e h = cc
 item-in (suc n) (x ∷ xs) more e h = item-in n xs more e h
 
 -- the item that the octets after a place begin with
-pub record Follows-item (r : Source) (p : Placed) : Type 0 where
+pub record HasItem (r : Source) (p : Placed) : Type 0 where
   pub item : Item
   pub used : ℕ
   pub next : next_item (at r p.position) (drop p.used r.octets) ≡ Got item used
   pub after : item_after r p.position ≡ Some item
   pub reasons : reasons_at r (p.position + 1) ≡ reasons_of (at r p.position) item
 
-item-next : (r : Source) (p : Placed) (n : Next) → IsAt r p → p.position < end r → next_item (at r p.position) (drop p.used r.octets) ≡ n → Follows-item r p
+item-next : (r : Source) (p : Placed) (n : Next) → IsAt r p → p.position < end r → next_item (at r p.position) (drop p.used r.octets) ≡ n → HasItem r p
 unfolding next_event
 item-next r p NoItem x more h =
     let empty : drop p.position (events r) ≡ [] = x.later ∙ events-stop (at r p.position) (drop p.used r.octets) (ap (event_on (at r p.position)) h) in
@@ -245,8 +245,21 @@ item-next r p (Got item used) x more h =
       reasons = ap (reasons_at r) next ∙ next-reasons (start r) p.position (events r) _ _ one;
     }
 
-pub place-item : (r : Source) (p : Placed) → IsAt r p → p.position < end r → Follows-item r p
+pub place-item : (r : Source) (p : Placed) → IsAt r p → p.position < end r → HasItem r p
 place-item r p x more = item-next r p (next_item (at r p.position) (drop p.used r.octets)) x more refl
+
+-- an item was taken, or there was none
+pub advances-one : (r : Source) (before after : Placed) (b : Bool) → Advances r before after b → b ≡ true → IsAt r after × (after.position ≡ before.position + 1)
+advances-one r before after true x is = (x.place, x.next)
+advances-one r before after false x is = cc
+
+pub advances-none : (r : Source) (before after : Placed) (b : Bool) → Advances r before after b → b ≡ false → (after ≡ before) × (before.position ≡ end r)
+advances-none r before after true x is = cc
+advances-none r before after false x is = (x.same, x.last)
+
+-- where one follows, it was taken
+pub advances-more : (r : Source) (before after : Placed) (b : Bool) → Advances r before after b → before.position < end r → IsAt r after × (after.position ≡ before.position + 1)
+advances-more r before after b x more = let y = place-took r before after b x more in (y.place, y.next)
 
 -- the head of the item that was taken
 pub head-seen : (r : Source) (before after : Placed) (b : Bool) → Advances r before after b → before.position < end r

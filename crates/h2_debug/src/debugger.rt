@@ -643,7 +643,13 @@ impl<'b, A: Allocator + Copy> Debugger<'b, A> {
         };
         let continued = advance_until(&source, &mut place, before)?;
         let octets = source.octets_from(place.used());
-        case_ahead(*self.octets.allocator(), place.conn(), octets, cause, continued)
+        case_ahead(
+            *self.octets.allocator(),
+            place.conn(),
+            octets,
+            cause,
+            continued,
+        )
     }
 
     /// The special case of an error with this cause, if it is one; no memory is taken where it can't be.

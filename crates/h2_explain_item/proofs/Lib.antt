@@ -1,5 +1,4 @@
 pub mod ChangeLaws
 pub mod SettingLaws
 pub mod FieldLaws
-pub mod IntegerLaws
 pub mod SpecialLaws

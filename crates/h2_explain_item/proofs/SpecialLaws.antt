@@ -1,5 +1,5 @@
 -- What the special case of a cause does not depend on.
-use Rattle.std.proofs.Common.{◌≡◌, ⊥, Bool, refl, absurd}
+use Rattle.std.proofs.Common.{◌≡◌, Bool, refl}
 use Rattle.h2_spec.specs.declared.causes.Cause.{Cause}
 use Rattle.h2_spec.specs.declared.causes.Cause.TheVariants as cause
 use Rattle.h2_explain_item.specs.Special.{case_of_cause}

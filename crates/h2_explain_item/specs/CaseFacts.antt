@@ -13,7 +13,7 @@ use Rattle.h2_explain_item.specs.declared.diagnosis.special.CaseFacts.{CaseFacts
 abbrev pub lawful_with : Bool → ℕ × ℕ → Bool
 lawful_with lawful pair = if pair.0 == 4 then nat_le pair.1 2147483647 else lawful
 
-unfoldable pub ends_lawful : List (ℕ × ℕ) → Bool
+abbrev pub ends_lawful : List (ℕ × ℕ) → Bool
 ends_lawful pairs = fold lawful_with false pairs
 
 -- the same of a payload
@@ -76,8 +76,7 @@ is_instruction_beyond [] = false
 is_instruction_beyond (o ∷ octets) = is_first_beyond (o ∷ octets) (int_at (prefix_of o) (o ∷ octets))
 
 -- the same of the first instruction of octets that is not whole
-unfoldable pub is_beyond_tables : List ℕ → Bool
-unfolding split int_at string_at
+abbrev pub is_beyond_tables : List ℕ → Bool
 is_beyond_tables octets = is_instruction_beyond (split octets).rest
 
 -- ---- all of them

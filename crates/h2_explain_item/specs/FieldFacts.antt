@@ -60,8 +60,11 @@ has_taken_or_empty_name f = length f.name == 0 || not (has_bad_name f)
 abbrev pub has_short_length : Field → Bool
 has_short_length f = not (is_content_length f) || is_digits f.value
 
+abbrev pub is_no_digit : ℕ → Bool
+is_no_digit octet = not (is_between 48 57 octet)
+
 abbrev pub is_number : List ℕ → Bool
-is_number value = not (length value == 0) && list_all (is_between 48 57) value
+is_number value = not (length value == 0) && not (list_any is_no_digit value)
 
 abbrev pub has_length : Field → Bool
 has_length f = not (is_content_length f) || is_number f.value

@@ -3,7 +3,7 @@
 
 ghost use Rattle.std.specs.Prelude.{◌≡◌, ◌+◌, ◌-◌, ◌<◌, ◌≤◌, ℕ, List, [], Bool, IfOk, OnOk, Option, Some, is_some, min, option_map};
 ghost use Rattle.h2_spec.specs.Effect.{block_stream, cause_of};
-ghost use Rattle.h2_spec.specs.Frames.Frame.{Got, Item};
+ghost use Rattle.h2_spec.specs.Frames.Frame.{Got, Item, WholeFrame};
 ghost use Rattle.h2_spec.specs.Hpack.Field.{Field};
 ghost use Rattle.h2_spec.specs.ReactionTable.{headers_cell};
 ghost use Rattle.h2_spec.specs.State.{OpenBlock};
@@ -32,7 +32,7 @@ use h2_explain_item::diagnosis::field_facts::FieldFacts;
 use h2_explain_item::diagnosis::special::{case_of_cause, seen_by};
 use h2_explain_item::notes::has_client_ended;
 use h2_fields::collected::Collected;
-use h2_frame::{Item, Part, first_item, part_of, read_head};
+use h2_frame::{FrameRef, Item, Part, first_item, part_of, read_head};
 use h2_spec::causes::Cause;
 use h2_spec::connection::BlockView;
 use h2_spec::frames::{CONTINUATION, DATA, END_STREAM, HEADERS, Head};
@@ -183,7 +183,11 @@ pub fn is_ended_by<'b, A: Allocator + Copy>(
 }
 
 /// The item that octets begin with.
-fn item_ahead<'o, A: Allocator + Copy>(conn: &Conn<'_, A>, octets: &'o [u8]) -> Option<(Item<'o>, usize)>
+#[tactic(auto, unfolding(h2_spec::specs::Trace::next_item))]
+fn item_ahead<'o, A: Allocator + Copy>(
+    conn: &Conn<'_, A>,
+    octets: &'o [u8],
+) -> Option<(Item<'o>, usize)>
     ensures { found_in result ≡ next_item conn.now.state octets.now }
 {
     let core = conn.counts();
@@ -244,7 +248,7 @@ fn facts_of_fields<A: Allocator>(fields: &Collected<A>) -> FieldFacts
 
 /// The stream of the open block.
 fn block_stream(block: Option<BlockView>) -> Option<u32>
-    ensures { (open : Option OpenBlock) → block ≡ shown_block open → result ≡ block_stream open }
+    ensures { (b : Option OpenBlock) → block ≡ shown_block b → result ≡ block_stream b }
 {
     match block {
         Some(block) => Some(block.stream),
@@ -262,24 +266,32 @@ fn opens_block(id: u32, kind: StreamState) -> bool
     }
 }
 
-/// Whether an item shows fields of its block: its fragment is decoded. An open block is decoded no more where CONTINUATION is
+/// Whether a frame shows fields of its block: its fragment is decoded. An open block is decoded no more where CONTINUATION is
 /// an error of another cause.
+fn is_decoded<A: Allocator + Copy>(conn: &Conn<'_, A>, frame: FrameRef<'_>) -> bool
+    ensures { (cause : Cause) → cause_of conn.now.state (WholeFrame frame.entry.head frame.entry.payload.now) ≡ Some cause → (cause ≡ ContinuationOutsideBlock → ⊥)
+        → result ≡ is_some (item_fields conn.now.state (WholeFrame frame.entry.head frame.entry.payload.now)) }
+{
+    let block = conn.open_block();
+    let stream = conn.stream(frame.head.stream);
+    match refusal(block_stream(block), conn.counts().phase, &frame.head) {
+        Some(_) => false,
+        None => match part_of(frame) {
+            Ok(Part::Headers(_)) => opens_block(frame.head.stream, stream.kind),
+            Ok(Part::Continuation(_)) => block.is_some(),
+            _ => false,
+        },
+    }
+}
+
+/// The same of an item.
 fn shows_fields<A: Allocator + Copy>(conn: &Conn<'_, A>, item: &Item<'_>) -> bool
     ensures { (cause : Cause) → cause_of conn.now.state (item_of item.now) ≡ Some cause → (cause ≡ ContinuationOutsideBlock → ⊥)
         → result ≡ is_some (item_fields conn.now.state (item_of item.now)) }
 {
-    let Item::Frame(frame) = item else {
-        return false;
-    };
-    let block = conn.open_block();
-    if refusal(block_stream(block), conn.counts().phase, &frame.head).is_some() {
-        return false;
-    }
-    let id = frame.head.stream;
-    match part_of(*frame) {
-        Ok(Part::Headers(_)) => opens_block(id, conn.stream(id).kind),
-        Ok(Part::Continuation(_)) => block.is_some(),
-        _ => false,
+    match item {
+        Item::Frame(frame) => is_decoded(conn, *frame),
+        Item::Preface | Item::BadPreface | Item::Oversize(_) => false,
     }
 }
 

@@ -1,7 +1,7 @@
 //! What an error or an ignored frame is besides its cause: the facts that decide its special case (`specs/CaseFacts.antt`),
 //! and the other faults of its block, of which no definition speaks.
 
-ghost use Rattle.std.specs.Prelude.{◌≡◌, fold, false, take};
+ghost use Rattle.std.specs.Prelude.{◌≡◌};
 ghost use Rattle.std.specs.Option.{option_map};
 ghost use Rattle.h2_frame.specs.Parts.{part_seen, settings_in};
 ghost use Rattle.h2_explain_item.specs.CaseFacts.{ends_lawful, facts_by, has_lawful_window, lawful_with};
@@ -55,6 +55,17 @@ pub fn facts_of<A: Allocator + Copy>(context: ErrorContext<'_, '_, A>) -> CaseFa
     )
 }
 
+/// The same after one setting more.
+fn lawful_with(lawful: bool, number: u16, value: u32) -> bool
+    ensures { result ≡ lawful_with lawful (number, value) }
+{
+    if number == 4 {
+        value <= 2_147_483_647
+    } else {
+        lawful
+    }
+}
+
 /// Whether the last SETTINGS_INITIAL_WINDOW_SIZE of a frame is one that it may be (RFC 9113, 6.5.2).
 fn ends_lawful(settings: SettingsPart<'_>) -> bool
     ensures { result ≡ ends_lawful (settings_in settings.entry) }
@@ -62,9 +73,7 @@ fn ends_lawful(settings: SettingsPart<'_>) -> bool
     let mut lawful = false;
     for place in 0..settings.count() {
         let (number, value) = settings.pair_at(place);
-        if number == 4 {
-            lawful = value <= 2_147_483_647;
-        }
+        lawful = lawful_with(lawful, number, value);
     }
     lawful
 }

@@ -3,7 +3,7 @@
 //! `specs/FieldFacts.antt`.
 
 ghost use Rattle.std.specs.Prelude.{◌≡◌, ◌==◌, ℕ, List, [], not};
-ghost use Rattle.std.specs.List.{prefix_len};
+ghost use Rattle.std.specs.List.{position_or_len};
 ghost use Rattle.h2_spec.specs.Hpack.Field.{field};
 ghost use Rattle.h2_explain_words.specs.Spelled.{fields_of};
 ghost use Rattle.h2_explain_item.specs.FieldFacts as spec;
@@ -40,11 +40,14 @@ pub struct FieldFacts {
 
 /// Where the first member of a list ends: at its first comma, or at the end of the list (RFC 9110, 5.6.1).
 fn end_of_member(list: &[u8]) -> usize
-    ensures { result ≡ prefix_len (λ c. not (c == 44)) list.now }
+    ensures { result ≡ position_or_len (λ c. c == 44) list.now }
 {
-    list.iter()
-        .position(|octet| *octet == b',')
-        .unwrap_or(list.len())
+    for (at, octet) in list.iter().enumerate() {
+        if *octet == b',' {
+            return at;
+        }
+    }
+    list.len()
 }
 
 /// Whether a member of a list is empty, or `trailers`, in any case of its letters (RFC 9110, 10.1.4).
@@ -73,8 +76,8 @@ fn is_trailers_alone(list: &[u8]) -> bool
 }
 
 /// Whether the name of a field is taken, or is empty (RFC 9113, 8.2.1).
-fn has_taken_or_empty_name(name: &[u8]) -> bool
-    ensures { (value : List ℕ) → result ≡ spec.has_taken_or_empty_name (field name.now value) }
+fn has_taken_or_empty_name(name: &[u8], value: &[u8]) -> bool
+    ensures { result ≡ spec.has_taken_or_empty_name (field name.now value.now) }
 {
     name.is_empty() || !is_bad_name(name)
 }
@@ -90,7 +93,8 @@ fn has_connect(name: &[u8], value: &[u8]) -> bool
 fn has_other_scheme(name: &[u8], value: &[u8]) -> bool
     ensures { result ≡ spec.has_other_scheme (field name.now value.now) }
 {
-    same(name, b":scheme") && !(value.eq_ignore_ascii_case(b"http") || value.eq_ignore_ascii_case(b"https"))
+    same(name, b":scheme")
+        && !(value.eq_ignore_ascii_case(b"http") || value.eq_ignore_ascii_case(b"https"))
 }
 
 /// Whether a field is a path that is empty (RFC 9113, 8.3.1).
@@ -144,7 +148,7 @@ impl FieldFacts {
         ensures { result ≡ with_field self (field name.now value.now) }
     {
         FieldFacts {
-            empty_names: self.empty_names & has_taken_or_empty_name(name),
+            empty_names: self.empty_names & has_taken_or_empty_name(name, value),
             method: self.method | same(name, b":method"),
             connect: self.connect | has_connect(name, value),
             scheme: self.scheme | same(name, b":scheme"),

@@ -2,7 +2,8 @@
 //! at fault for a sentence, and all the faults of a block. The rules of one field are h2_hpack_validity's.
 
 ghost use Rattle.std.specs.Prelude.{◌≡◌};
-ghost use Rattle.h2_explain_item.specs.FieldFacts.{is_number};
+ghost use Rattle.std.specs.List.{list_any};
+ghost use Rattle.h2_explain_item.specs.FieldFacts.{is_no_digit, is_number};
 
 use h2_explain_words::spelled::SpelledField;
 use h2_hpack_validity::mark::KnownName;
@@ -154,11 +155,29 @@ pub fn has_other_scheme<A: Allocator>(fields: &[SpelledField<A>]) -> bool {
     }
 }
 
+/// Whether an octet is no digit.
+fn is_no_digit(octet: u8) -> bool
+    ensures { result ≡ is_no_digit octet }
+{
+    !(b'0' <= octet && octet <= b'9')
+}
+
+/// Whether an octet of a value is no digit.
+fn has_no_digit(value: &[u8]) -> bool
+    ensures { result ≡ list_any is_no_digit value.now }
+{
+    let mut found = false;
+    for octet in value {
+        found |= is_no_digit(*octet);
+    }
+    found
+}
+
 /// Whether a value is of digits alone, one at least.
 pub fn is_number(value: &[u8]) -> bool
     ensures { result ≡ is_number value.now }
 {
-    !value.is_empty() && value.iter().all(|octet| (b'0'..=b'9').contains(octet))
+    !value.is_empty() && !has_no_digit(value)
 }
 
 /// What the content-lengths of a block are.

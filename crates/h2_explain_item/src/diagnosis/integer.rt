@@ -94,10 +94,12 @@ fn after_instructions(octets: &[u8]) -> &[u8]
     ensures { result.now ≡ (split octets.now).rest }
 {
     let mut rest = octets;
-    'instructions: while let Ok((_, used)) = shape_from(Point::start(), rest) {
-        rest = octets_from(rest, used);
+    'instructions: loop {
+        match shape_from(Point::start(), rest) {
+            Ok((_, used)) => rest = octets_from(rest, used),
+            Err(_) => return rest,
+        }
     }
-    rest
 }
 
 /// Whether the integer that is too long is 2^32 or more, of the first instruction of the octets that is not whole.

@@ -201,7 +201,10 @@ fn seen_of(item: &Explained<'_>) -> Seen
 pub fn case_of_integer(octets: &[u8]) -> Option<SpecialCase>
     ensures { (s : Seen) (f : CaseFacts) → f.beyond_tables ≡ is_beyond_tables octets.now → result ≡ case_of_cause IntegerTooLong s f }
 {
-    case_if(is_beyond_tables(octets), SpecialCase::IntegerBeyondAllTables)
+    case_if(
+        is_beyond_tables(octets),
+        SpecialCase::IntegerBeyondAllTables,
+    )
 }
 
 /// The special case of a cause, if it is one.
