@@ -4,6 +4,7 @@ use Rattle.std.specs.Prelude.{ℕ, zero, suc, ◌+◌, ◌*◌, ◌-◌, ◌==�
 use Rattle.std.specs.Str.{bytes_eq}
 use Rattle.h2_spec.specs.Frames.FrameType.{ACK, END_HEADERS, END_STREAM, has}
 use Rattle.h2_spec.specs.Frames.Payload.{Part, part_of, OfData, OfHeaders, OfPriority, OfRstStream, OfSettings, OfSettingsAck, OfPushPromise, OfPing, OfGoaway, OfWindowUpdate, OfContinuation, OfUnknown}
+use Rattle.h2_spec.specs.Hpack.DynamicTable.{LimitedTable}
 use Rattle.h2_spec.specs.declared.causes.Cause.{Cause}
 use Rattle.h2_spec.specs.declared.frames.Head.{Head}
 use Rattle.h2_explain_words.specs.Sent.{FirstFrame, first_frame}
@@ -17,6 +18,14 @@ use Rattle.h2_cmd_judge.specs.declared.frames.OpenBlock.{OpenBlock}
 pub record ServerFrames : Type 0 where
   pub blocks : BlockRead
   pub opened : Option OpenBlock
+
+-- a header table without entries, of 4,096 octets, with this limit (RFC 7541, 4.2)
+abbrev pub empty_table : (limit : ℕ) → LimitedTable
+empty_table limit = record { table = record { entries = []; max = 4096 }; limit = limit }
+
+-- nothing is read; a server may make its table as large as 65,536 octets
+abbrev pub unread_frames : ServerFrames
+unread_frames = record { blocks = begun_with (empty_table 65536); opened = None }
 
 -- after a frame, with what it was
 pub record Taken : Type 0 where

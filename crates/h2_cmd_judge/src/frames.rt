@@ -2,7 +2,7 @@
 
 ghost use Rattle.std.specs.Prelude.{◌≡◌, ◌++◌, ℕ, List, IfOk, OnOk};
 ghost use Rattle.h2_frame.specs.Parts.{part_seen};
-ghost use Rattle.h2_cmd_judge.specs.ServerFrames.{answer_event, begin, block_event, block_of, continued, event_if, is_digit, is_read, opened_by, read_on, stamped, status_number, status_of, with_fragment, with_frame, with_part, with_taken};
+ghost use Rattle.h2_cmd_judge.specs.ServerFrames.{answer_event, begin, block_event, block_of, continued, event_if, is_digit, is_read, opened_by, read_on, stamped, status_number, status_of, unread_frames, with_fragment, with_frame, with_part, with_taken};
 
 use crate::event::{Event, Seen};
 use h2_explain_words::sent::next_frame;
@@ -130,7 +130,9 @@ fn block_of(head: Head) -> OpenBlock
 
 impl ServerFrames {
     /// Nothing is read yet.
-    pub fn new(alloc: Global) -> Result<ServerFrames, AllocError> {
+    pub fn new(alloc: Global) -> Result<ServerFrames, AllocError>
+        ensures { IfOk result (λ frames. frames ≡ unread_frames) }
+    {
         let mut blocks = BlockReader::new(alloc, 4096)?;
         blocks.set_limit(65_536)?;
         Ok(ServerFrames {
