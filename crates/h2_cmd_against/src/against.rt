@@ -1,10 +1,7 @@
 //! The commands: the cases of files against a server, or against what was recorded of one.
 
-use crate::exchange::{Exchange, Reading, play};
 use crate::items::{CaseItems, items_of};
-use crate::judging::{Judgement, judge_case};
 use crate::link::Connector;
-use crate::recorded::align;
 use crate::report::{Sums, result_text, skipped_text};
 use crate::survey::{Survey, peer_of, survey, with_limits};
 use h2_cmd_args::command::Against;
@@ -12,7 +9,12 @@ use h2_cmd_batch::{BenchFault, Case, Common, OwnFault, book_for_words, own_of, p
 use h2_cmd_book_file::{Files, FilesFault};
 use h2_cmd_cases::{case_length, have_words, lines_in, preamble_length, title_of};
 use h2_cmd_check::{CaseFault, Suite, junit_text, octets_of_lines, plan_line};
-use h2_cmd_judge::judge::Verdict;
+use h2_cmd_exchange::played::Played;
+use h2_cmd_judge::case::{Judgement, judge_case};
+use h2_cmd_judge::event::Seen;
+use h2_cmd_judge::judge::{Ending, Verdict};
+use h2_cmd_judge::reading::{Reading, is_http1};
+use h2_cmd_judge::recorded::aligned;
 use h2_io::{MAX_INPUT, Output, is_hex_text, read_hex};
 use h2_request_book::book::Book;
 use h2_spec::connection::Config;
@@ -81,33 +83,34 @@ fn items_with(
     book: &Book<Global>,
     config: Config,
     octets: Vec<u8>,
+    is_tagged: bool,
 ) -> Result<CaseItems, NoVerdict> {
-    match items_of(alloc, book, config, octets) {
+    match items_of(alloc, book, config, octets, is_tagged) {
         Ok(items) => Ok(items),
         Err(CaseFault::BadConfig) => { Err(refused(alloc, "a limit or a setting is out of range")) }
         Err(CaseFault::NoMemory) => Err(NoVerdict::NoMemory),
     }
 }
 
-/// The items of a case, with the limits that the server announces.
+/// The items of a case, with the limits that the server announces in the octets that it sends first.
 fn items_in<F: Files>(
     alloc: Global,
     common: Common<'_>,
     files: &mut F,
     case: Case<'_, '_>,
-    settings: &[(u16, u32)],
+    first: &[u8],
     octets: Vec<u8>,
 ) -> Result<CaseItems, NoVerdict> {
+    let is_tagged = is_tagged(case.lines);
     if !have_words(case.lines) {
-        return items_with(
-            alloc,
-            common.book,
-            with_limits(common.config, settings),
-            octets,
-        );
+        let config = with_limits(common.config, first);
+        return items_with(alloc, common.book, config, octets, is_tagged);
     }
     match own_of(alloc, files, case) {
-        Ok(own) => items_with(alloc, &own.book, with_limits(own.config, settings), octets),
+        Ok(own) => {
+            let config = with_limits(own.config, first);
+            items_with(alloc, &own.book, config, octets, is_tagged)
+        }
         Err(OwnFault::NoMemory) => Err(NoVerdict::NoMemory),
         Err(OwnFault::Refused(words)) => Err(refused(alloc, words.why.as_str())),
     }
@@ -120,20 +123,23 @@ fn is_tagged(lines: &[&[u8]]) -> bool {
         .any(|line| line.starts_with(b"; Own: ".as_slice()))
 }
 
-/// The verdict on what a server did.
+/// The verdict on what a server did that sends these octets first.
 fn judge_exchange(
     alloc: Global,
     items: &CaseItems,
-    exchange: &Exchange,
+    first: &[u8],
+    theirs: &[Seen],
+    ending: Ending,
     status: u32,
 ) -> Result<Judgement, AllocError> {
-    let peer = peer_of(exchange.settings.as_slice(), status);
     judge_case(
         alloc,
-        items,
-        exchange.theirs.as_slice(),
-        exchange.ending,
-        peer,
+        items.dues.as_slice(),
+        items.highest,
+        items.own.as_slice(),
+        theirs,
+        ending,
+        peer_of(first, status),
     )
 }
 
@@ -153,11 +159,25 @@ impl<'p, 'c, C: Connector> Bench<'p, 'c, C> {
         let Some(mut link) = self.connector.connect(port) else {
             return Err(refused(self.alloc, "nothing listens on the port any more"));
         };
-        let exchange = play(self.alloc, &mut link, items, wait)?;
-        if exchange.is_cut && exchange.ending.closed.is_none() {
+        let played = Played::play(
+            self.alloc,
+            &mut link,
+            items.octets.as_slice(),
+            items.ends.as_slice(),
+            items.can_ask,
+            wait,
+        )?;
+        if played.is_cut() && played.closed.is_none() {
             return Err(NoVerdict::Skipped("it took more than 5 s, or more than 16 MiB came"));
         }
-        Ok(judge_exchange(self.alloc, items, &exchange, self.status(items))?)
+        Ok(judge_exchange(
+            self.alloc,
+            items,
+            played.reading.octets(),
+            played.reading.events(),
+            played.ending(items.can_ask),
+            self.status(items),
+        )?)
     }
 
     /// Plays a case once, and again with a longer wait where that is not the same; the second run counts.
@@ -176,18 +196,20 @@ impl<'p, 'c, C: Connector> Bench<'p, 'c, C> {
             reading.take(self.alloc, record.server.as_slice(), 0)?;
         }
         let last = u32::try_from(items.ends.len()).unwrap_or(u32::MAX);
-        align(
-            items.own.as_slice(),
-            reading.found.theirs.as_mut_slice(),
-            last,
-        );
-        Ok(judge_exchange(self.alloc, items, &reading.found, 0)?)
+        let theirs = aligned(self.alloc, items.own.as_slice(), reading.events(), last)?;
+        let octets = reading.octets();
+        let ending = Ending {
+            closed: None,
+            answers: None,
+            http1: is_http1(octets),
+        };
+        Ok(judge_exchange(self.alloc, items, octets, theirs.as_slice(), ending, 0)?)
     }
 
-    /// The settings that the server announces.
-    fn settings(&self) -> &[(u16, u32)] {
+    /// The octets that the server sends first, where it was asked.
+    fn first_octets(&self) -> &[u8] {
         match &self.survey {
-            Some(survey) => survey.settings.as_slice(),
+            Some(survey) => survey.octets.as_slice(),
             None => &[],
         }
     }
@@ -212,15 +234,14 @@ impl<'p, 'c, C: Connector> Bench<'p, 'c, C> {
         if !self.is_recorded(octets.as_slice()) {
             return Err(NoVerdict::Skipped("the client sent other octets"));
         }
-        let mut items = items_in(
+        let items = items_in(
             self.alloc,
             self.common,
             files,
             case,
-            self.settings(),
+            self.first_octets(),
             octets,
         )?;
-        items.is_tagged = is_tagged(case.lines);
         let judgement = if self.plan.judge {
             self.judged_record(&items)?
         } else {

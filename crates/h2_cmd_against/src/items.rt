@@ -5,6 +5,7 @@ ghost use Rattle.std.specs.Prelude.{◌≡◌, []};
 ghost use Rattle.h2_conn.specs.Connection.{going};
 
 use h2_cmd_check::CaseFault;
+use h2_cmd_judge::case::Due;
 use h2_cmd_judge::event::{Condition, Item, Seen};
 use h2_cmd_judge::frames::ServerFrames;
 use h2_conn::{Conn, ConnFault};
@@ -54,6 +55,8 @@ pub(crate) struct CaseItems {
     /// The place after the octets of each item.
     pub ends: Vec<usize>,
     /// The items that are judged.
+    pub dues: Vec<Due>,
+    /// What is said about the rule of each of them.
     pub ruled: Vec<Ruled>,
     /// What this server does.
     pub own: Vec<Seen>,
@@ -61,8 +64,6 @@ pub(crate) struct CaseItems {
     pub highest: u32,
     /// Whether its first request is a POST.
     pub is_post: bool,
-    /// Whether the case says that the RFC leaves a server more than this server does.
-    pub is_tagged: bool,
     /// Whether a PING at the end is lawful: SETTINGS came, and neither a field block nor a frame is open.
     pub can_ask: bool,
 }
@@ -214,11 +215,11 @@ impl Taking {
             found: CaseItems {
                 octets,
                 ends: Vec::new(alloc),
+                dues: Vec::new(alloc),
                 ruled: Vec::new(alloc),
                 own: Vec::new(alloc),
                 highest: 0,
                 is_post: false,
-                is_tagged: false,
                 can_ask: false,
             },
             frames: ServerFrames::new(alloc)?,
@@ -348,8 +349,27 @@ impl Taking {
         }
     }
 
+    /// The item at a place, with what is after it; `next` and `next_error` are the numbers of those behind it.
+    fn due_at(&self, ruled: &Ruled, next: u32, next_error: u32, is_unfinished: bool) -> Item {
+        Item {
+            until: if ruled.cause.is_some() {
+                next_error
+            } else {
+                next
+            },
+            is_last: next == u32::MAX,
+            waits: self.waits(ruled, is_unfinished),
+            ..ruled.item
+        }
+    }
+
     /// Notes of each item what is after it.
-    fn finish(mut self, is_ended: bool, has_settings: bool) -> CaseItems {
+    fn finish(
+        mut self,
+        is_tagged: bool,
+        is_ended: bool,
+        has_settings: bool,
+    ) -> Result<CaseItems, AllocError> {
         let whole = match self.found.ends.as_slice().last() {
             Some(end) => *end,
             None => 0,
@@ -357,31 +377,23 @@ impl Taking {
         let has_rest = self.found.octets.len() > whole;
         let is_unfinished = !is_ended && (self.is_open || has_rest);
         self.found.can_ask = has_settings && !is_unfinished;
+        if has_rest {
+            let end = self.found.octets.len();
+            self.found.ends.push(end)?;
+        }
         let mut next = u32::MAX;
         let mut next_error = u32::MAX;
-        let count = self.found.ruled.len();
-        for behind in 0..count {
-            let place = count - 1 - behind;
-            let Some(ruled) = self.found.ruled.as_slice().get(place).copied() else {
-                break;
-            };
-            let is_error = ruled.cause.is_some();
-            let waits = self.waits(&ruled, is_unfinished);
-            let item = Item {
-                until: if is_error { next_error } else { next },
-                is_last: behind == 0,
-                waits,
-                ..ruled.item
-            };
-            if let Some(held) = self.found.ruled.as_mut_slice().get_mut(place) {
-                *held = Ruled { item, ..ruled };
-            }
+        for ruled in self.found.ruled.as_slice().iter().rev() {
+            let item = self.due_at(ruled, next, next_error, is_unfinished);
+            let is_left = is_tagged || ruled.is_left;
+            self.found.dues.push(Due { item, is_left })?;
             next = ruled.item.low;
-            if is_error {
+            if ruled.cause.is_some() {
                 next_error = ruled.item.low;
             }
         }
-        self.found
+        self.found.dues.as_mut_slice().reverse();
+        Ok(self.found)
     }
 }
 
@@ -435,6 +447,7 @@ fn items_on(
     alloc: Global,
     conn: &mut Conn<'_, Global>,
     octets: Vec<u8>,
+    is_tagged: bool,
 ) -> Result<CaseItems, AllocError>
     requires ready { conn.old ≡ going conn.old.state [] }
 {
@@ -453,10 +466,11 @@ fn items_on(
     }
     let is_ended = conn.ended().is_some();
     let has_settings = taking.settings > 0;
-    Ok(taking.finish(is_ended, has_settings))
+    taking.finish(is_tagged, is_ended, has_settings)
 }
 
-/// The items of the octets of a case, with this book, these limits and these settings.
+/// The items of the octets of a case, with this book, these limits and these settings; `is_tagged`: the case says that the RFC
+/// leaves a server more than this server does.
 ///
 /// # Errors
 ///
@@ -466,10 +480,11 @@ pub(crate) fn items_of(
     book: &Book<Global>,
     config: Config,
     octets: Vec<u8>,
+    is_tagged: bool,
 ) -> Result<CaseItems, CaseFault> {
     let mut sent = Vec::new(alloc);
     match Conn::new(book, config, &mut sent) {
-        Ok(mut conn) => match items_on(alloc, &mut conn, octets) {
+        Ok(mut conn) => match items_on(alloc, &mut conn, octets, is_tagged) {
             Ok(items) => Ok(items),
             Err(_) => Err(CaseFault::NoMemory),
         },

@@ -1,7 +1,7 @@
 //! The result of a case on a server, as TAP: a line with the verdict, and what is to be said about items in YAML.
 
 use crate::items::{CaseItems, Ruled};
-use crate::judging::{Finding, Judgement};
+use h2_cmd_judge::case::{Finding, Judgement};
 use h2_cmd_judge::judge::{Reaction, Unseen, Verdict};
 use h2_explain_text::others::no_errors;
 use h2_explain_words::names::Code;
@@ -122,6 +122,9 @@ fn say_own(own: Option<Observed>, out: &mut TextBuilder) {
 
 /// What is to be said about an item.
 fn say_finding(ruled: &Ruled, finding: &Finding, out: &mut TextBuilder) {
+    if let Verdict::Same = finding.verdict {
+        return;
+    }
     let row = ruled.row;
     say_all!(out; "  - item: ", ruled.item.number, "\n    verdict: ", verdict_word(finding.verdict));
     say_all!(out; "\n    rule: ", row.name, ", ", row.section);
@@ -154,17 +157,10 @@ fn say_finding(ruled: &Ruled, finding: &Finding, out: &mut TextBuilder) {
 
 /// What is to be said about a case.
 fn say_findings(items: &CaseItems, judgement: &Judgement, out: &mut TextBuilder) {
-    if judgement.findings.is_empty()
-        && judgement.stray.is_none()
-        && judgement.unreadable.is_none()
-    {
-        return;
-    }
     "  ---\n".say(out);
-    for finding in judgement.findings.as_slice() {
-        if let Some(ruled) = items.ruled.as_slice().get(finding.place) {
-            say_finding(ruled, finding, out);
-        }
+    let rules = items.ruled.as_slice();
+    for (ruled, finding) in rules.iter().zip(judgement.findings.as_slice()) {
+        say_finding(ruled, finding, out);
     }
     if let Some(stream) = judgement.stray {
         say_all!(out; "  - verdict: broken\n    rule: RFC 9113 6.4, MUST NOT\n    seen: RST_STREAM on the idle stream ", stream, "\n");
@@ -327,11 +323,9 @@ impl Sums {
         if judgement.unreadable.is_some() {
             return self.add_fault("unreadable-block", "RFC 9113 4.3");
         }
-        for finding in judgement.findings.as_slice() {
-            if let (Verdict::Broken, Some(ruled)) = (
-                finding.verdict,
-                items.ruled.as_slice().get(finding.place),
-            ) {
+        let rules = items.ruled.as_slice();
+        for (ruled, finding) in rules.iter().zip(judgement.findings.as_slice()) {
+            if let Verdict::Broken = finding.verdict {
                 return self.add_fault(ruled.row.name, ruled.row.section);
             }
         }

@@ -1,5 +1,7 @@
 //! Connections to the servers that are judged, over TCP.
 
+ghost use Rattle.std.specs.Prelude.{None};
+
 use h2_cmd_against::{Connector, Link, LinkRead};
 use h2_host::Stopwatch;
 use std::io::{ErrorKind, Read, Write};
@@ -22,7 +24,12 @@ pub struct TcpPeer<'x> {
 /// How many milliseconds one write may take.
 const WRITE_MILLIS: u64 = 2_000;
 
+/// The most milliseconds that a case takes.
+const MOST_MILLIS: u64 = 5_000;
+
 impl Link for TcpPeer<'_> {
+    ghost log = { λ _. None };
+
     fn read(&mut self, millis: u64, buffer: &mut [u8]) -> LinkRead {
         let wait = Duration::from_millis(millis.max(1));
         if self.stream.set_read_timeout(Some(wait)).is_err() {
@@ -44,10 +51,10 @@ impl Link for TcpPeer<'_> {
         self.stream.write_all(octets).is_ok()
     }
 
-    fn millis(&self) -> u64 {
+    fn is_late(&mut self) -> bool {
         match self.times.millis() {
-            Some(millis) => millis,
-            None => 0,
+            Some(millis) => millis > MOST_MILLIS,
+            None => false,
         }
     }
 }
