@@ -1,6 +1,5 @@
 //! The commands: the cases of files against a server, or against what was recorded of one.
 
-use crate::items::{CaseItems, items_of};
 use crate::link::Connector;
 use crate::report::{Sums, result_text, skipped_text};
 use crate::survey::{Survey, peer_of, survey, with_limits};
@@ -8,8 +7,10 @@ use h2_cmd_args::command::Against;
 use h2_cmd_batch::{BenchFault, Case, Common, OwnFault, book_for_words, own_of, print_fault};
 use h2_cmd_book_file::{Files, FilesFault};
 use h2_cmd_cases::{case_length, have_words, lines_in, preamble_length, title_of};
-use h2_cmd_check::{CaseFault, Suite, junit_text, octets_of_lines, plan_line};
+use h2_cmd_check::{Suite, junit_text, octets_of_lines, plan_line};
 use h2_cmd_exchange::played::Played;
+use h2_cmd_items::case::{CaseItems, case_items};
+use h2_cmd_items::items::ItemsFault;
 use h2_cmd_judge::case::{Judgement, judge_case};
 use h2_cmd_judge::event::Seen;
 use h2_cmd_judge::judge::{Ending, Verdict};
@@ -85,10 +86,10 @@ fn items_with(
     octets: Vec<u8>,
     is_tagged: bool,
 ) -> Result<CaseItems, NoVerdict> {
-    match items_of(alloc, book, config, octets, is_tagged) {
+    match case_items(alloc, book, config, octets, is_tagged) {
         Ok(items) => Ok(items),
-        Err(CaseFault::BadConfig) => { Err(refused(alloc, "a limit or a setting is out of range")) }
-        Err(CaseFault::NoMemory) => Err(NoVerdict::NoMemory),
+        Err(ItemsFault::BadConfig) => { Err(refused(alloc, "a limit or a setting is out of range")) }
+        Err(ItemsFault::NoMemory) => Err(NoVerdict::NoMemory),
     }
 }
 
@@ -164,7 +165,7 @@ impl<'p, 'c, C: Connector> Bench<'p, 'c, C> {
             &mut link,
             items.octets.as_slice(),
             items.ends.as_slice(),
-            items.can_ask,
+            items.asks,
             wait,
         )?;
         if played.is_cut() && played.closed.is_none() {
@@ -175,7 +176,7 @@ impl<'p, 'c, C: Connector> Bench<'p, 'c, C> {
             items,
             played.reading.octets(),
             played.reading.events(),
-            played.ending(items.can_ask),
+            played.ending(items.asks),
             self.status(items),
         )?)
     }
@@ -260,13 +261,14 @@ impl<'p, 'c, C: Connector> Bench<'p, 'c, C> {
         let title = title_of(case.lines);
         match self.judged(files, case) {
             Ok(judged) => {
-                self.sums.add(&judged.items, &judged.judgement)?;
+                let sent = judged.items.judged.as_slice();
+                self.sums.add(sent, &judged.judgement)?;
                 result_text(
                     self.alloc,
                     self.count,
                     case.file,
                     title,
-                    &judged.items,
+                    sent,
                     &judged.judgement,
                 )
             }

@@ -4,7 +4,6 @@
 #![tactic(auto)]
 
 pub mod against;
-mod items;
 mod link;
 mod report;
 mod survey;

@@ -1,6 +1,6 @@
 //! The result of a case on a server, as TAP: a line with the verdict, and what is to be said about items in YAML.
 
-use crate::items::{CaseItems, Ruled};
+use h2_cmd_items::sent::Sent;
 use h2_cmd_judge::case::{Finding, Judgement};
 use h2_cmd_judge::judge::{Reaction, Unseen, Verdict};
 use h2_explain_text::others::no_errors;
@@ -121,12 +121,12 @@ fn say_own(own: Option<Observed>, out: &mut TextBuilder) {
 }
 
 /// What is to be said about an item.
-fn say_finding(ruled: &Ruled, finding: &Finding, out: &mut TextBuilder) {
+fn say_finding(sent: &Sent, finding: &Finding, out: &mut TextBuilder) {
     if let Verdict::Same = finding.verdict {
         return;
     }
-    let row = ruled.row;
-    say_all!(out; "  - item: ", ruled.item.number, "\n    verdict: ", verdict_word(finding.verdict));
+    let row = sent.row;
+    say_all!(out; "  - item: ", sent.number, "\n    verdict: ", verdict_word(finding.verdict));
     say_all!(out; "\n    rule: ", row.name, ", ", row.section);
     if let Verdict::Skipped(why) = finding.verdict {
         say_all!(out; "\n    why: ", unseen_words(why), "\n");
@@ -156,11 +156,10 @@ fn say_finding(ruled: &Ruled, finding: &Finding, out: &mut TextBuilder) {
 }
 
 /// What is to be said about a case.
-fn say_findings(items: &CaseItems, judgement: &Judgement, out: &mut TextBuilder) {
+fn say_findings(judged: &[Sent], judgement: &Judgement, out: &mut TextBuilder) {
     "  ---\n".say(out);
-    let rules = items.ruled.as_slice();
-    for (ruled, finding) in rules.iter().zip(judgement.findings.as_slice()) {
-        say_finding(ruled, finding, out);
+    for (sent, finding) in judged.iter().zip(judgement.findings.as_slice()) {
+        say_finding(sent, finding, out);
     }
     if let Some(stream) = judgement.stray {
         say_all!(out; "  - verdict: broken\n    rule: RFC 9113 6.4, MUST NOT\n    seen: RST_STREAM on the idle stream ", stream, "\n");
@@ -196,7 +195,7 @@ pub(crate) fn result_text(
     number: u64,
     file: &str,
     title: Option<&[u8]>,
-    items: &CaseItems,
+    judged: &[Sent],
     judgement: &Judgement,
 ) -> Result<String, AllocError> {
     let mut out = TextBuilder::with(alloc, true);
@@ -208,17 +207,17 @@ pub(crate) fn result_text(
         Verdict::Allowed => {
             say_line(true, number, file, title, &mut out);
             "\n".say(&mut out);
-            say_findings(items, judgement, &mut out);
+            say_findings(judged, judgement, &mut out);
         }
         Verdict::Doubtful => {
             say_line(false, number, file, title, &mut out);
             " # TODO doubtful\n".say(&mut out);
-            say_findings(items, judgement, &mut out);
+            say_findings(judged, judgement, &mut out);
         }
         Verdict::Broken => {
             say_line(false, number, file, title, &mut out);
             "\n".say(&mut out);
-            say_findings(items, judgement, &mut out);
+            say_findings(judged, judgement, &mut out);
         }
         Verdict::Skipped(_) => {
             say_line(true, number, file, title, &mut out);
@@ -316,17 +315,16 @@ impl Sums {
     }
 
     /// The first rule that was broken in a case.
-    fn add_faults(&mut self, items: &CaseItems, judgement: &Judgement) -> Result<(), AllocError> {
+    fn add_faults(&mut self, judged: &[Sent], judgement: &Judgement) -> Result<(), AllocError> {
         if judgement.stray.is_some() {
             return self.add_fault("rst-stream-on-idle", "RFC 9113 6.4");
         }
         if judgement.unreadable.is_some() {
             return self.add_fault("unreadable-block", "RFC 9113 4.3");
         }
-        let rules = items.ruled.as_slice();
-        for (ruled, finding) in rules.iter().zip(judgement.findings.as_slice()) {
+            for (sent, finding) in judged.iter().zip(judgement.findings.as_slice()) {
             if let Verdict::Broken = finding.verdict {
-                return self.add_fault(ruled.row.name, ruled.row.section);
+                return self.add_fault(sent.row.name, sent.row.section);
             }
         }
         Ok(())
@@ -335,7 +333,7 @@ impl Sums {
     /// A case was judged.
     pub(crate) fn add(
         &mut self,
-        items: &CaseItems,
+        judged: &[Sent],
         judgement: &Judgement,
     ) -> Result<(), AllocError> {
         let count = match judgement.verdict {
@@ -347,7 +345,7 @@ impl Sums {
         };
         *count = count.saturating_add(1);
         if let Verdict::Broken = judgement.verdict {
-            return self.add_faults(items, judgement);
+            return self.add_faults(judged, judgement);
         }
         Ok(())
     }

@@ -1,5 +1,6 @@
 -- What happens while a server is listened to, one event after another.
-use Rattle.std.proofs.Common.{◌≡◌, ◌∙◌, ◌+◌, ◌<◌, ℕ, Bool, true, false, ◌&&◌, ◌||◌, not, is_some, nat_le, List, [], ◌∷◌, ◌++◌, length, Option, Some, None, refl, sym, ap, subst, arith}
+use Rattle.std.proofs.lemmas.Bool.{leb-true}
+use Rattle.std.proofs.Common.{◌≡◌, ◌≤◌, ℕ, Bool, true, false, ◌&&◌, ◌||◌, not, is_some, nat_le, List, [], ◌∷◌, ◌++◌, length, Option, refl, sym, subst}
 use Rattle.h2_cmd_judge.specs.Readings.{read_more}
 use Rattle.h2_cmd_exchange.specs.Links.{LinkEvent, Sent, Got, Quiet, Ended, Late, happened}
 use Rattle.h2_cmd_exchange.specs.Plays.{AsksIf, HearsOne, IsGot, Listens, ListensFor, Played, Sends, SendsIf, goes_on, have_answer, heard, is_open, most, probe_frame, taken_if, with_piece}
@@ -54,3 +55,16 @@ pub sends-one : (asked : Bool) (piece : List ℕ) (p q p' : Played) (log mid log
 sends-one asked piece p q p' log mid log' done goes sent listens same =
     subst (λ (b : Bool). SendsIf b asked piece p log p' log') (sym goes)
     (done, q, subst (λ (k : Option (List LinkEvent)). ListensFor asked (with_piece p) k q log') sent listens, same)
+
+-- ---- how much is read
+
+within-by : (late fits x y : Bool) → ((not (late || not fits) && x) && y) ≡ true → fits ≡ true
+within-by true fits x y go = cc
+within-by false true x y go = refl
+within-by false false x y go = cc
+
+-- where it goes on, no more has come than is read in a case
+pub goes_on-within : (asked : Bool) (p : Played) → goes_on asked p ≡ true → length p.reading.octets ≤ most
+goes_on-within asked p go =
+    leb-true (length p.reading.octets) most
+    (within-by p.late (nat_le (length p.reading.octets) most) (not (is_some p.closed)) (not (asked && have_answer p.reading.events)) go)

@@ -1,7 +1,7 @@
 //! A case played to a server. Definitions: `specs/Plays.antt`.
 
 ghost use Rattle.std.specs.Prelude.{◌≡◌, ◌<◌, drop, length, true, IfOk, OnOk};
-ghost use Rattle.h2_cmd_exchange.specs.Plays.{AsksIf, HearsOne, ListensFor, Plays, Sends, SendsAll, between, closed_if, ending_of, goes_on, have_answer, is_answer, is_cut, is_open, unplayed};
+ghost use Rattle.h2_cmd_exchange.specs.Plays.{AsksIf, HearsOne, ListensFor, Plays, Sends, SendsAll, SendsIf, between, closed_if, ending_of, goes_on, have_answer, is_answer, is_cut, is_open, taken_if, unplayed, with_piece};
 
 use crate::link::{Link, LinkRead};
 use h2_cmd_judge::event::{Event, Seen};
@@ -198,6 +198,42 @@ impl Played {
         Ok(())
     }
 
+    /// One piece more is sent.
+    fn count(&mut self)
+        ensures { self.new ≡ with_piece self.old }
+    {
+        self.number = self.number.saturating_add(1);
+    }
+
+    /// The connection is closed after the last piece, where it could not take that.
+    fn close_if(&mut self, done: bool)
+        ensures { self.new ≡ taken_if done self.old }
+    {
+        self.closed = closed_if(done, self.number, self.closed);
+    }
+
+    /// Sends a piece, and reads what comes after it.
+    fn send_open<L: Link>(
+        &mut self,
+        alloc: Global,
+        link: &mut L,
+        piece: &[u8],
+        asked: bool,
+        millis: u64,
+    ) -> Result<(), AllocError>
+        ensures { OnOk result (SendsIf true asked piece.now self.old (L.log link.old) self.new (L.log link.new)) }
+    {
+        self.count();
+        let done = link.write_all(piece);
+        match self.listen(alloc, link, asked, millis) {
+            Ok(()) => {
+                self.close_if(done);
+                Ok(())
+            }
+            Err(error) => Err(error),
+        }
+    }
+
     /// Sends a piece, where the connection is open, and reads what comes after it.
     fn send<L: Link>(
         &mut self,
@@ -209,17 +245,14 @@ impl Played {
     ) -> Result<(), AllocError>
         ensures { OnOk result (Sends asked piece.now self.old (L.log link.old) self.new (L.log link.new)) }
     {
-        if !self.is_open() {
-            return Ok(());
+        if self.is_open() {
+            match self.send_open(alloc, link, piece, asked, millis) {
+                Ok(()) => Ok(()),
+                Err(error) => Err(error),
+            }
+        } else {
+            Ok(())
         }
-        self.number = self.number.saturating_add(1);
-        let done = link.write_all(piece);
-        match self.listen(alloc, link, asked, millis) {
-            Ok(()) => {}
-            Err(error) => return Err(error),
-        }
-        self.closed = closed_if(done, self.number, self.closed);
-        Ok(())
     }
 
     /// Sends the pieces of octets up to these places.
@@ -260,7 +293,11 @@ impl Played {
         }
         let wait = PROBE_MILLIS.max(millis.saturating_mul(4));
         match self.send(alloc, link, &PROBE_FRAME, true, wait) {
-            Ok(()) => self.listen(alloc, link, false, millis),
+            Ok(()) => {}
+            Err(error) => return Err(error),
+        }
+        match self.listen(alloc, link, false, millis) {
+            Ok(()) => Ok(()),
             Err(error) => Err(error),
         }
     }

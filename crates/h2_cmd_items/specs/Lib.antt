@@ -1,0 +1,4 @@
+pub mod CaseItems
+pub mod Dues
+pub mod Rules
+pub mod SentItems
