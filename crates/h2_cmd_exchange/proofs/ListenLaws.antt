@@ -63,7 +63,7 @@ within-by true fits x y go = cc
 within-by false true x y go = refl
 within-by false false x y go = cc
 
--- where it goes on, no more has come than is read in a case
+-- where it goes on, no more has arrived than is read in a case
 pub goes_on-within : (asked : Bool) (p : Played) → goes_on asked p ≡ true → length p.reading.octets ≤ most
 goes_on-within asked p go =
     leb-true (length p.reading.octets) most

@@ -9,7 +9,6 @@ use Rattle.h2_cmd_judge.specs.declared.event.Event.TheVariants as event
 use Rattle.h2_cmd_judge.specs.declared.event.Seen.{Seen}
 use Rattle.h2_cmd_judge.specs.declared.judge.Ending.{Ending}
 
-
 -- how far a case is played: what arrived, the number of the last piece that was sent, that of the piece after which the server
 -- closed the connection, and whether the time of the case was over
 pub record Played : Type 0 where
@@ -141,7 +140,7 @@ SendsAll octets start (end ∷ ends) p log p' log' =
 abbrev pub probe_frame : List ℕ
 probe_frame = 0 ∷ 0 ∷ 8 ∷ 6 ∷ 0 ∷ 0 ∷ 0 ∷ 0 ∷ 0 ∷ probe
 
--- where that is asked for, a PING asks whether the connection is alive; what comes behind its answer is read too
+-- where that is asked for, a PING asks whether the connection is alive; what comes after its answer is read too
 abbrev pub AsksIf : (asks : Bool) → Played → Option (List LinkEvent) → Played → Option (List LinkEvent) → Type 0
 AsksIf false p log p' log' = (p' ≡ p) × (log' ≡ log)
 AsksIf true p log p' log' =

@@ -78,7 +78,7 @@ fn have_answer(events: &[Seen]) -> bool
     false
 }
 
-/// The octets from a place on; none where there are not so many.
+/// The octets from a place on; none where there are fewer.
 fn behind(octets: &[u8], start: usize) -> &[u8]
     ensures { result.now ≡ drop start octets.now }
 {
@@ -176,7 +176,7 @@ impl Played {
         }
     }
 
-    /// Reads until nothing has come for this many milliseconds; or, where only the answer to the PING is
+    /// Reads until nothing has arrived for this many milliseconds; or, where only the answer to the PING is
     /// waited for, until that comes.
     fn listen<L: Link>(
         &mut self,
@@ -303,7 +303,7 @@ impl Played {
     }
 
     /// A case is played: what the server sends by itself is read, then the pieces of its octets up to these places are sent, one
-    /// after another, and then a PING where that is asked for. After each piece what comes is read until nothing has come for
+    /// after another, and then a PING where that is asked for. After each piece what comes is read until nothing has arrived for
     /// this many milliseconds.
     ///
     /// `AllocError` where memory is refused.
