@@ -65,6 +65,11 @@ fn low_if(opens: bool, low: u32, number: u32) -> u32
     if opens { low } else { number }
 }
 
+/// Whether one of both holds.
+fn either(one: bool, other: bool) -> bool {
+    one || other
+}
+
 impl Taking {
     /// No item yet.
     fn new(alloc: Global) -> Result<Taking, AllocError>
@@ -84,12 +89,7 @@ impl Taking {
     }
 
     /// What a judge has to know of an item.
-    fn sent_with(
-        &self,
-        item: &Explained<'_>,
-        account: &Account,
-        explainer: &ItemExplainer,
-    ) -> Sent
+    fn sent_with(&self, item: &Explained<'_>, account: &Account, explainer: &ItemExplainer) -> Sent
         ensures { IsSentOf item.now (low_if self.now.opens self.now.low (narrow item.now.number)) result }
     {
         let low = low_if(self.opens, self.low, narrow(item.number));
@@ -103,7 +103,10 @@ impl Taking {
     fn add(&mut self, alloc: Global, sent: Sent, octets: &[u8]) -> Result<(), AllocError>
         ensures { OnOk result (AddsSent self.old.sent.items (along_of self.old) sent octets.now self.new.sent.items (along_of self.new)) }
     {
-        match self.frames.read_on(alloc, octets, sent.number, &mut self.own) {
+        match self
+            .frames
+            .read_on(alloc, octets, sent.number, &mut self.own)
+        {
             Ok(_) => {}
             Err(error) => return Err(error),
         }
@@ -160,7 +163,7 @@ impl Taking {
             Err(error) => return Err(error),
         }
         let sent = self.sent_with(&item, &account, explainer);
-        self.is_post = self.is_post || is_post(explainer.reader.fields());
+        self.is_post = either(self.is_post, is_post(explainer.reader.fields()));
         match self.add(alloc, sent, answers) {
             Ok(()) => Ok(Some(used)),
             Err(error) => Err(error),
@@ -191,26 +194,13 @@ impl Taking {
 }
 
 /// The items of octets on a connection that is new.
-fn items_on(
-    alloc: Global,
-    conn: &mut Conn<'_, Global>,
-    octets: &[u8],
-) -> Result<Items, AllocError>
+fn items_on(alloc: Global, conn: &mut Conn<'_, Global>, octets: &[u8]) -> Result<Items, AllocError>
     requires ready { conn.old ≡ going conn.old.state [] }
     ensures { IfOk result (λ items. AreItems conn.old.state octets.now items.sent.items items.own.items items.opens) }
 {
-    let mut taking = match Taking::new(alloc) {
-        Ok(taking) => taking,
-        Err(error) => return Err(error),
-    };
-    let mut explainer = match ItemExplainer::new(alloc) {
-        Ok(explainer) => explainer,
-        Err(error) => return Err(error),
-    };
-    match taking.take_all(alloc, &mut explainer, conn, octets) {
-        Ok(()) => {}
-        Err(error) => return Err(error),
-    }
+    let mut taking = Taking::new(alloc)?;
+    let mut explainer = ItemExplainer::new(alloc)?;
+    taking.take_all(alloc, &mut explainer, conn, octets)?;
     Ok(Items {
         is_ended: conn.ended().is_some(),
         sent: taking.sent,

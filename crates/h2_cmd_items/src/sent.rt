@@ -153,13 +153,7 @@ fn ping_for(cause: Option<Cause>, ping: Option<[u8; 8]>) -> Option<[u8; 8]>
 }
 
 /// What a judge has to know of an item: that has this rule, and its block began with the item of this number.
-pub fn sent_of(
-    item: &Explained<'_>,
-    low: u32,
-    row: Row,
-    is_left: bool,
-    has_protocol: bool,
-) -> Sent
+pub fn sent_of(item: &Explained<'_>, low: u32, row: Row, is_left: bool, has_protocol: bool) -> Sent
     ensures { result ≡ sent_of item.now low row is_left has_protocol }
 {
     let head = item.head();

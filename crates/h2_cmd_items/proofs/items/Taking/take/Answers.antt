@@ -16,7 +16,7 @@ returns-in-Ok-add-clause-takes c =
     record {
       item = x;
       explains = item-explained c.args.conn.now.state c.args.octets.now c.new-out.result.items c.take_and_report.new.out.items _ c.args.offset c.take_and_report.new.self x c.take_and_report.ensures.ready first taken
-          number refl c.first_octets-own.ensures refl ? before after;
+          number refl c.first_octets-own.ensures refl (c.as_slice-answers.ensures.value ∙ rw c.new-out.ensures.items refl) before after;
       used_is = refl;
       sent = c.sent_with-sent.result;
       is_sent = c.sent_with-sent.ensures;

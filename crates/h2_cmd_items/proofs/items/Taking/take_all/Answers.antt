@@ -12,7 +12,7 @@ loop-used-init c = record {
   within = omega arith;
   sent = λ more end x.
       subst (λ (ss : List Sent). AreSent c.args.conn.now.state c.args.octets.now (length ss) 0 (along_of c.args.self.now) more end → AreSent c.args.conn.now.state c.args.octets.now 0 0 (along_of c.args.self.now) (ss ++ more) end)
-          (sym c.requires.none) (λ y. y) x;
+      (sym c.requires.none) (λ y. y) x;
 }
 
 pub loop-used-smaller : goal.loop-used-smaller
