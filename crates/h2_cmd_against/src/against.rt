@@ -104,12 +104,12 @@ fn items_in<F: Files>(
 ) -> Result<CaseItems, NoVerdict> {
     let is_tagged = is_tagged(case.lines);
     if !have_words(case.lines) {
-        let config = with_limits(common.config, first);
+        let config = limits_of(first);
         return items_with(alloc, common.book, config, octets, is_tagged);
     }
     match own_of(alloc, files, case) {
         Ok(own) => {
-            let config = with_limits(own.config, first);
+            let config = limits_of(first);
             items_with(alloc, &own.book, config, octets, is_tagged)
         }
         Err(OwnFault::NoMemory) => Err(NoVerdict::NoMemory),

@@ -17,7 +17,7 @@ abbrev pub end_if : Bool → ℕ → List ℕ
 end_if true end = end ∷ []
 end_if false end = []
 
--- the places after the pieces in which octets are sent: the items, and what is behind the last whole one
+-- the places after the pieces in which octets are sent: the items, and what is after the last whole one
 abbrev pub ends_of : List Sent → (length : ℕ) → List ℕ
 ends_of items length = map (λ s. s.end) items ++ end_if (nat_lt (last_end 0 items) length) length
 

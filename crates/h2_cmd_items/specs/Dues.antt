@@ -1,4 +1,4 @@
--- Which items of a case are judged, and what has to be known of those before and behind each.
+-- Which items of a case are judged, and what has to be known of those before and after each.
 use Rattle.std.specs.Prelude.{ℕ, ◌+◌, ◌-◌, ◌^◌, min, max, ◌==◌, ◌&&◌, ◌||◌, Bool, true, false, not, nat_lt, is_some, if◌then◌else◌, List, [], ◌∷◌, ◌++◌, Option, Some, None}
 use Rattle.h2_spec.specs.declared.causes.Cause.{Cause}
 use Rattle.h2_spec.specs.declared.causes.Cause.TheVariants.{BadContentLength, BadPreface, ConnectionWindowExceeded, ContentTooLong, FrameTooLarge, InitialWindowSizeOverflow, StreamFrameTooLarge, StreamWindowExceeded, UnknownPseudoField}
@@ -67,7 +67,7 @@ first_whole (s ∷ ss) = if is_whole s then s.low else first_whole ss
 abbrev pub is_judged : (before : List Sent) → Sent → Bool
 is_judged before s = is_error s || (not s.opens && not (have_error before))
 
--- the number of the next item that is judged: behind an error only errors are
+-- the number of the next item that is judged: after an error only errors are
 abbrev pub until_of : Sent → (behind : List Sent) → ℕ
 until_of s behind = if is_error s then first_error behind else first_whole behind
 
@@ -120,7 +120,7 @@ due_if false due = []
 
 -- ---- those of a case
 
--- the items that are judged, behind these
+-- the items that are judged, after these
 abbrev pub dues_behind : Whole → (before : List Sent) → List Sent → List Due
 dues_behind w before [] = []
 dues_behind w before (s ∷ ss) = due_if (is_judged before s) (due_of (before ++ s ∷ []) s ss w) ++ dues_behind w (before ++ s ∷ []) ss
@@ -133,7 +133,7 @@ abbrev pub sent_if : Bool → Sent → List Sent
 sent_if true s = s ∷ []
 sent_if false s = []
 
--- those of the items that are judged, as they were sent, behind these
+-- those of the items that are judged, as they were sent, after these
 abbrev pub judged_behind : (before : List Sent) → List Sent → List Sent
 judged_behind before [] = []
 judged_behind before (s ∷ ss) = sent_if (is_judged before s) s ++ judged_behind (before ++ s ∷ []) ss

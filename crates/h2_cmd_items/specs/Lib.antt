@@ -1,4 +1,5 @@
 pub mod CaseItems
 pub mod Dues
+pub mod Judgings
 pub mod Rules
 pub mod SentItems

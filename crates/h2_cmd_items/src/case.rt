@@ -17,7 +17,7 @@ use std::alloc::{AllocError, Global};
 #[derive(Drop)]
 pub struct CaseItems {
     pub octets: Vec<u8>,
-    /// The places after the pieces in which they are sent: the items, and what is behind the last whole one.
+    /// The places after the pieces in which they are sent: the items, and what is after the last whole one.
     pub ends: Vec<usize>,
     /// The items that are judged.
     pub dues: Vec<Due>,

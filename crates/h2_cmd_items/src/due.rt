@@ -1,4 +1,4 @@
-//! Which items of a case are judged, and what has to be known of those before and behind each. Definitions: `specs/Dues.antt`.
+//! Which items of a case are judged, and what has to be known of those before and after each. Definitions: `specs/Dues.antt`.
 
 ghost use Rattle.std.specs.Prelude.{◌≡◌, ◌≤◌, [], IfOk, drop, length, take};
 ghost use Rattle.h2_cmd_items.specs.Dues.{acknowledgements, condition_by, data_on, due_of, dues, first_error, first_whole, have_end, have_error, highest, is_error, is_judged, is_whole, item_of, judged_behind, settings_of, until_of, waits_by, with_data, with_settings};
@@ -144,7 +144,7 @@ fn is_judged(before: &[Sent], item: &Sent) -> bool
     is_error(item) || (!item.opens && !have_error(before))
 }
 
-/// The number of the next item that is judged: behind an error only errors are.
+/// The number of the next item that is judged: after an error only errors are.
 fn until_of(item: &Sent, behind: &[Sent]) -> u32
     ensures { result ≡ until_of item.now behind.now }
 {
@@ -201,7 +201,7 @@ fn settings_of(upto: &[Sent], item: &Sent) -> Option<u32>
     }
 }
 
-/// An item as it is judged, by the items up to it, and those behind it.
+/// An item as it is judged, by the items up to it, and those after it.
 fn item_of(upto: &[Sent], item: &Sent, behind: &[Sent], whole: Whole) -> Item
     ensures { result ≡ item_of upto.now item.now behind.now whole }
 {

@@ -6,5 +6,6 @@
 pub mod case;
 pub mod due;
 pub mod items;
+pub mod judging;
 pub mod rule;
 pub mod sent;
