@@ -2,7 +2,7 @@
 
 use crate::link::Connector;
 use crate::report::{Sums, result_text, skipped_text};
-use crate::survey::{Survey, peer_of, survey, with_limits};
+use crate::survey::{Survey, survey};
 use h2_cmd_args::command::Against;
 use h2_cmd_batch::{BenchFault, Case, Common, OwnFault, book_for_words, own_of, print_fault};
 use h2_cmd_book_file::{Files, FilesFault};
@@ -11,11 +11,9 @@ use h2_cmd_check::{Suite, junit_text, octets_of_lines, plan_line};
 use h2_cmd_exchange::played::Played;
 use h2_cmd_items::case::{CaseItems, case_items};
 use h2_cmd_items::items::ItemsFault;
-use h2_cmd_judge::case::{Judgement, judge_case};
-use h2_cmd_judge::event::Seen;
-use h2_cmd_judge::judge::{Ending, Verdict};
-use h2_cmd_judge::reading::{Reading, is_http1};
-use h2_cmd_judge::recorded::aligned;
+use h2_cmd_items::judging::{judge_played, judge_recorded, limits_of};
+use h2_cmd_judge::case::Judgement;
+use h2_cmd_judge::judge::Verdict;
 use h2_io::{MAX_INPUT, Output, is_hex_text, read_hex};
 use h2_request_book::book::Book;
 use h2_spec::connection::Config;
@@ -124,26 +122,6 @@ fn is_tagged(lines: &[&[u8]]) -> bool {
         .any(|line| line.starts_with(b"; Own: ".as_slice()))
 }
 
-/// The verdict on what a server did that sends these octets first.
-fn judge_exchange(
-    alloc: Global,
-    items: &CaseItems,
-    first: &[u8],
-    theirs: &[Seen],
-    ending: Ending,
-    status: u32,
-) -> Result<Judgement, AllocError> {
-    judge_case(
-        alloc,
-        items.dues.as_slice(),
-        items.highest,
-        items.own.as_slice(),
-        theirs,
-        ending,
-        peer_of(first, status),
-    )
-}
-
 impl<'p, 'c, C: Connector> Bench<'p, 'c, C> {
     /// The status that a lawful request gets.
     fn status(&self, items: &CaseItems) -> u32 {
@@ -171,14 +149,7 @@ impl<'p, 'c, C: Connector> Bench<'p, 'c, C> {
         if played.is_cut() && played.closed.is_none() {
             return Err(NoVerdict::Skipped("it took more than 5 s, or more than 16 MiB came"));
         }
-        Ok(judge_exchange(
-            self.alloc,
-            items,
-            played.reading.octets(),
-            played.reading.events(),
-            played.ending(items.asks),
-            self.status(items),
-        )?)
+        Ok(judge_played(self.alloc, items, &played, self.status(items))?)
     }
 
     /// Plays a case once, and again with a longer wait where that is not the same; the second run counts.
@@ -192,19 +163,11 @@ impl<'p, 'c, C: Connector> Bench<'p, 'c, C> {
 
     /// Judges what was recorded.
     fn judged_record(&self, items: &CaseItems) -> Result<Judgement, NoVerdict> {
-        let mut reading = Reading::new(self.alloc)?;
-        if let Some(record) = &self.recorded {
-            reading.take(self.alloc, record.server.as_slice(), 0)?;
-        }
-        let last = u32::try_from(items.ends.len()).unwrap_or(u32::MAX);
-        let theirs = aligned(self.alloc, items.own.as_slice(), reading.events(), last)?;
-        let octets = reading.octets();
-        let ending = Ending {
-            closed: None,
-            answers: None,
-            http1: is_http1(octets),
+        let octets = match &self.recorded {
+            Some(record) => record.server.as_slice(),
+            None => &[],
         };
-        Ok(judge_exchange(self.alloc, items, octets, theirs.as_slice(), ending, 0)?)
+        Ok(judge_recorded(self.alloc, items, octets)?)
     }
 
     /// The octets that the server sends first, where it was asked.

@@ -3,9 +3,6 @@
 use crate::link::Connector;
 use h2_cmd_exchange::played::Played;
 use h2_cmd_judge::event::{Event, Seen};
-use h2_cmd_judge::judge::Peer;
-use h2_cmd_judge::reading::announced;
-use h2_spec::connection::Config;
 use h2_spec::frames::PREFACE;
 use std::alloc::{AllocError, Global};
 
@@ -23,33 +20,6 @@ pub(crate) struct Survey {
     /// The status that a lawful GET gets, and a POST; 0 for none.
     pub get: u32,
     pub post: u32,
-}
-
-/// A number within a range.
-fn within(value: u32, least: u32, most: u32) -> u32 {
-    value.max(least).min(most)
-}
-
-/// Limits with those that a server announces in the octets that it sends first.
-pub(crate) fn with_limits(config: Config, octets: &[u8]) -> Config {
-    Config {
-        streams: within(announced(octets, 3, 1000), 1, 1000),
-        credit: 65_535,
-        table: within(announced(octets, 1, 4096), 0, 65_536),
-        window: within(announced(octets, 4, 65_535), 0, 2_147_483_647),
-        frame: within(announced(octets, 5, 16_384), 16_384, 65_536),
-        ..config
-    }
-}
-
-/// What the verdict needs to know of a server that sends these octets first.
-pub(crate) fn peer_of(octets: &[u8], status: u32) -> Peer {
-    Peer {
-        window: announced(octets, 4, 65_535),
-        frame: announced(octets, 5, 16_384),
-        protocol: announced(octets, 8, 0) == 1,
-        status,
-    }
 }
 
 /// The octets of a connection with one request of / by this method, the index of the static table (RFC 7541, Appendix A),
