@@ -18,4 +18,4 @@ returns-in-Err-clause-printed g c = λ known well.
 pub returns-in-Ok-clause-printed : goal.returns-in-Ok-clause-printed
 returns-in-Ok-clause-printed g c = λ known well.
     inr (subst (λ (r : Result (List Entry) ℕ). SessionAs IsSession r c.args.debug.now.config (g.I.Input.remaining c.args.input.now) (g.I.Input.remaining c.debug_session.new.input) (g.I.Input.has_failed c.debug_session.new.input) (g.O.Output.written c.args.output.now) (g.O.Output.written c.debug_session.new.output) c.debug_session.result)
-      (sym (c.in-Ok.ensures.ok known)) (c.debug_session.ensures.printed well))
+    (sym (c.in-Ok.ensures.ok known)) (c.debug_session.ensures.printed well))
