@@ -378,21 +378,11 @@ next_known after last ss st r e =
 pub next_above : (after : ℕ) (ss : List Stream) (st : Stream) → find (ready_above after) ss ≡ Some st → after < st.id
 next_above after ss st e = let w = ready_is_above after st (found_passes (ready_above after) ss st e) in grind (arith, nat_tests, w)
 
--- the record after it has sent can be put in its place
-pub can_put : (n last : ℕ) (ss : List Stream) (st x : Stream) → IsWaiting last ss st → x ≡ after_sending n st → CanPut x (record { streams = ss; last = last })
-can_put n last ss st x known e =
+-- the record after it has sent is that of a live stream
+pub stays_live : (n last : ℕ) (ss : List Stream) (st x : Stream) → IsWaiting last ss st → x ≡ after_sending n st → is_live (stream_at last ss x.id).kind ≡ true
+stays_live n last ss st x known e =
     let same : x.id ≡ st.id = ap (λ (y : Stream). y.id) e ∙ id-after_sending n st in
-    let odd : x.id % 2 ≡ 1 = ap (λ i. i % 2) same ∙ known.odd in
-    let live : is_live (stream_at last ss x.id).kind ≡ true = ap (λ i. is_live (stream_at last ss i).kind) same ∙ ap (λ (y : Stream). is_live y.kind) known.found ∙ known.live in
-    let k = (stream_at last ss x.id).kind in
-    (λ above. odd, λ within. ap (λ t. t || (is_closed k && not (is_live x.kind))) live)
-
--- the last stream stays the last
-pub last_stays : (n last : ℕ) (ss : List Stream) (st x : Stream) → IsWaiting last ss st → x ≡ after_sending n st → max last x.id ≡ last
-last_stays n last ss st x known e =
-    let same : x.id ≡ st.id = ap (λ (y : Stream). y.id) e ∙ id-after_sending n st in
-    let w = known.within in
-    omega (arith, same, w)
+    ap (λ i. is_live (stream_at last ss i).kind) same ∙ ap (λ (y : Stream). is_live y.kind) known.found ∙ known.live
 
 -- ---- records put together
 
@@ -401,10 +391,6 @@ both ss last = record { streams = ss; last = last }
 
 pub records_are : (r : Records) (ss : List Stream) (last : ℕ) → r.streams ≡ ss → r.last ≡ last → r ≡ both ss last
 records_are r ss last e f = ap (λ s. both s r.last) e ∙ ap (λ l. both ss l) f
-
-pub on_ok : {A E : Type 0} (r : Result A E) (P : Type 0) → IsOk r → OnOk r P → P
-on_ok (Ok x) P h o = o
-on_ok (Err e) P h o = absurd (false≢true h)
 
 -- ---- the rest of the window
 

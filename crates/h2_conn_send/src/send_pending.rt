@@ -148,7 +148,7 @@ fn take_allowance<A: Allocator>(window: u64, stream: &Stream, streams: &mut Stre
     ensures sent { streams.new ≡ record streams.old { streams = put (rule.after_sending (rule.allowance window stream.now) stream.now) streams.old.streams } }
 {
     let allowance = allowance(window, stream);
-    let _ = streams.put(after_sending(allowance, stream));
+    streams.replace(after_sending(allowance, stream));
     allowance
 }
 

@@ -79,7 +79,7 @@ fn put_and_send<'b, A: Allocator + Copy, O: Outgoing<'b, A>>(
 
 /// A record is put where no other stream can send: its stream alone sends, and its record is put once, as it is then.
 #[inline(always)]
-fn put_alone<'b, A: Allocator, O: Outgoing<'b, A>>(
+fn put_alone<'b, A: Allocator + Copy, O: Outgoing<'b, A>>(
     book: &'b Book<A>,
     streams: &mut Streams<A>,
     stream: &Stream,

@@ -55,7 +55,7 @@ impl<A: Allocator> Text for StreamsText<'_, A> {
         let _last = self.0.last();
         let mut place = 0usize;
         while let Some(stream) = self.0.at(place) {
-            StreamLine(shown_stream(stream)).write_to(output)?;
+            StreamLine(shown_stream(&stream)).write_to(output)?;
             place += 1;
         }
         Ok(())

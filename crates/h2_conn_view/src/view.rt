@@ -140,7 +140,7 @@ fn streams_of<A: Allocator + Copy>(
 {
     let mut views = Vec::new(alloc);
     while let Some(stream) = streams.at(views.len()) {
-        views.push(shown_stream(stream))?;
+        views.push(shown_stream(&stream))?;
     }
     Ok(views)
 }

@@ -50,7 +50,7 @@ others-shared own front [] less o = tt
 others-shared own front (x ∷ xs) less o =
     ((λ none. let absent = less x.id (subst (λ (id : ℕ). record_of own id ≡ None) (as_in-id front x) none) in ap (λ (st : Stream). is_live st.kind) (as_in-none front x absent) ∙ o.0 absent), others-shared own front xs less o.1)
 
-none-front : (n : ℕ) (own : List Stream) (id : ℕ) → record_of own id ≡ None → record_of (take n own) id ≡ None
+pub none-front : (n : ℕ) (own : List Stream) (id : ℕ) → record_of own id ≡ None → record_of (take n own) id ≡ None
 none-front zero own id h = refl
 none-front (suc n) [] id h = refl
 none-front (suc n) (x ∷ xs) id h = by (eqb x.id id) h (none-front n xs id)

@@ -75,7 +75,7 @@ front-found base front id st k f = by (record_of base id) refl
     by None e = absurd (true≢false (sym (known-found base front id st k f) ∙ ap is_some e))
     by (Some y) e = as-found front base id ∙ ap (option_map (as_in front)) e ∙ ap Some (as-front base front id y (Some st) e f)
 
-shared-found : (base front : List Stream) (id : ℕ) → record_of front id ≡ None → record_of (map (as_in front) base) id ≡ record_of base id
+pub shared-found : (base front : List Stream) (id : ℕ) → record_of front id ≡ None → record_of (map (as_in front) base) id ≡ record_of base id
 shared-found base front id f = by (record_of base id) refl
   where
     by : (o : Option Stream) → record_of base id ≡ o → record_of (map (as_in front) base) id ≡ record_of base id
@@ -166,7 +166,7 @@ put-other st id (x ∷ xs) a = at (eqb x.id st.id) refl (put-other st id xs a)
         rw (a, other) refl
     at false e more = ap (λ o. cond (eqb x.id id) (Some x) o) more
 
-put-first : (st : Stream) (xs ys : List Stream) → is_some (record_of xs st.id) ≡ true → put st (xs ++ ys) ≡ put st xs ++ ys
+pub put-first : (st : Stream) (xs ys : List Stream) → is_some (record_of xs st.id) ≡ true → put st (xs ++ ys) ≡ put st xs ++ ys
 put-first st [] ys k = absurd (true≢false (sym k))
 put-first st (x ∷ xs) ys k = at (eqb x.id st.id) k (put-first st xs ys)
   where
@@ -341,7 +341,7 @@ get-rest [] ys i le = let same : i ≡ i - 0 = omega arith in ap (slice_get ys) 
 get-rest (x ∷ xs) ys zero le = absurd (omega (arith, le))
 get-rest (x ∷ xs) ys (suc i) le = let same : i - length xs ≡ suc i - suc (length xs) = omega arith in get-rest xs ys i (omega (arith, le)) ∙ ap (slice_get ys) same
 
-get-dropped : {X : Type 0} (n : ℕ) (xs : List X) (i : ℕ) → slice_get (drop n xs) i ≡ slice_get xs (i + n)
+pub get-dropped : {X : Type 0} (n : ℕ) (xs : List X) (i : ℕ) → slice_get (drop n xs) i ≡ slice_get xs (i + n)
 get-dropped zero xs i = let same : i ≡ i + 0 = omega arith in ap (slice_get xs) same
 get-dropped (suc n) [] i = refl
 get-dropped (suc n) (x ∷ xs) i = let same : suc (i + n) ≡ i + suc n = omega arith in get-dropped n xs i ∙ ap (slice_get (x ∷ xs)) same

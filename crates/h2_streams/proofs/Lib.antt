@@ -1,4 +1,5 @@
 mod BaseLaws
+mod BriefLaws
 mod IdsLaws
 mod JoinedEntries
 mod JoinedLaws
@@ -8,6 +9,7 @@ mod PatchLaws
 pub mod PlaceLaws
 mod ReadyRows
 pub mod RebuiltLaws
+mod RunLaws
 mod SendLaws
 mod SharedLaws
 mod ShiftLaws

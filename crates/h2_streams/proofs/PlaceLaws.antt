@@ -160,6 +160,15 @@ live-found last rs id h = by_test (eqb (id % 2) 0) (nat_lt last id) (record_of r
 pub live-id : (last : ℕ) (rs : List Stream) (id : ℕ) → is_live (kind_of last rs id) ≡ true → (stream_at last rs id).id ≡ id
 live-id last rs id h = found-id rs id (stream_at last rs id) (live-found last rs id h)
 
+-- and is not above the last one
+pub live-within : (last : ℕ) (rs : List Stream) (id : ℕ) → is_live (kind_of last rs id) ≡ true → id ≤ last
+unfolding stream_at
+live-within last rs id h = by_test (eqb (id % 2) 0) (nat_lt last id) refl h where
+  by_test : (a b : Bool) → nat_lt last id ≡ b → is_live (cond a (not_live id Idle) (cond b (not_live id Idle) (recorded id (record_of rs id)))).kind ≡ true → id ≤ last
+  by_test true b e k = absurd (true≢false (sym k))
+  by_test false true e k = absurd (true≢false (sym k))
+  by_test false false e k = grind (arith, nat_tests, e)
+
 -- a test is passed at a place in the list, and there it is passed by the record
 pub passes-within : (test : Stream → Bool) (rs : List Stream) (p : ℕ) → passes_at test rs p ≡ true → p < length rs
 passes-within test [] p h = absurd (true≢false (sym h))

@@ -41,7 +41,7 @@ rise-filter t low (x ∷ xs) h = by (t x) (rise-filter t x.id xs h.1)
     by true r = (h.0, r)
     by false r = rise-from low x.id (filter t xs) (let l = h.0 in omega (arith, l)) r
 
-rise-put : (low : ℕ) (st : Stream) (rs : List Stream) → Rise low rs → is_some (record_of rs st.id) ≡ true → Rise low (put st rs)
+pub rise-put : (low : ℕ) (st : Stream) (rs : List Stream) → Rise low rs → is_some (record_of rs st.id) ≡ true → Rise low (put st rs)
 rise-put low st [] h known = absurd (true≢false (sym known))
 rise-put low st (x ∷ xs) h known = at (eqb x.id st.id) refl (rise-put x.id st xs h.1) known
   where
@@ -65,7 +65,7 @@ found-put st id (x ∷ xs) known = at (eqb x.id st.id) refl (eqb x.id id) refl (
     at false e true g more k = rw g refl
     at false e false g more k = rw g (more k)
 
-known-put : (st : Stream) (rs cs : List Stream) → AreKnown rs cs → AreKnown (put st rs) cs
+pub known-put : (st : Stream) (rs cs : List Stream) → AreKnown rs cs → AreKnown (put st rs) cs
 known-put st rs [] h = tt
 known-put st rs (c ∷ cs) h = (found-put st c.id rs h.0, known-put st rs cs h.1)
 

@@ -1,3 +1,4 @@
+pub mod Brief
 pub mod Greatest
 pub mod Hash
 pub mod Joined

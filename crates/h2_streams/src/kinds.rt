@@ -1,9 +1,10 @@
 //! What the kind of a stream says (RFC 9113, 5.1). Definitions: its `specs/Stream.antt`, and `is_ready` of
 //! `specs/Kept.antt`.
 
-ghost use Rattle.std.specs.Prelude.{◌≡◌, IsTrue};
+ghost use Rattle.std.specs.Prelude.{◌≡◌, ◌↔◌, IsTrue, true};
 ghost use Rattle.h2_spec.specs.Stream as spec;
 ghost use Rattle.h2_spec.specs.Requests.StreamEnds as ends;
+ghost use Rattle.h2_streams.specs.Brief.{AreBrief, IsBrief, brief};
 ghost use Rattle.h2_streams.specs.Kept as kept;
 ghost use Rattle.h2_streams.specs.Raised.{can_rise, raised};
 
@@ -56,6 +57,44 @@ pub fn not_live(id: u32, kind: StreamState) -> Stream
         },
         pick: Pick::NotFound,
     }
+}
+
+/// Whether nothing is counted.
+fn counts_nothing(numbers: &Numbers) -> bool
+    ensures { (result ≡ true) ↔ (numbers.now ≡ spec.no_numbers) }
+{
+    numbers.recv.value() == 0
+        && numbers.owed.owed() == 0
+        && numbers.send.value() == 0
+        && numbers.content_received == 0
+        && numbers.declared.is_none()
+        && numbers.body_remaining.is_none()
+}
+
+/// Whether the record says no more than the stream's identifier and state.
+pub(crate) fn is_bare(stream: &Stream) -> bool
+    ensures { (result ≡ true) ↔ (stream.now ≡ brief stream.now) }
+{
+    counts_nothing(&stream.numbers) && stream.pick == Pick::NotFound
+}
+
+/// Whether the record is of a live stream, or says no more than the stream's identifier and state.
+fn is_brief(stream: &Stream) -> bool
+    ensures { (result ≡ true) ↔ IsBrief stream.now }
+{
+    is_live(stream.kind) || is_bare(stream)
+}
+
+/// Whether each of these records is so.
+pub(crate) fn are_brief(streams: &[Stream]) -> bool
+    ensures { result ≡ true → AreBrief streams.now }
+{
+    for stream in streams {
+        if !is_brief(stream) {
+            return false;
+        }
+    }
+    true
 }
 
 /// The stream after the peer's last frame.

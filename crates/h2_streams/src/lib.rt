@@ -3,6 +3,7 @@
 //! `h2_spec/specs/Stream.antt`.
 #![tactic(auto)]
 
+mod brief;
 mod kinds;
 mod lookup;
 mod own;

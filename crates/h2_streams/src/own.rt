@@ -1,4 +1,4 @@
-//! Records in a list of their own: what opens, changes and ends a stream, where no record is shared with other lists.
+//! Records in a list of their own: what opens, changes and ends a stream, where no record is in brief.
 //! Definitions: `h2_spec/specs/Stream.antt`; what the fields keep: `specs/Kept.antt`.
 
 ghost use Rattle.std.specs.Prelude.{◌≡◌, false, not, ◌+◌, ◌<◌, ◌≤◌, ◌%◌, ◌&&◌, length, OnOk, OnErr, IfOk, IfSome, IsTrue, slice_get};
@@ -8,7 +8,6 @@ ghost use Rattle.std.specs.Vec.{vec_capacity};
 ghost use Rattle.h2_spec.specs.Stream as spec;
 ghost use Rattle.h2_spec.specs.Change as changes;
 ghost use Rattle.h2_streams.specs.Greatest.{IsGreatest};
-ghost use Rattle.h2_streams.specs.Joined.{IsJoined, joined};
 ghost use Rattle.h2_streams.specs.Kept as kept;
 ghost use Rattle.h2_streams.specs.Put.{can_become};
 ghost use Rattle.h2_streams.specs.Raised.{can_rise, raised};
@@ -18,7 +17,7 @@ use crate::kinds::is_ready;
 use crate::lookup::hash::IdHash;
 use crate::lookup::ids::{append, ids_above, list};
 use crate::lookup::live::{enter, enter_each, note_ended, place_in, record_in};
-use crate::lookup::places::{join, raise_at, write};
+use crate::lookup::places::{raise_at, write};
 use crate::lookup::walks::{first_waiting, list_ready};
 use crate::sharing::rebuilt::live_records;
 use crate::windows::greatest::greatest_of;
@@ -29,14 +28,16 @@ use indexmap::IndexMap;
 use std::alloc::{AllocError, Allocator};
 use std::marker::Model;
 
+/// How many records may be here beyond twice those in the map of the live streams.
+const SPARE_RECORDS: usize = 128;
+
 // A map and a rising list beside the records: places of live streams, identifiers of those that can send.
 // Without the second each of 1,000 waiting streams would be looked at for each item.
 /// Records in a list of their own.
 ///
-/// The record of a live stream is found by one look-up in a map. That of another stream is found by binary search over
-/// the identifiers: by at most 31 comparisons, since there are at most 2^30 odd identifiers of 31 bits (RFC 9113,
-/// 5.1.1), and by at most 20 among a million. The peer chooses identifiers, and could crowd a map of all records, but
-/// this one has at most two entries for each live stream, and 32.
+/// The record of a live stream is found by one look-up in a map, that of another stream by binary search over the
+/// identifiers. The peer chooses identifiers, and could crowd a map of all records, but this one has at most two entries
+/// for each live stream, and 32.
 pub(crate) struct OwnRecords<A: Allocator> {
     /// In the order of opening, so that identifiers rise.
     records: Vec<Stream, A>,
@@ -152,36 +153,20 @@ impl<A: Allocator + Copy> OwnRecords<A> {
 }
 
 impl<A: Allocator> OwnRecords<A> {
-    /// Puts these records in front, but for those of which this list has one among its first `front`: these are as they
-    /// are in it. They have space for all. Takes no memory.
-    pub(crate) fn take_in(&mut self, base: Vec<Stream, A>, front: usize)
-        requires joined { IsJoined base.items front self.old.streams self.old.last }
-        requires enough { length base.items + length self.old.streams ≤ vec_capacity base + front }
-        ensures { self.new ≡ record self.old { streams = joined base.items front self.old.streams } }
+    /// Leaves the live records alone. Takes no memory.
+    pub(crate) fn leave_live(&mut self)
+        ensures { self.new ≡ record self.old { streams = filter kept.lives self.old.streams } }
     {
-        let mut records = base;
-        let own = self.records.as_slice();
-        join(&mut records, front, own);
+        self.records.retain(
+            |stream: &Stream| -> bool
+                ensures { result ≡ kept.lives stream.now }
+            { is_live(stream.kind) },
+        );
         self.live.clear();
-        enter_each(records.as_slice(), own, &mut self.live);
-        self.records = records;
+        let records = self.records.as_slice();
+        enter_each(records, records, &mut self.live);
         self.ended = 0;
         self.recent = 0;
-    }
-
-    /// The list of the records.
-    pub(crate) fn into_records(self) -> Vec<Stream, A>
-        ensures { result.items ≡ self.streams }
-    {
-        let Self {
-            records,
-            live: _,
-            ended: _,
-            ready: _,
-            last: _,
-            recent: _,
-        } = self;
-        records
     }
 
     /// The records, in the order of opening.
@@ -218,18 +203,17 @@ impl<A: Allocator> OwnRecords<A> {
         self.recent = place_in(&self.live, self.records.as_slice(), self.recent, id);
     }
 
-    /// The i-th record in the order of opening, from 0.
-    pub(crate) fn at(&self, i: usize) -> Option<&Stream>
-        ensures { option_copied result ≡ slice_get self.now.streams i }
-    {
-        self.records.as_slice().get(i)
-    }
-
     /// The number of records.
     pub(crate) fn count(&self) -> usize
         ensures { result ≡ length self.now.streams }
     {
         self.records.as_slice().len()
+    }
+
+    /// Whether there are many more records than live streams.
+    #[inline(always)]
+    pub(crate) fn is_crowded(&self) -> bool {
+        self.records.len() / 2 > self.live.len().saturating_add(SPARE_RECORDS / 2)
     }
 
     /// The number of live streams.

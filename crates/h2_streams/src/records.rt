@@ -1,12 +1,11 @@
-//! The records: what opens, changes and ends a stream. They are a list of their own, or the first of them are shared with
-//! other lists, those at an earlier or a later time. The program does not call `open_stream`, `open_reset`, `set`,
-//! `end_remote`, `end_local` and `next_waiting`, which are for users of the library: its rules return the whole record
-//! after a frame, which `put` puts in place, and `next_ready` finds the next stream that can send.
-//! Definitions: `h2_spec/specs/Stream.antt`; what is shared: `specs/Joined.antt`.
+//! The records: what opens, changes and ends a stream. Those that can change are a list of their own, and most others
+//! are kept in brief (RFC 9113, 5.1). The program does not call `open_stream`, `open_reset`, `set`, `end_remote`,
+//! `end_local` and `next_waiting`, which are for users of the library: its rules return the whole record after a frame,
+//! which `put` puts in place, and `next_ready` finds the next stream that can send.
+//! Definitions: `h2_spec/specs/Stream.antt`; what is in brief: `specs/Joined.antt`.
 
 ghost use Rattle.std.specs.Prelude.{◌≡◌, false, not, take, ◌<◌, ◌≤◌, ◌%◌, ◌==◌, ◌||◌, nat_lt, length, IsOk, OnOk, OnErr, IfOk, IfErr, IfSome, IsTrue, is_err, slice_get};
 ghost use Rattle.std.specs.List.{AllByRecursion, filter, list_any};
-ghost use Rattle.std.specs.Option.{option_copied};
 ghost use Rattle.h2_spec.specs.Stream as spec;
 ghost use Rattle.h2_spec.specs.Requests.StreamEnds as ends;
 ghost use Rattle.h2_spec.specs.Change as changes;
@@ -17,9 +16,10 @@ ghost use Rattle.h2_streams.specs.Raised.{can_rise, raised};
 ghost use Rattle.h2_streams.specs.Rebuilt as earlier;
 ghost use Rattle.h2_streams.specs.Shift as shift;
 
-use crate::kinds::{not_live, peer_closed, raise, reset_kind, server_ended};
+use crate::brief::base::{Base, list_of, replace};
+use crate::kinds::{are_brief, not_live, peer_closed, reset_kind, server_ended};
+use crate::lookup::places::write_each;
 use crate::own::OwnRecords;
-use crate::sharing::base::{Base, replace, share_again, share_first};
 use crate::sharing::rebuilt::insert_closed;
 use crate::windows::greatest::overflows_with;
 use h2_spec::errors::FlowFault;
@@ -30,14 +30,15 @@ use std::marker::Model;
 
 /// The records of a connection's streams.
 ///
-/// The record of a live stream is found by one look-up in a map. That of another stream is found by binary search over
-/// the identifiers: by at most 31 comparisons, since there are at most 2^30 odd identifiers of 31 bits (RFC 9113,
-/// 5.1.1), and by at most 20 among a million. The peer chooses identifiers, and could crowd a map of all records, but
-/// this one has at most two entries for each live stream, and 32.
+/// The record of a live stream is found by one look-up in a map. Of a stream that is not live only the identifier and the
+/// state are kept once many are: an octet, where identifiers follow one another, and else 17. They are found by binary
+/// search.
 pub struct Streams<A: Allocator> {
     own: OwnRecords<A>,
-    /// The first of the records, where they are shared.
-    base: Option<Base<A>>,
+    /// The first of the records, in brief.
+    base: Base<A>,
+    /// Whether all records are kept whole: something was counted on a stream that had ended. No rule does that.
+    is_whole: bool,
 }
 
 impl<A: Allocator> Model for Streams<A> {
@@ -54,7 +55,11 @@ impl<A: Allocator> Model for Streams<A> {
 /// By hand, so that a function that drops it makes one call, where a derived `Drop` would drop each part there.
 impl<A: Allocator> Drop for Streams<A> {
     fn drop(self) {
-        let Self { own: _, base: _ } = self;
+        let Self {
+            own: _,
+            base: _,
+            is_whole: _,
+        } = self;
     }
 }
 
@@ -65,17 +70,22 @@ impl<A: Allocator + Copy> Streams<A> {
     {
         Streams {
             own: OwnRecords::new(alloc),
-            base: None,
+            base: Base::new(alloc),
+            is_whole: false,
         }
     }
 
-    /// A copy of the records; those that are shared are shared by it too.
+    /// A copy of the records.
     pub fn try_clone(&self) -> Result<Self, AllocError>
         ensures { IfOk result (λ copy. copy ≡ self.now) }
     {
-        let base = share_again(&self.base, &self.own)?;
+        let base = self.base.try_clone()?;
         let own = self.own.try_clone()?;
-        Ok(Streams { own, base })
+        Ok(Streams {
+            own,
+            base,
+            is_whole: self.is_whole,
+        })
     }
 }
 
@@ -93,12 +103,12 @@ impl<A: Allocator + Copy> Streams<A> {
         let Some(stream) = self.get(id) else {
             return Ok(list);
         };
-        insert_closed(&mut list, stream)?;
+        insert_closed(&mut list, &stream)?;
         Ok(list)
     }
 
     /// That many first records where those that have changed since are as in `changed`: the records at an earlier time,
-    /// when `last` was the last stream that was opened. No record is copied: both share those that cannot change any more.
+    /// when `last` was the last stream that was opened. Records in brief are not copied: both share them.
     ///
     /// `AllocError` where memory is refused. The records are as they were.
     pub fn rebuilt(
@@ -115,12 +125,40 @@ impl<A: Allocator + Copy> Streams<A> {
         ensures rebuilt { IfOk result (λ streams. streams ≡ record { streams = earlier.rebuilt count changed.items self.old.streams; last = last }) }
         ensures same { self.new ≡ self.old }
     {
-        let front = changed.as_slice().len();
+        if !are_brief(self.own.as_slice()) {
+            return self.rebuilt_whole(count, last, changed);
+        }
+        self.base.settle(&mut self.own)?;
+        self.base.share()?;
+        let base = self.base.first(count, changed.as_slice().len())?;
         let own = OwnRecords::of(changed, last)?;
-        let base = share_first(&mut self.own, &mut self.base, count, front)?;
         Ok(Streams {
             own,
-            base: Some(base),
+            base,
+            is_whole: false,
+        })
+    }
+
+    /// As `rebuilt`, where something is counted on a stream that has ended: a list of whole records.
+    #[inline(never)]
+    fn rebuilt_whole(
+        &self,
+        count: usize,
+        last: u32,
+        changed: Vec<Stream, A>,
+    ) -> Result<Self, AllocError>
+        requires rising { spec.AreRising 0 last (take count self.now.streams) }
+        requires changed { kept.Rise 0 changed.items }
+        requires known { earlier.AreKnown (take count self.now.streams) changed.items }
+        ensures { IfOk result (λ streams. streams ≡ record { streams = earlier.rebuilt count changed.items self.now.streams; last = last }) }
+    {
+        let mut list = list_of(&self.base, &self.own, count)?;
+        write_each(&mut list, changed.as_slice());
+        let own = OwnRecords::of(list, last)?;
+        Ok(Streams {
+            base: Base::new(own.allocator()),
+            own,
+            is_whole: true,
         })
     }
 }
@@ -137,13 +175,10 @@ impl<A: Allocator> Streams<A> {
 
     /// The record of the stream, if it has one: by one look-up where it is live, and else by binary search.
     #[inline(always)]
-    pub fn get(&self, id: u32) -> Option<&Stream>
-        ensures { option_copied result ≡ spec.record_of self.now.streams id }
+    pub fn get(&self, id: u32) -> Option<Stream>
+        ensures { result ≡ spec.record_of self.now.streams id }
     {
-        match &self.base {
-            None => self.own.get(id),
-            Some(base) => base.find(&self.own, id),
-        }
+        self.base.find(&self.own, id)
     }
 
     /// Looks the stream's record up, so that the calls that come next find it at once. Nothing changes.
@@ -154,23 +189,17 @@ impl<A: Allocator> Streams<A> {
     }
 
     /// The i-th record in the order of opening, from 0.
-    pub fn at(&self, i: usize) -> Option<&Stream>
-        ensures { option_copied result ≡ slice_get self.now.streams i }
+    pub fn at(&self, i: usize) -> Option<Stream>
+        ensures { result ≡ slice_get self.now.streams i }
     {
-        match &self.base {
-            None => self.own.at(i),
-            Some(base) => base.at(&self.own, i),
-        }
+        self.base.at(&self.own, i)
     }
 
     /// The number of records.
     pub fn count(&self) -> usize
         ensures { result ≡ length self.now.streams }
     {
-        match &self.base {
-            None => self.own.count(),
-            Some(base) => base.records().len() + (self.own.as_slice().len() - base.front()),
-        }
+        self.base.count(&self.own)
     }
 
     /// The number of live streams.
@@ -192,7 +221,7 @@ impl<A: Allocator> Streams<A> {
         }
         match self.get(id) {
             None => not_live(id, StreamState::Skipped),
-            Some(stream) => *stream,
+            Some(stream) => stream,
         }
     }
 
@@ -201,44 +230,6 @@ impl<A: Allocator> Streams<A> {
         ensures { result ≡ spec.kind_of self.now.last self.now.streams id }
     {
         self.stream_at(id).kind
-    }
-
-    /// Opens the stream at the end of its request's block, which may end the peer's side.
-    /// `Err` leaves the records as they were.
-    pub fn open_stream(
-        &mut self,
-        id: u32,
-        numbers: Numbers,
-        pick: Pick,
-        ends: bool,
-    ) -> Result<(), AllocError>
-        requires odd { id % 2 ≡ 1 }
-        requires above { self.old.last < id }
-        ensures ok { OnOk result (self.new ≡ spec.added (spec.requested id numbers pick ends) self.old) }
-        ensures err { OnErr result (self.new ≡ self.old) }
-    {
-        let kind = if ends {
-            StreamState::HalfRemote
-        } else {
-            StreamState::BothOpen
-        };
-        self.add(Stream {
-            id,
-            kind,
-            numbers,
-            pick,
-        })
-    }
-
-    /// Records the stream as reset by the server, as one that it refuses.
-    /// `Err` leaves the records as they were.
-    pub fn open_reset(&mut self, id: u32) -> Result<(), AllocError>
-        requires odd { id % 2 ≡ 1 }
-        requires above { self.old.last < id }
-        ensures ok { OnOk result (self.new ≡ spec.added (spec.not_live id StreamState.WeReset) self.old) }
-        ensures err { OnErr result (self.new ≡ self.old) }
-    {
-        self.add(not_live(id, StreamState::WeReset))
     }
 
     /// Gives a live stream these numbers.
@@ -257,13 +248,7 @@ impl<A: Allocator> Streams<A> {
         requires fits { IsTrue (can_rise increment (spec.stream_at self.old.last self.old.streams id)) }
         ensures { self.new ≡ spec.changed id (raised increment) self.old }
     {
-        if self.base.is_some() {
-            let mut risen = self.stream_at(id);
-            raise(&mut risen, increment);
-            self.replace(risen);
-        } else {
-            self.own.raise(id, increment);
-        }
+        self.own.raise(id, increment);
     }
 
     /// The peer's side ends: a stream that was open on both sides is half-closed then, a half-closed one has ended.
@@ -290,23 +275,6 @@ impl<A: Allocator> Streams<A> {
         ensures { self.new ≡ spec.changed id (spec.reset_as by_peer) self.old }
     {
         self.replace(not_live(id, reset_kind(by_peer)));
-    }
-
-    /// Puts a record: in the place of the one of the same stream, or after all, of a stream above them. A live stream
-    /// may move to any state, one that is closed stays closed (RFC 9113, 5.1). Only a new record takes memory; `Err`
-    /// leaves the records as they were.
-    #[inline(always)]
-    pub fn put(&mut self, stream: Stream) -> Result<(), AllocError>
-        requires { CanPut stream self.old }
-        ensures ok { OnOk result (self.new ≡ spec.with_record stream self.old) }
-        ensures err { OnErr result (self.new ≡ self.old) }
-        ensures known { stream.id ≤ self.old.last → IsOk result }
-    {
-        if self.last() < stream.id {
-            return self.add(stream);
-        }
-        self.replace(stream);
-        Ok(())
     }
 
     /// The first live stream above this one that has octets to send, if there is one. All live ones may be looked at.
@@ -377,6 +345,71 @@ impl<A: Allocator> Streams<A> {
         self.own.shift_recv(delta);
     }
 
+    /// Puts a record in the place of that of a live stream. Takes no memory.
+    #[inline(always)]
+    pub fn replace(&mut self, stream: Stream)
+        requires { IsTrue (spec.is_live (spec.kind_of self.old.last self.old.streams stream.id)) }
+        ensures { self.new ≡ record self.old { streams = spec.put stream self.old.streams } }
+    {
+        self.own.replace(stream);
+    }
+}
+
+impl<A: Allocator + Copy> Streams<A> {
+    /// Opens the stream at the end of its request's block, which may end the peer's side.
+    /// `Err` leaves the records as they were.
+    pub fn open_stream(
+        &mut self,
+        id: u32,
+        numbers: Numbers,
+        pick: Pick,
+        ends: bool,
+    ) -> Result<(), AllocError>
+        requires odd { id % 2 ≡ 1 }
+        requires above { self.old.last < id }
+        ensures ok { OnOk result (self.new ≡ spec.added (spec.requested id numbers pick ends) self.old) }
+        ensures err { OnErr result (self.new ≡ self.old) }
+    {
+        let kind = if ends {
+            StreamState::HalfRemote
+        } else {
+            StreamState::BothOpen
+        };
+        self.add(Stream {
+            id,
+            kind,
+            numbers,
+            pick,
+        })
+    }
+
+    /// Records the stream as reset by the server, as one that it refuses.
+    /// `Err` leaves the records as they were.
+    pub fn open_reset(&mut self, id: u32) -> Result<(), AllocError>
+        requires odd { id % 2 ≡ 1 }
+        requires above { self.old.last < id }
+        ensures ok { OnOk result (self.new ≡ spec.added (spec.not_live id StreamState.WeReset) self.old) }
+        ensures err { OnErr result (self.new ≡ self.old) }
+    {
+        self.add(not_live(id, StreamState::WeReset))
+    }
+
+    /// Puts a record: in the place of the one of the same stream, or after all, of a stream above them. A live stream
+    /// may move to any state, one that is closed stays closed (RFC 9113, 5.1). A live stream's takes no memory; `Err` leaves
+    /// the records as they were.
+    #[inline(always)]
+    pub fn put(&mut self, stream: Stream) -> Result<(), AllocError>
+        requires { CanPut stream self.old }
+        ensures ok { OnOk result (self.new ≡ spec.with_record stream self.old) }
+        ensures err { OnErr result (self.new ≡ self.old) }
+        ensures known { IsTrue (spec.is_live (spec.kind_of self.old.last self.old.streams stream.id)) → IsOk result }
+    {
+        if self.last() < stream.id {
+            return self.add(stream);
+        }
+        replace(&mut self.own, &mut self.base, stream)
+    }
+
     /// Records a stream above all others.
     fn add(&mut self, stream: Stream) -> Result<(), AllocError>
         requires odd { stream.id % 2 ≡ 1 }
@@ -384,23 +417,31 @@ impl<A: Allocator> Streams<A> {
         ensures ok { OnOk result (self.new ≡ spec.added stream self.old) }
         ensures err { OnErr result (self.new ≡ self.old) }
     {
-        match &mut self.base {
-            None => self.own.add(stream),
-            Some(base) => base.add(&mut self.own, stream),
-        }
+        self.settle()?;
+        self.own.add(stream)
     }
 
-    /// Puts a record in the place of the one of the same stream.
+    /// Keeps the records of streams that have ended in brief, once there are many. Nothing else changes.
     #[inline(always)]
-    fn replace(&mut self, stream: Stream)
-        requires { IsTrue (can_become (spec.kind_of self.old.last self.old.streams stream.id) stream.kind) }
-        ensures { self.new ≡ record self.old { streams = spec.put stream self.old.streams } }
+    fn settle(&mut self) -> Result<(), AllocError>
+        ensures { self.new ≡ self.old }
     {
-        if self.base.is_some() {
-            replace(&mut self.own, &mut self.base, stream);
-        } else {
-            self.own.replace(stream);
+        if self.is_whole || !self.own.is_crowded() {
+            return Ok(());
         }
+        self.settle_all()
+    }
+
+    /// Keeps the records of streams that have ended in brief, unless something is counted on one. Nothing else changes.
+    #[inline(never)]
+    fn settle_all(&mut self) -> Result<(), AllocError>
+        ensures { self.new ≡ self.old }
+    {
+        if are_brief(self.own.as_slice()) {
+            return self.base.settle(&mut self.own);
+        }
+        self.is_whole = true;
+        Ok(())
     }
 }
 

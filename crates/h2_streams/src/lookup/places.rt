@@ -1,11 +1,10 @@
 //! Records by their identifiers, which rise: a binary search. Definitions: `specs/Kept.antt`,
 //! `specs/Rebuilt.antt`.
 
-ghost use Rattle.std.specs.Prelude.{◌≡◌, ◌+◌, ◌<◌, ◌≤◌, ◌++◌, false, length, map, take, IsTrue, slice_get};
+ghost use Rattle.std.specs.Prelude.{◌≡◌, ◌≤◌, false, length, map, IsTrue, slice_get};
 ghost use Rattle.std.specs.Option.{option_copied, option_map_or, is_some};
 ghost use Rattle.std.specs.Vec.{vec_capacity};
 ghost use Rattle.h2_spec.specs.Stream as spec;
-ghost use Rattle.h2_streams.specs.Joined.{joined};
 ghost use Rattle.h2_streams.specs.Kept as kept;
 ghost use Rattle.h2_streams.specs.Raised.{can_rise, raised};
 ghost use Rattle.h2_streams.specs.Rebuilt as rebuilt;
@@ -99,27 +98,4 @@ pub(crate) fn write_each<A: Allocator>(records: &mut Vec<Stream, A>, changed: &[
         let place = place_of(records.as_slice(), stream.id);
         write(records, place, *stream);
     }
-}
-
-/// Puts records after the others. There is space for them.
-pub(crate) fn append_each<A: Allocator>(records: &mut Vec<Stream, A>, more: &[Stream])
-    requires { length records.old.items + length more.now ≤ vec_capacity records.old }
-    ensures items { records.new.items ≡ records.old.items ++ more.now }
-    ensures capacity { vec_capacity records.old ≤ vec_capacity records.new }
-{
-    let _ = records.extend_from_slice(more);
-}
-
-/// Writes the first `front` of one's own records in the places of those with their identifiers, and puts the others after
-/// all. There is space for them.
-pub(crate) fn join<A: Allocator>(records: &mut Vec<Stream, A>, front: usize, own: &[Stream])
-    requires rising { kept.Rise 0 records.old.items }
-    requires order { kept.Rise 0 own.now }
-    requires within { front ≤ length own.now }
-    requires known { rebuilt.AreKnown records.old.items (take front own.now) }
-    requires enough { length records.old.items + length own.now ≤ vec_capacity records.old + front }
-    ensures { records.new.items ≡ joined records.old.items front own.now }
-{
-    write_each(records, &own[..front]);
-    append_each(records, &own[front..]);
 }

@@ -6,13 +6,13 @@ use Rattle.h2_conn_view.proofs.view.streams_of.Goals as goal
 
 pub loop-stream-smaller : goal.loop-stream-smaller
 loop-stream-smaller g c =
-    let at : slice_get c.args.streams.now.streams (length c.loop-stream.views.items) ≡ Some c.in-Some.stream.now = search rules in
-    fewer-left c.args.streams.now.streams c.loop-stream.views.items c.push.new.self.items c.shown_stream.result c.in-Some.stream.now c.in_ok-push.ensures.items at
+    let at : slice_get c.args.streams.now.streams (length c.loop-stream.views.items) ≡ Some c.in-Some.stream = search rules in
+    fewer-left c.args.streams.now.streams c.loop-stream.views.items c.push.new.self.items c.shown_stream.result c.in-Some.stream c.in_ok-push.ensures.items at
 
 pub loop-stream-preserved : goal.loop-stream-preserved
 loop-stream-preserved g c =
-    let at : slice_get c.args.streams.now.streams (length c.loop-stream.views.items) ≡ Some c.in-Some.stream.now = search rules in
-    copied-next shown_stream c.args.streams.now.streams c.loop-stream.views.items c.push.new.self.items c.in-Some.stream.now c.shown_stream.result c.in_ok-push.ensures.items c.shown_stream.ensures at c.loop-stream.invariant
+    let at : slice_get c.args.streams.now.streams (length c.loop-stream.views.items) ≡ Some c.in-Some.stream = search rules in
+    copied-next shown_stream c.args.streams.now.streams c.loop-stream.views.items c.push.new.self.items c.in-Some.stream c.shown_stream.result c.in_ok-push.ensures.items c.shown_stream.ensures at c.loop-stream.invariant
 
 pub returns : goal.returns
 returns g c =

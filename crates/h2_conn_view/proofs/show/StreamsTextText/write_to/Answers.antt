@@ -10,25 +10,25 @@ use Rattle.h2_conn_view.proofs.show.StreamsTextText.write_to.Goals as goal
 
 pub overflow_add-place : goal.overflow_add-place
 overflow_add-place g c =
-    let at : slice_get c.args.self.now.0.now.streams c.loop-stream.place ≡ Some c.in-Some.stream.now = search rules in
-    omega (arith, place-below 0 c.last-last.result c.loop-stream.place c.args.self.now.0.now.streams c.in-Some.stream.now (rw c.last-last.ensures.value c.last-last.ensures.rising) at)
+    let at : slice_get c.args.self.now.0.now.streams c.loop-stream.place ≡ Some c.in-Some.stream = search rules in
+    omega (arith, place-below 0 c.last-last.result c.loop-stream.place c.args.self.now.0.now.streams c.in-Some.stream (rw c.last-last.ensures.value c.last-last.ensures.rising) at)
 
 pub loop-stream-smaller : goal.loop-stream-smaller
 loop-stream-smaller g c =
-    let at : slice_get c.args.self.now.0.now.streams c.loop-stream.place ≡ Some c.in-Some.stream.now = search rules in
-    omega (arith, slice_get_within c.args.self.now.0.now.streams c.loop-stream.place c.in-Some.stream.now at)
+    let at : slice_get c.args.self.now.0.now.streams c.loop-stream.place ≡ Some c.in-Some.stream = search rules in
+    omega (arith, slice_get_within c.args.self.now.0.now.streams c.loop-stream.place c.in-Some.stream at)
 
 pub loop-stream-preserved : goal.loop-stream-preserved
 loop-stream-preserved g c =
-    let at : slice_get c.args.self.now.0.now.streams c.loop-stream.place ≡ Some c.in-Some.stream.now = search rules in
+    let at : slice_get c.args.self.now.0.now.streams c.loop-stream.place ≡ Some c.in-Some.stream = search rules in
     let so_far = c.loop-stream.invariant.written in
     record {
       well = search rules;
       name = c.write_to.ensures.name ∙ c.loop-stream.invariant.name;
       written = (
-        so_far.0 ++ stream_line (shown_stream c.in-Some.stream.now),
+        so_far.0 ++ stream_line (shown_stream c.in-Some.stream),
         both _ _ _ _ _ so_far.1 (search rules),
-        text-next so_far.0 _ _ _ _ (streams-next c.loop-stream.place c.args.self.now.0.now.streams c.in-Some.stream.now at) so_far.2,
+        text-next so_far.0 _ _ _ _ (streams-next c.loop-stream.place c.args.self.now.0.now.streams c.in-Some.stream at) so_far.2,
       );
     }
 

@@ -1,4 +1,4 @@
-use Rattle.std.proofs.Common.{◌≡◌, ◌∙◌, ap, subst, sym, Option, None, Some}
+use Rattle.std.proofs.Common.{◌≡◌, ◌∙◌, ap, subst, sym, None, Some}
 use Rattle.std.specs.List.{filter}
 use Rattle.h2_spec.specs.Stream.{AreRising, Records, record_of}
 use Rattle.h2_streams.specs.Joined.{Base, GoWith, with_base}
@@ -9,10 +9,10 @@ use Rattle.h2_streams.proofs.SharedLaws.{filter-all, rising-all}
 use Rattle.h2_streams.proofs.records.Streams.live_or.Goals as goal
 
 -- the live ones are one's own
-live-seen : (b : Option Base) (own : Records) {v : Records} → GoWith b own → with_base b own ≡ v → filter lives own.streams ≡ filter lives v.streams
+live-seen : (b : Base) (own : Records) {v : Records} → GoWith b own → with_base b own ≡ v → filter lives own.streams ≡ filter lives v.streams
 live-seen b own go is = sym (filter-all lives (λ st e. e) b own go) ∙ ap (λ (r : Records). filter lives r.streams) is
 
-rising-seen : (b : Option Base) (own : Records) {v : Records} → GoWith b own → with_base b own ≡ v → Rise 0 v.streams
+rising-seen : (b : Base) (own : Records) {v : Records} → GoWith b own → with_base b own ≡ v → Rise 0 v.streams
 rising-seen b own {v} go is = rise 0 v.last v.streams (subst (λ (r : Records). AreRising 0 r.last r.streams) is (rising-all b own go))
 
 pub returns-in_default : goal.returns-in_default
@@ -40,7 +40,7 @@ pub returns : goal.returns
 returns g c =
     let s = c.self.inside in
     let r = c.args.self.now in
-    let st = c.in-Some-get.stream.now in
+    let st = c.in-Some-get.stream in
     let live = c.in_ok-list.ensures ∙ live-seen s.base s.own c.self.invariant c.self.view_is in
     let rising = rising-seen s.base s.own c.self.invariant c.self.view_is in
     let found : record_of r.streams c.in-Some.id ≡ Some st = sym c.in-Some-get.ensures in

@@ -1,36 +1,43 @@
-use Rattle.std.proofs.Common.{◌≡◌, ◌∙◌, Some, ap, arith, length, length-take-le, take}
-use Rattle.std.proofs.lemmas.Result.{IfOk-from_err}
+use Rattle.std.proofs.Common.{◌≡◌, ◌∙◌, List, ap, length, map, subst, sym, take}
+use Rattle.std.proofs.lemmas.List.{take-map}
+use Rattle.h2_spec.specs.declared.streams.Stream.{Stream}
 use Rattle.h2_spec.specs.Stream.{Records}
-use Rattle.h2_streams.specs.Joined.{GoWith, shared, with_base}
-use Rattle.h2_streams.specs.Rebuilt as earlier
+use Rattle.h2_streams.specs.Brief.{AreBrief, brief}
+use Rattle.h2_streams.specs.Joined.{Base, GoWith, with_base}
+use Rattle.h2_streams.proofs.BaseLaws.{first-brief, go-rebuilt}
 use Rattle.h2_streams.proofs.JoinedPut.{rising-front}
-use Rattle.h2_streams.proofs.SharedLaws.{shared-rebuilt}
-use Rattle.h2_streams.proofs.records.Streams.rebuilt.Given.{Over}
 use Rattle.h2_streams.proofs.records.Streams.rebuilt.Goals as goal
 
 pub of-requires : goal.of-requires
 of-requires g c = rising-front 0 0 c.args.last (take c.args.count c.args.self.now.streams) c.args.changed.items c.requires.rising c.requires.changed c.requires.known
 
-rebuilt : (g : Over) (c : goal.In_ok-base g)
-    → (with_base (Some c.in_ok-base.base) c.in_ok-own.own ≡ record { streams = earlier.rebuilt c.args.count c.args.changed.items c.args.self.now.streams; last = c.args.last }) × GoWith (Some c.in_ok-base.base) c.in_ok-own.own
-rebuilt g c =
-    let base = take c.args.count c.args.self.now.streams in
-    let changed = c.args.changed.items in
-    let b = c.in_ok-base.base in
-    let is = c.in_ok-base.ensures in
-    let shared-is : shared b ≡ base = is.records ∙ ap (λ (v : Records). take c.args.count v.streams) c.self.view_is in
-    let front : b.front ≡ length changed = is.front ∙ ap length c.as_slice-front.ensures.value in
-    let many = length-take-le c.args.count c.args.self.now.streams c.requires.within in
-    shared-rebuilt base changed c.args.last c.requires.rising c.requires.changed c.requires.known c.requires.closed b c.in_ok-own.own c.in_ok-own.ensures shared-is front (omega (arith, many, is.space, front, is.front))
-
 pub invariant_of-result : goal.invariant_of-result
-invariant_of-result g c = (rebuilt g c).1
+invariant_of-result g c =
+    let s = c.self.inside in
+    let count = c.args.count in
+    let changed = c.args.changed.items in
+    let first = take count c.args.self.now.streams in
+    let B : Base = record { records = map brief first; front = length changed } in
+    let of : List Stream → List Stream → Base = λ rs cs. record { records = rs; front = length cs } in
+    let settled = ap (λ (b : Base). b.records) c.share.ensures ∙ c.in_ok-settle.ensures.settled ∙ ap (λ (v : Records). map brief v.streams) c.self.view_is in
+    let base : c.in_ok-base.base ≡ B = c.in_ok-base.ensures ∙ ap (λ (rs : List Stream). of (take count rs) c.as_slice-2.result.now) settled ∙ ap (λ (rs : List Stream). of rs c.as_slice-2.result.now) (take-map brief count c.args.self.now.streams) ∙ ap (of (map brief first)) c.as_slice-2.ensures.value in
+    let bare = subst (λ (v : Records). AreBrief (take count v.streams)) c.self.view_is (first-brief count s.base s.own c.self.invariant (subst AreBrief c.as_slice.ensures (c.are_brief.ensures c.if-not-are_brief.false))) in
+    let done = go-rebuilt first changed c.args.last c.requires.rising c.requires.changed c.requires.known c.requires.closed bare in
+    subst (λ (b : Base). GoWith b c.in_ok-own.own) (sym base) (subst (λ (o : Records). GoWith B o) (sym c.in_ok-own.ensures) done.1)
 
 pub returns-clause-rebuilt : goal.returns-clause-rebuilt
-returns-clause-rebuilt g c = (rebuilt g c).0
+returns-clause-rebuilt g c =
+    let s = c.self.inside in
+    let count = c.args.count in
+    let changed = c.args.changed.items in
+    let first = take count c.args.self.now.streams in
+    let B : Base = record { records = map brief first; front = length changed } in
+    let of : List Stream → List Stream → Base = λ rs cs. record { records = rs; front = length cs } in
+    let settled = ap (λ (b : Base). b.records) c.share.ensures ∙ c.in_ok-settle.ensures.settled ∙ ap (λ (v : Records). map brief v.streams) c.self.view_is in
+    let base : c.in_ok-base.base ≡ B = c.in_ok-base.ensures ∙ ap (λ (rs : List Stream). of (take count rs) c.as_slice-2.result.now) settled ∙ ap (λ (rs : List Stream). of rs c.as_slice-2.result.now) (take-map brief count c.args.self.now.streams) ∙ ap (of (map brief first)) c.as_slice-2.ensures.value in
+    let bare = subst (λ (v : Records). AreBrief (take count v.streams)) c.self.view_is (first-brief count s.base s.own c.self.invariant (subst AreBrief c.as_slice.ensures (c.are_brief.ensures c.if-not-are_brief.false))) in
+    let done = go-rebuilt first changed c.args.last c.requires.rising c.requires.changed c.requires.known c.requires.closed bare in
+    ap (λ (b : Base). with_base b c.in_ok-own.own) base ∙ ap (with_base B) c.in_ok-own.ensures ∙ done.0
 
-pub returns-in_err-own-clause-rebuilt : goal.returns-in_err-own-clause-rebuilt
-returns-in_err-own-clause-rebuilt g c = IfOk-from_err c.from_residual.result _ c.from_residual.ensures.0
-
-pub returns-in_err-base-clause-rebuilt : goal.returns-in_err-base-clause-rebuilt
-returns-in_err-base-clause-rebuilt g c = IfOk-from_err c.from_residual-in_err-base.result _ c.from_residual-in_err-base.ensures.0
+pub settle-requires-clause-brief : goal.settle-requires-clause-brief
+settle-requires-clause-brief g c = subst AreBrief c.as_slice.ensures (c.are_brief.ensures c.if-not-are_brief.false)
