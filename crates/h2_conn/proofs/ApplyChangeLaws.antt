@@ -24,7 +24,7 @@ use Rattle.h2_spec.specs.Stream.{Records, is_peer_open}
 use Rattle.h2_spec.specs.Trace.{then_sent}
 use Rattle.h2_streams.specs.Put.{can_become}
 use Rattle.h2_conn.specs.Blocks.{IsDecodedAt, IsOpenAt, IsOpenFor, IsStopped}
-use Rattle.h2_conn.specs.Does.{AreShort, Does, Settles}
+use Rattle.h2_spec.specs.Does.{AreShort, Does, Settles}
 use Rattle.h2_conn_send.specs.Sending.{NoneSends, all_frames, core_after, open_window, open_window_as, records_after, sent_count, streams_after}
 use Rattle.h2_conn_rules.specs.Sound.{IsSoundChange, IsSoundState, in_force, updated_records}
 use Rattle.h2_conn_send.proofs.AloneLaws.{after-none, left-none, none-spent, sent-none}

@@ -19,7 +19,7 @@ use Rattle.h2_spec.specs.Stream.{Records}
 use Rattle.h2_spec.specs.Trace.{then_sent}
 use Rattle.h2_conn.specs.Blocks.{IsOpenFor}
 use Rattle.h2_conn.specs.Counts.{with_counts}
-use Rattle.h2_conn.specs.Does.{AreShort, Does}
+use Rattle.h2_spec.specs.Does.{AreShort, Does}
 use Rattle.h2_conn.specs.Records.{records}
 use Rattle.h2_conn_send.specs.Sending.{core_after, records_after, streams_after}
 use Rattle.h2_conn_rules.specs.Open.{state_of}

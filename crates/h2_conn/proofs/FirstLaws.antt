@@ -9,7 +9,7 @@ use Rattle.h2_spec.specs.State.{State}
 use Rattle.h2_spec.specs.Trace.{Event, event_on, next_event, next_item, step}
 use Rattle.h2_spec.specs.Trace as trace
 use Rattle.h2_conn.specs.Connection.{awaits_preface, is_ended}
-use Rattle.h2_conn.specs.Does.{Does, IsShort}
+use Rattle.h2_spec.specs.Does.{Does, IsShort}
 use Rattle.h2_conn.specs.First.{TakesFirst, TakesIfAny}
 use Rattle.h2_conn.specs.Reports.{used_by}
 use Rattle.h2_conn.specs.declared.report.TakenItem.{TakenItem}

@@ -14,7 +14,7 @@ use Rattle.h2_spec.specs.Trace as trace
 use Rattle.h2_frame.specs.Items.{found, item_in, rest_after, rest_behind}
 use Rattle.h2_frame.specs.Rest.{Rest}
 use Rattle.h2_conn.specs.Connection.{awaits_preface, Fits, is_ended}
-use Rattle.h2_conn.specs.Does.{Does, IsShort}
+use Rattle.h2_spec.specs.Does.{Does, IsShort}
 use Rattle.h2_conn.specs.Runs.{Takes}
 use Rattle.h2_conn.proofs.Phases.{bad-phase, frame-phase, oversize-phase, preface-phase}
 

@@ -3,6 +3,7 @@ use Rattle.std.specs.Prelude.{◌≡◌, ℕ, Bool, true, false, Option, Some, N
 use Rattle.h2_spec.specs.declared.causes.Cause.{Cause}
 use Rattle.h2_spec.specs.declared.connection.BlockView.{BlockView}
 use Rattle.h2_spec.specs.declared.reactions.Change.{Change}
+use Rattle.h2_spec.specs.Change.{only_shown}
 use Rattle.h2_spec.specs.Hpack.DynamicTable.{LimitedTable, Table}
 use Rattle.h2_spec.specs.Requests.Headers as headers
 use Rattle.h2_spec.specs.State.{Decoding, OpenBlock, State}
@@ -27,6 +28,10 @@ IsOpenFor r (Some b) = IsDecodedAt r b.shown.stream b.decoding
 abbrev pub IsStopped : Option OpenBlock → Type 0
 IsStopped None = Unit {0}
 IsStopped (Some b) = b.decoding ≡ None
+
+-- a state with its open block decoded no more
+abbrev pub stopped : State → State
+stopped s = record s { block = only_shown s.block }
 
 -- ---- what a fragment results in
 

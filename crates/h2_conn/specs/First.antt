@@ -4,7 +4,7 @@ use Rattle.h2_spec.specs.Frames.Frame.{frames_octets}
 use Rattle.h2_spec.specs.Frames.Parse.{Stop, One}
 use Rattle.h2_spec.specs.State.{State}
 use Rattle.h2_spec.specs.Trace.{Event, next_event}
-use Rattle.h2_conn.specs.Does.{AreShort}
+use Rattle.h2_spec.specs.Does.{AreShort}
 
 -- the first item of the octets leads to the other state and takes that many of them, and what is sent goes to the end
 -- of out

@@ -1,7 +1,6 @@
 pub mod Blocks
 pub mod Connection
 pub mod Counts
-pub mod Does
 pub mod Faults
 pub mod First
 pub mod Granted

@@ -11,7 +11,7 @@ use Rattle.h2_spec.specs.Trace.{Event, Run, left_by, next_event, sent_octets, tr
 use Rattle.h2_spec.specs.Texts.View.{View, view}
 use Rattle.h2_conn.specs.declared.feed.one.One as code
 use Rattle.h2_conn.specs.Connection.{Connection, going, halted}
-use Rattle.h2_conn.specs.Does.{AreShort}
+use Rattle.h2_spec.specs.Does.{AreShort}
 
 -- the run over more octets
 abbrev pub fed : Connection → List ℕ → Run

@@ -10,7 +10,7 @@ use Rattle.h2_spec.specs.Hpack.Field.{Field}
 use Rattle.h2_spec.specs.Frames.Frame.{Frame, frame, frame_octets, frames_octets}
 use Rattle.h2_spec.specs.SendPending.{data_frames, piece}
 use Rattle.h2_request_book.specs.Lent.{block_of_answer, headers_of_answer}
-use Rattle.h2_conn_send.specs.Short.{IsShortFrame}
+use Rattle.h2_spec.specs.Short.{IsShortFrame}
 use Rattle.h2_conn_send.specs.Prepared.{content, on_stream, IsData}
 use Rattle.h2_conn_send.proofs.PiecesLaws.{piece_last}
 

@@ -9,7 +9,7 @@ use Rattle.h2_spec.specs.Requests.Answer.{Entry}
 use Rattle.h2_spec.specs.Change.{stream_frames}
 use Rattle.h2_spec.specs.Frames.Frame.{Frame}
 use Rattle.h2_spec.specs.SendPending.{data_frames, data_upto, piece, sent_frames, allowance, allowance_frames}
-use Rattle.h2_conn_send.specs.Short.{AreShort}
+use Rattle.h2_spec.specs.Short.{AreShort}
 
 pub short-append : (fs gs : List Frame) → AreShort fs → AreShort gs → AreShort (fs ++ gs)
 short-append [] gs h k = k

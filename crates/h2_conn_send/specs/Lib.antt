@@ -2,5 +2,4 @@ pub mod Above
 pub mod Moves
 pub mod Prepared
 pub mod Sending
-pub mod Short
 pub mod Writes

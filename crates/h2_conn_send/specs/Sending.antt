@@ -17,7 +17,7 @@ use Rattle.h2_spec.specs.SendPending.{allowance, sent_frames, all_after_sending,
 use Rattle.h2_spec.specs.Stream.{Records}
 use Rattle.h2_spec.specs.Window.{sendable}
 use Rattle.h2_conn_rules.specs.Sound.{HasBody, updated_records}
-use Rattle.h2_conn_send.specs.Short.{AreShort}
+use Rattle.h2_spec.specs.Short.{AreShort}
 
 -- the octets that the connection's window lets pass: none once the connection has ended
 abbrev pub open_window_as : Phase → ConnectionState → ℕ

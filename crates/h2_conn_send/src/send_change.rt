@@ -9,7 +9,7 @@ ghost use Rattle.h2_spec.specs.Frames.Frame.{frame_octets, frames_octets};
 ghost use Rattle.h2_spec.specs.Window.{sendable};
 ghost use Rattle.h2_conn_send.specs.Sending as sending;
 ghost use Rattle.h2_conn_send.specs.Sending.{CanSend, SendsChange};
-ghost use Rattle.h2_conn_send.specs.Short.{AreShort, IsShortFrame};
+ghost use Rattle.h2_spec.specs.Short.{AreShort, IsShortFrame};
 ghost use Rattle.h2_conn_send.specs.Writes.{Writes, WritesInPart};
 
 use crate::send_pending::{sendable, without};

@@ -5,7 +5,7 @@ ghost use Rattle.std.specs.Prelude.{◌≡◌, ◌≤◌, ◌++◌, ◌∷◌, [
 ghost use Rattle.h2_spec.specs.Change as changes;
 ghost use Rattle.h2_spec.specs.Frames.Frame.{frame, frame_octets, frames_octets};
 ghost use Rattle.h2_spec.specs.Octets.{big_endian};
-ghost use Rattle.h2_conn_send.specs.Short.{AreShort};
+ghost use Rattle.h2_spec.specs.Short.{AreShort};
 ghost use Rattle.h2_conn_send.specs.Prepared.{on_stream};
 ghost use Rattle.h2_conn_send.specs.Writes.{Writes};
 

@@ -13,7 +13,7 @@ use Rattle.h2_spec.specs.Frames.Parse.{One}
 use Rattle.h2_spec.specs.State.{State}
 use Rattle.h2_spec.specs.Trace.{Event, event_on, next_event, next_in, next_item}
 use Rattle.h2_conn.specs.Connection.{awaits_preface}
-use Rattle.h2_conn.specs.Does.{AreShort, IsShortFrame}
+use Rattle.h2_spec.specs.Does.{AreShort, IsShortFrame}
 use Rattle.h2_debug.specs.Items.{IsItem, head_of_item}
 use Rattle.h2_debug.specs.Stops.{IsMatched, IsStop, event_to}
 use Rattle.h2_debug.specs.Places.{Placed, Source, TakesItem, events}

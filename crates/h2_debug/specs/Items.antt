@@ -3,7 +3,7 @@ use Rattle.std.specs.Prelude.{◌≡◌, ℕ, ◌==◌, Bool, true, false, List,
 use Rattle.h2_spec.specs.declared.frames.Head.{Head}
 use Rattle.h2_spec.specs.Frames.Frame.{Item, Preface, BadPreface, WholeFrame, Oversize, Next, NoItem, Got, frames_octets, head_at}
 use Rattle.h2_spec.specs.Trace.{Event}
-use Rattle.h2_conn.specs.Does.{AreShort}
+use Rattle.h2_spec.specs.Does.{AreShort}
 
 -- whether there is an item
 abbrev pub is_item : Next → Bool

@@ -6,7 +6,7 @@ ghost use Rattle.std.specs.List.{list_any};
 ghost use Rattle.h2_spec.specs.Texts.Debug.{matches};
 ghost use Rattle.h2_spec.specs.Frames.Frame.{Frame, frame_octets, frames_octets, head_at};
 ghost use Rattle.h2_spec.specs.Trace.{Event};
-ghost use Rattle.h2_conn.specs.Does.{AreShort, IsShortFrame};
+ghost use Rattle.h2_spec.specs.Does.{AreShort, IsShortFrame};
 ghost use Rattle.h2_debug.specs.Breakpoints.{break_of};
 ghost use Rattle.h2_debug.specs.Items.{IsItem, head_of_item};
 

@@ -1,6 +1,7 @@
 pub mod Change
 pub mod Checks
 pub mod Data
+pub mod Does
 pub mod Effect
 pub mod Octets
 pub mod Opening
@@ -9,6 +10,7 @@ pub mod Read
 pub mod Settings
 pub mod SettingsFrame
 pub mod State
+pub mod Short
 pub mod Stream
 pub mod ReactionTable
 pub mod Trace

@@ -8,7 +8,7 @@ ghost use Rattle.h2_spec.specs.Window.{sendable};
 ghost use Rattle.h2_spec.specs.declared.connection.Phase.TheVariants as phase;
 ghost use Rattle.h2_conn.specs.Blocks.{IsOpenFor, IsStopped};
 ghost use Rattle.h2_conn.specs.Counts.{IsCounted, LeavesCounts, with_counts};
-ghost use Rattle.h2_conn.specs.Does.{Settles};
+ghost use Rattle.h2_spec.specs.Does.{Settles};
 ghost use Rattle.h2_conn.specs.Records.{records};
 ghost use Rattle.h2_conn_rules.specs.Sound.{IsSound, IsSoundChange, in_force, updated_records};
 

@@ -9,7 +9,7 @@ ghost use Rattle.h2_spec.specs.Frames.Payload.{OfData, part_of};
 ghost use Rattle.h2_spec.specs.Requests.Answer.{picked};
 ghost use Rattle.h2_spec.specs.Requests.Headers.{makes};
 ghost use Rattle.h2_conn.specs.Blocks.{IsStopped};
-ghost use Rattle.h2_conn.specs.Does.{Settles};
+ghost use Rattle.h2_spec.specs.Does.{Settles};
 ghost use Rattle.h2_conn_rules.specs.Sound.{HasBody};
 
 use crate::state::State;

@@ -15,7 +15,7 @@ ghost use Rattle.h2_spec.specs.Frames.Payload.{part_of};
 ghost use Rattle.h2_spec.specs.Stream.{is_live, kind_of, put, reset_as, stream_at};
 ghost use Rattle.h2_spec.specs.Trace.{step};
 ghost use Rattle.h2_conn.specs.Blocks.{IsStopped};
-ghost use Rattle.h2_conn.specs.Does.{Does, IsShort, Settles};
+ghost use Rattle.h2_spec.specs.Does.{Does, IsShort, Settles};
 ghost use Rattle.h2_conn.specs.Shown.{Shows, fields_at_hand, item_fields, part_fields};
 ghost use Rattle.h2_streams.specs.Kept.{is_ready};
 

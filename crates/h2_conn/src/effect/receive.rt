@@ -5,7 +5,7 @@ ghost use Rattle.h2_spec.specs.Requests.Headers.{Makes, makes};
 ghost use Rattle.h2_spec.specs.SettingsFrame as settings;
 ghost use Rattle.h2_spec.specs.State.{configured};
 ghost use Rattle.h2_conn.specs.Blocks.{IsStopped};
-ghost use Rattle.h2_conn.specs.Does.{Settles};
+ghost use Rattle.h2_spec.specs.Does.{Settles};
 ghost use Rattle.h2_spec.specs.Effect as rule;
 
 use crate::state::State;

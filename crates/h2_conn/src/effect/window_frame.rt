@@ -8,7 +8,7 @@ ghost use Rattle.h2_spec.specs.Requests.Headers.{makes};
 ghost use Rattle.h2_spec.specs.Stream.{octets_waiting, put, stream_at};
 ghost use Rattle.h2_spec.specs.WindowUpdate as window;
 ghost use Rattle.h2_conn.specs.Blocks.{IsStopped};
-ghost use Rattle.h2_conn.specs.Does.{Settles};
+ghost use Rattle.h2_spec.specs.Does.{Settles};
 ghost use Rattle.h2_conn_rules.specs.Plain.{only_raises};
 ghost use Rattle.h2_streams.specs.Kept.{is_ready};
 ghost use Rattle.h2_streams.specs.Raised.{raised};

@@ -1,6 +1,6 @@
 use Rattle.std.proofs.Common.{◌≡◌, List, length}
 use Rattle.h2_spec.specs.Frames.Frame.{Frame, frames_octets}
-use Rattle.h2_conn.specs.Does.{AreShort}
+use Rattle.h2_spec.specs.Does.{AreShort}
 use Rattle.h2_debug.proofs.BreakLaws.{Left}
 use Rattle.h2_debug.proofs.breakpoints.sends.Given as goal
 

@@ -4,7 +4,7 @@ use Rattle.h2_spec.specs.Change.{made, updated_streams}
 use Rattle.h2_spec.specs.Trace.{then_sent}
 use Rattle.h2_conn.specs.Blocks.{IsOpenFor}
 use Rattle.h2_conn.specs.Counts.{with_counts}
-use Rattle.h2_conn.specs.Does.{Does}
+use Rattle.h2_spec.specs.Does.{Does}
 use Rattle.h2_conn.specs.Records.{records}
 use Rattle.h2_conn_rules.specs.Sound.{IsSoundChange, in_force, updated_records}
 use Rattle.h2_conn.proofs.ApplyChangeLaws.{counts-sent, did, inside-sound, keeps}

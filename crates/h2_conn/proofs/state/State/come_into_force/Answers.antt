@@ -8,7 +8,7 @@ use Rattle.h2_spec.specs.State.{State, configured}
 use Rattle.h2_spec.specs.Stream.{Records}
 use Rattle.h2_spec.specs.Trace.{then_sent}
 use Rattle.h2_conn.specs.Blocks.{IsOpenFor, IsStopped}
-use Rattle.h2_conn.specs.Does.{Does}
+use Rattle.h2_spec.specs.Does.{Does}
 use Rattle.h2_conn_send.specs.Sending.{open_window, records_after, CanSend}
 use Rattle.h2_conn_rules.specs.Sound.{AreInRange, IsSoundState, updated_records}
 use Rattle.h2_conn.proofs.ApplyChangeLaws.{counts-sent, did, stopped-open}

@@ -7,7 +7,7 @@ use Rattle.h2_conn.specs.Fragments.{after_of}
 use Rattle.h2_conn_rules.specs.Open.{IsOpenAt, state_of}
 use Rattle.h2_conn_rules.specs.Sound.{IsSoundState}
 use Rattle.h2_conn.specs.Blocks.{makes_open, with_table}
-use Rattle.h2_conn.specs.Does.{Settles}
+use Rattle.h2_spec.specs.Does.{Settles}
 use Rattle.h2_conn.specs.Records.{records}
 use Rattle.h2_conn.proofs.FinishLaws.{block-made}
 use Rattle.h2_conn.proofs.FragmentLaws.{ends-badly, ends-well}

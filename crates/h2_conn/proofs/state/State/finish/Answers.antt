@@ -7,7 +7,7 @@ use Rattle.h2_spec.specs.Trace.{then_sent}
 use Rattle.h2_table.specs.Edits.{IsEdit, edited}
 use Rattle.h2_conn.specs.Blocks.{IsOpenFor, limited}
 use Rattle.h2_conn.specs.OpenBlocks.{block_after}
-use Rattle.h2_conn.specs.Does.{Does}
+use Rattle.h2_spec.specs.Does.{Does}
 use Rattle.h2_conn.specs.Fragments.{after_of}
 use Rattle.h2_conn.proofs.ApplyChangeLaws.{stopped-open}
 use Rattle.h2_conn.proofs.FinishLaws.{open-then, rebound, same-settings, same-table}

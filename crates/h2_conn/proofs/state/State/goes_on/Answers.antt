@@ -5,7 +5,7 @@ use Rattle.h2_spec.specs.Requests.Headers as rule
 use Rattle.h2_spec.specs.State.{Decoding}
 use Rattle.h2_conn.specs.Fragments.{after_of}
 use Rattle.h2_conn.specs.Blocks.{makes_open}
-use Rattle.h2_conn.specs.Does.{Settles}
+use Rattle.h2_spec.specs.Does.{Settles}
 use Rattle.h2_conn.proofs.state.State.goes_on.Given.{Over}
 use Rattle.h2_conn.proofs.state.State.goes_on.Goals as goal
 

@@ -13,7 +13,8 @@ use Rattle.h2_spec.specs.Requests.Headers.{Breaks, FrameEffect, Makes}
 use Rattle.h2_spec.specs.State.{OpenBlock, Decoding, State}
 use Rattle.h2_conn.specs.OpenBlocks.{decoding_in}
 use Rattle.h2_conn.specs.Blocks.{decoding_of}
-use Rattle.h2_conn.specs.Does.{Does, Settles, stepped, stopped}
+use Rattle.h2_spec.specs.Does.{Does, Settles, stepped}
+use Rattle.h2_conn.specs.Blocks.{stopped}
 use Rattle.h2_conn.specs.Shown.{fields_at_hand, fields_with}
 use Rattle.h2_conn.proofs.ShownLaws.{quiet, shows-closed, shows-on}
 use Rattle.h2_conn.proofs.state.State.on_continuation.Goals as goal

@@ -9,7 +9,7 @@ use Rattle.h2_spec.specs.Stream.{Records}
 use Rattle.h2_conn.specs.Fragments.{after_of}
 use Rattle.h2_conn_rules.specs.Open.{IsOpenAt}
 use Rattle.h2_conn.specs.Blocks.{effect_read, with_table}
-use Rattle.h2_conn.specs.Does.{Settles}
+use Rattle.h2_spec.specs.Does.{Settles}
 use Rattle.h2_conn.specs.Shown.{fields_with}
 use Rattle.h2_conn.proofs.state.State.on_fragment.Given.{Over}
 use Rattle.h2_conn.proofs.state.State.on_fragment.Goals as goal

@@ -8,7 +8,7 @@ use Rattle.h2_spec.specs.Effect.{block_stream, checked_effect, part_effect}
 use Rattle.h2_spec.specs.Frames.Payload.{Part}
 use Rattle.h2_spec.specs.State.{State}
 use Rattle.h2_frame.specs.Parts.{part_seen, seen}
-use Rattle.h2_conn.specs.Does.{Settles}
+use Rattle.h2_spec.specs.Does.{Settles}
 use Rattle.h2_conn.specs.Shown.{Shows, checked_fields, fields_at_hand, read_fields}
 use Rattle.h2_conn.proofs.ShownLaws.{quiet}
 use Rattle.h2_conn.proofs.state.State.on_frame.Goals as goal

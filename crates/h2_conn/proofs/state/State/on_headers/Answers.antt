@@ -12,7 +12,7 @@ use Rattle.h2_spec.specs.State.{Decoding}
 use Rattle.h2_spec.specs.Stream.{stream_at}
 use Rattle.h2_frame.specs.Parts.{headers_seen}
 use Rattle.h2_conn_rules.specs.Block.{cell_of}
-use Rattle.h2_conn.specs.Does.{Settles}
+use Rattle.h2_spec.specs.Does.{Settles}
 use Rattle.h2_conn.specs.Shown.{Shows, fields_at_hand, fields_opened, fields_with}
 use Rattle.h2_conn.proofs.ShownLaws.{quiet}
 use Rattle.h2_conn.proofs.state.State.on_headers.Given.{Over}

@@ -7,7 +7,7 @@ use Rattle.h2_spec.specs.Hpack.Field.{Field}
 use Rattle.h2_spec.specs.State.{State}
 use Rattle.h2_frame.specs.Parts.{part_seen}
 use Rattle.h2_frame.specs.declared.payload.Part.{Part}
-use Rattle.h2_conn.specs.Does.{Settles}
+use Rattle.h2_spec.specs.Does.{Settles}
 use Rattle.h2_conn.specs.Parted.{IsNoContinuation}
 use Rattle.h2_conn.specs.Shown.{IsOfNoBlock, Shows, fields_at_hand, part_fields}
 use Rattle.h2_conn.proofs.InsideLaws.{part-outside}

@@ -9,7 +9,7 @@ use Rattle.h2_spec.specs.Requests.Headers.{makes}
 use Rattle.h2_spec.specs.State.{State}
 use Rattle.h2_spec.specs.Stream.{stream_at}
 use Rattle.h2_spec.specs.Trace.{step}
-use Rattle.h2_conn.specs.Does.{Does, stepped}
+use Rattle.h2_spec.specs.Does.{Does, stepped}
 use Rattle.h2_conn.proofs.PlainDataLaws.{plain-effect}
 use Rattle.h2_conn.proofs.state.State.on_plain_data.Goals as goal
 

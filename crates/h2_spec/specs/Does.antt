@@ -1,23 +1,19 @@
 -- What a call on a state results in.
 use Rattle.std.specs.Prelude.{◌≡◌, ℕ, ◌<◌, ◌^◌, ◌++◌, IfOk, List, OnErr, OnOk, Result, length}
 use Rattle.h2_spec.specs.declared.reactions.Verdict.{Verdict}
-use Rattle.h2_spec.specs.Change.{Step, only_shown}
+use Rattle.h2_spec.specs.Change.{Step}
 use Rattle.h2_spec.specs.Effect.{concluded, effect_verdict}
 use Rattle.h2_spec.specs.Frames.Frame.{Item, Preface, BadPreface, WholeFrame, Oversize, frames_octets}
 use Rattle.h2_spec.specs.Requests.Headers.{FrameEffect}
 use Rattle.h2_spec.specs.State.{State}
 use Rattle.h2_spec.specs.Trace.{then_sent}
-pub use Rattle.h2_conn_send.specs.Short.{AreShort, IsShortFrame}
+pub use Rattle.h2_spec.specs.Short.{AreShort, IsShortFrame}
 
 -- the state after a step, and its frames after what was sent before
 pub record Does (step : Step) (out : List ℕ) (now : State) (out' : List ℕ) : Type 0 where
   pub state : now ≡ step.state
   pub sent : out' ≡ out ++ frames_octets step.sent
   pub short : AreShort step.sent
-
--- a state with its open block decoded no more
-abbrev pub stopped : State → State
-stopped s = record s { block = only_shown s.block }
 
 -- the payload of an item fits a frame
 abbrev pub IsShort : Item → Type 0
