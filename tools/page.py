@@ -1,5 +1,6 @@
 #!/usr/bin/env python3
-"""Puts the page together: page.py WASM OUT writes web/page.html with the code, the functions of share/js that call it, the examples, the scripts of causes and the cases in it.
+"""Puts the page together: page.py WASM OUT writes one file of the page, its style and its script (web/page.*), the code, the functions of share/js that call it, the examples, the
+scripts of causes and the cases.
 
 It is the same, octet for octet, for the same code and the same files.
 """
@@ -72,8 +73,9 @@ def main():
     wasm, out = sys.argv[1:]
     with open(wasm, "rb") as file:
         code = file.read()
-    page = read(f"{TOP}/web/page.html")
-    page = page.replace("@ENGINE@", engine()).replace("@WASM@", packed(code)).replace("@STOCK@", packed(json.dumps(stock(), sort_keys=True).encode()))
+    page, style, script = (read(f"{TOP}/web/page.{kind}") for kind in ("html", "css", "js"))
+    page = page.replace("@STYLE@", style.rstrip()).replace("@SCRIPT@", script.rstrip()).replace("@ENGINE@", engine())
+    page = page.replace("@WASM@", packed(code)).replace("@STOCK@", packed(json.dumps(stock(), sort_keys=True).encode()))
     if len(page.encode()) > MOST:
         sys.exit(f"page.py: the page has {len(page.encode())} octets, more than {MOST}")
     with open(out, "w", encoding="utf-8") as file:
