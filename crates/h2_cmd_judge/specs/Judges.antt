@@ -250,7 +250,7 @@ softened is_left Allowed = Allowed
 softened is_left Doubtful = Doubtful
 softened is_left (Skipped why) = Skipped why
 
--- the worse of two verdicts; what is skipped counts where nothing else is there
+-- the worse of two verdicts; what is skipped counts before what is the same
 abbrev pub worse : Verdict → Verdict → Verdict
 worse Broken other = Broken
 worse Doubtful Broken = Broken
@@ -267,5 +267,9 @@ worse Same Broken = Broken
 worse Same Doubtful = Doubtful
 worse Same Allowed = Allowed
 worse Same Same = Same
-worse Same (Skipped why) = Same
-worse (Skipped why) other = other
+worse Same (Skipped why) = Skipped why
+worse (Skipped why) Broken = Broken
+worse (Skipped why) Doubtful = Doubtful
+worse (Skipped why) Allowed = Allowed
+worse (Skipped why) Same = Skipped why
+worse (Skipped why) (Skipped other) = Skipped why

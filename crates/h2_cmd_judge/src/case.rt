@@ -231,13 +231,11 @@ pub fn judge_case(
 {
     let stray = stray_of(highest, theirs);
     let unreadable = unreadable_of(theirs);
-    match findings(alloc, dues, own, theirs, ending, peer) {
-        Ok(findings) => Ok(Judgement {
-            verdict: case_verdict(findings.as_slice(), stray, unreadable),
-            findings,
-            stray,
-            unreadable,
-        }),
-        Err(error) => Err(error),
-    }
+    let findings = findings(alloc, dues, own, theirs, ending, peer)?;
+    Ok(Judgement {
+        verdict: case_verdict(findings.as_slice(), stray, unreadable),
+        findings,
+        stray,
+        unreadable,
+    })
 }

@@ -413,16 +413,15 @@ pub fn softened(is_left: bool, verdict: Verdict) -> Verdict
     }
 }
 
-/// The worse of two verdicts; what is skipped counts where nothing else is there.
+/// The worse of two verdicts; what is skipped counts before what is the same.
 pub fn worse(one: Verdict, other: Verdict) -> Verdict
     ensures { result ≡ worse one other }
 {
     match (one, other) {
-        (Verdict::Skipped(_), other) => other,
-        (one, Verdict::Skipped(_)) => one,
         (Verdict::Broken, _) | (_, Verdict::Broken) => Verdict::Broken,
         (Verdict::Doubtful, _) | (_, Verdict::Doubtful) => Verdict::Doubtful,
         (Verdict::Allowed, _) | (_, Verdict::Allowed) => Verdict::Allowed,
-        (Verdict::Same, Verdict::Same) => Verdict::Same,
+        (Verdict::Skipped(why), _) => Verdict::Skipped(why),
+        (Verdict::Same, other) => other,
     }
 }

@@ -85,15 +85,13 @@ impl Reading {
     pub fn new(alloc: Global) -> Result<Reading, AllocError>
         ensures { IfOk result (λ reading. reading ≡ new_reading) }
     {
-        match ServerFrames::new(alloc) {
-            Ok(frames) => Ok(Reading {
-                octets: Vec::new(alloc),
-                frames,
-                rest: Vec::new(alloc),
-                events: Vec::new(alloc),
-            }),
-            Err(error) => Err(error),
-        }
+        let frames = ServerFrames::new(alloc)?;
+        Ok(Reading {
+            octets: Vec::new(alloc),
+            frames,
+            rest: Vec::new(alloc),
+            events: Vec::new(alloc),
+        })
     }
 
     /// All octets that arrived.
