@@ -2,12 +2,13 @@
 use Rattle.std.proofs.lemmas.Bool.{leb-true}
 use Rattle.std.proofs.Common.{◌≡◌, ◌≤◌, ℕ, Bool, true, false, ◌&&◌, ◌||◌, not, is_some, nat_le, List, [], ◌∷◌, ◌++◌, length, Option, refl, sym, subst}
 use Rattle.h2_cmd_judge.specs.Readings.{read_more}
-use Rattle.h2_cmd_exchange.specs.Links.{LinkEvent, Sent, Got, Quiet, Ended, Late, happened}
+use Rattle.h2_cmd_exchange.specs.Links.{LinkEvent, Opened, Sent, Got, Quiet, Ended, Late, happened}
 use Rattle.h2_cmd_exchange.specs.Plays.{AsksIf, HearsOne, IsGot, Listens, ListensFor, Played, Sends, SendsIf, goes_on, have_answer, heard, is_open, most, probe_frame, taken_if, with_piece}
 
 -- octets came, and more follows
 more-by : (asked : Bool) (p p' q : Played) (log log' end : Option (List LinkEvent)) (e : LinkEvent) (es : List LinkEvent)
     → goes_on asked p ≡ true → IsGot e true → p' ≡ heard p e → log' ≡ happened log e → Listens asked p' log' es q end → ListensFor asked p log q end
+more-by asked p p' q log log' end (Opened done) es go got same at rest = absurd got
 more-by asked p p' q log log' end (Sent octets done) es go got same at rest = absurd got
 more-by asked p p' q log log' end (Got octets) es go got same at rest =
     (Got octets ∷ es, (go, subst (λ (r : Played). Listens asked r (happened log (Got octets)) es q end) same (subst (λ (k : Option (List LinkEvent)). Listens asked p' k es q end) at rest)))
@@ -27,6 +28,7 @@ closed-stops false y = refl
 -- nothing came, and nothing follows
 last-by : (asked : Bool) (p p' : Played) (log log' : Option (List LinkEvent)) (e : LinkEvent)
     → goes_on asked p ≡ true → IsGot e false → p' ≡ heard p e → log' ≡ happened log e → ListensFor asked p log p' log'
+last-by asked p p' log log' (Opened done) go got same at = absurd got
 last-by asked p p' log log' (Sent octets done) go got same at = absurd got
 last-by asked p p' log log' (Got octets) go got same at = cc
 last-by asked p p' log log' Quiet go got same at = (Quiet ∷ [], (go, (same, at)))

@@ -4,6 +4,8 @@ use Rattle.h2_cmd_exchange.specs.declared.link.LinkRead.{LinkRead}
 use Rattle.h2_cmd_exchange.specs.declared.link.LinkRead.TheVariants as read
 
 pub data LinkEvent : Type 0 where
+  -- a connection was asked for; whether a server took it
+  Opened : (done : Bool) → LinkEvent
   -- octets were sent; whether all of them could be
   Sent : (octets : List ℕ) → (done : Bool) → LinkEvent
   -- octets came

@@ -2,7 +2,7 @@
 -- comes any more.
 use Rattle.std.specs.Prelude.{◌≡◌, ℕ, ◌+◌, ◌-◌, ◌^◌, min, Bool, true, false, ◌&&◌, ◌||◌, not, is_some, nat_le, if◌then◌else◌, List, [], ◌∷◌, length, take, drop, Option, Some, None}
 use Rattle.std.specs.Str.{bytes_eq}
-use Rattle.h2_cmd_exchange.specs.Links.{LinkEvent, Sent, Got, Quiet, Ended, Late, happened}
+use Rattle.h2_cmd_exchange.specs.Links.{LinkEvent, Opened, Sent, Got, Quiet, Ended, Late, happened}
 use Rattle.h2_cmd_judge.specs.Readings.{Reading, is_http1, new_reading, read_more}
 use Rattle.h2_cmd_judge.specs.declared.event.Event.{Event}
 use Rattle.h2_cmd_judge.specs.declared.event.Event.TheVariants as event
@@ -37,6 +37,7 @@ is_open p = not (is_cut p) && not (is_some p.closed)
 
 -- something happened after the last piece
 abbrev pub heard : Played → LinkEvent → Played
+heard p (Opened done) = p
 heard p (Sent octets done) = p
 heard p (Got octets) = record p { reading = read_more p.number p.reading octets }
 heard p Quiet = p
@@ -69,6 +70,7 @@ goes_on asked p = is_open p && not (asked && have_answer p.reading.events)
 
 -- an event is that octets came, or not
 abbrev pub IsGot : LinkEvent → (came : Bool) → Type 0
+IsGot (Opened done) came = ⊥
 IsGot (Sent octets done) came = ⊥
 IsGot (Got octets) came = came ≡ true
 IsGot Quiet came = came ≡ false
@@ -81,6 +83,7 @@ HearsOne p log came p' log' = (e : LinkEvent) × IsGot e came × (p' ≡ heard p
 
 -- an event of reading ends it, or something follows
 abbrev pub Follows : LinkEvent → (ends follows : Type 0) → Type 0
+Follows (Opened done) ends follows = ⊥
 Follows (Sent octets done) ends follows = ⊥
 Follows (Got octets) ends follows = follows
 Follows Quiet ends follows = ends

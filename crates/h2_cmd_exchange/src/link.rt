@@ -1,8 +1,8 @@
-//! A connection to a server. What is done with it is written over this trait, so that contracts can say it; a socket of TCP
+//! Connections to a server. What is done with them is written over this trait, so that contracts can say it; a socket of TCP
 //! reports nothing. Definitions: `specs/Links.antt`.
 
 ghost use Rattle.std.specs.Prelude.{◌≡◌, ◌<◌, List, Option, length, true};
-ghost use Rattle.h2_cmd_exchange.specs.Links.{IsWithin, LinkEvent, Sent, happened, late_if, read_event};
+ghost use Rattle.h2_cmd_exchange.specs.Links.{IsWithin, LinkEvent, Opened, Sent, happened, late_if, read_event};
 
 /// What a read gives.
 #[derive(Clone, Copy)]
@@ -15,9 +15,13 @@ pub enum LinkRead {
     Ended,
 }
 
-/// A connection to a server. A contract sees what happened on it, in order, where the type reports it.
+/// Connections to a server, one after another. A contract sees what happened on them, in order, where the type reports it.
 pub trait Link {
     ghost log: { Self → Option (List LinkEvent) };
+
+    /// Ends the connection, if there is one, and asks the server for a new one. Says whether it took it.
+    fn connect(&mut self) -> bool
+        ensures { log self.new ≡ happened (log self.old) (Opened result) };
 
     /// Reads some octets to the front of a buffer, which must not be empty; waits for them for this many milliseconds at most.
     fn read(&mut self, millis: u64, buffer: &mut [u8]) -> LinkRead

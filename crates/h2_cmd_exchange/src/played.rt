@@ -113,15 +113,13 @@ impl Played {
     fn new(alloc: Global) -> Result<Played, AllocError>
         ensures { IfOk result (λ played. played ≡ unplayed) }
     {
-        match Reading::new(alloc) {
-            Ok(reading) => Ok(Played {
-                reading,
-                number: 0,
-                closed: None,
-                late: false,
-            }),
-            Err(error) => Err(error),
-        }
+        let reading = Reading::new(alloc)?;
+        Ok(Played {
+            reading,
+            number: 0,
+            closed: None,
+            late: false,
+        })
     }
 
     /// Whether it took too long, or too much came: then there is no verdict.
@@ -163,10 +161,8 @@ impl Played {
         match link.read(millis, buffer) {
             LinkRead::Octets(count) => {
                 let octets = octets_up_to(buffer, count);
-                match self.reading.take(alloc, octets, self.number) {
-                    Ok(()) => Ok(true),
-                    Err(error) => Err(error),
-                }
+                self.reading.take(alloc, octets, self.number)?;
+                Ok(true)
             }
             LinkRead::Quiet => Ok(false),
             LinkRead::Ended => {
@@ -269,10 +265,7 @@ impl Played {
         let mut start = 0usize;
         for end in ends {
             let piece = between(octets, start, *end);
-            match self.send(alloc, link, piece, false, millis) {
-                Ok(()) => {}
-                Err(error) => return Err(error),
-            }
+            self.send(alloc, link, piece, false, millis)?;
             start = *end;
         }
         Ok(())
@@ -292,14 +285,8 @@ impl Played {
             return Ok(());
         }
         let wait = PROBE_MILLIS.max(millis.saturating_mul(4));
-        match self.send(alloc, link, &PROBE_FRAME, true, wait) {
-            Ok(()) => {}
-            Err(error) => return Err(error),
-        }
-        match self.listen(alloc, link, false, millis) {
-            Ok(()) => Ok(()),
-            Err(error) => Err(error),
-        }
+        self.send(alloc, link, &PROBE_FRAME, true, wait)?;
+        self.listen(alloc, link, false, millis)
     }
 
     /// A case is played: what the server sends by itself is read, then the pieces of its octets up to these places are sent, one
@@ -317,22 +304,11 @@ impl Played {
     ) -> Result<Played, AllocError>
         ensures { IfOk result (λ played. Plays octets.now ends.now asks (L.log link.old) played (L.log link.new)) }
     {
-        let mut played = match Played::new(alloc) {
-            Ok(played) => played,
-            Err(error) => return Err(error),
-        };
-        match played.listen(alloc, link, false, millis.min(FIRST_MILLIS)) {
-            Ok(()) => {}
-            Err(error) => return Err(error),
-        }
-        match played.send_all(alloc, link, octets, ends, millis) {
-            Ok(()) => {}
-            Err(error) => return Err(error),
-        }
-        match played.ask(alloc, link, asks, millis) {
-            Ok(()) => Ok(played),
-            Err(error) => Err(error),
-        }
+        let mut played = Played::new(alloc)?;
+        played.listen(alloc, link, false, millis.min(FIRST_MILLIS))?;
+        played.send_all(alloc, link, octets, ends, millis)?;
+        played.ask(alloc, link, asks, millis)?;
+        Ok(played)
     }
 
     /// How the connection ended.
