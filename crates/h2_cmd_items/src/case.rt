@@ -1,7 +1,8 @@
 //! The octets of a case, as they are sent and judged. Definitions: `specs/CaseItems.antt`.
 
-ghost use Rattle.std.specs.Prelude.{◌≡◌, ◌++◌, IfOk, map};
-ghost use Rattle.h2_spec.specs.State.{opening};
+ghost use Rattle.std.specs.Prelude.{◌≡◌, ◌⊎◌, ◌++◌, false, IfErr, IfOk, map};
+ghost use Rattle.h2_spec.specs.State.{is_allowed, opening};
+ghost use Rattle.h2_cmd_items.specs.declared.items.ItemsFault.TheVariants.{BadConfig, NoMemory};
 ghost use Rattle.h2_cmd_items.specs.CaseItems.{IsCase, IsCaseOf, asks_of, ends_of, is_unfinished, last_end};
 
 use crate::due::{Whole, acknowledgements, dues, highest, judged};
@@ -95,18 +96,9 @@ fn case_of(
         is_unfinished,
         is_tagged,
     };
-    let ends = match ends_of(alloc, sent, length) {
-        Ok(ends) => ends,
-        Err(error) => return Err(error),
-    };
-    let dues = match dues(alloc, sent, whole) {
-        Ok(dues) => dues,
-        Err(error) => return Err(error),
-    };
-    let judged = match judged(alloc, sent) {
-        Ok(judged) => judged,
-        Err(error) => return Err(error),
-    };
+    let ends = ends_of(alloc, sent, length)?;
+    let dues = dues(alloc, sent, whole)?;
+    let judged = judged(alloc, sent)?;
     Ok(CaseItems {
         ends,
         dues,
@@ -132,7 +124,8 @@ pub fn case_items(
     octets: Vec<u8>,
     is_tagged: bool,
 ) -> Result<CaseItems, ItemsFault>
-    ensures { IfOk result (λ x. IsCase (opening book.now config) octets.items is_tagged x) }
+    ensures items { IfOk result (λ x. IsCase (opening book.now config) octets.items is_tagged x) }
+    ensures fault { IfErr result (λ fault. (fault ≡ NoMemory) ⊎ ((fault ≡ BadConfig) × (is_allowed config ≡ false))) }
 {
     let items = match items_of(alloc, book, config, octets.as_slice()) {
         Ok(items) => items,

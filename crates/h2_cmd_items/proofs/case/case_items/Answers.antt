@@ -3,8 +3,8 @@ use Rattle.h2_spec.specs.State.{opening}
 use Rattle.h2_cmd_items.specs.SentItems.{AreItems}
 use Rattle.h2_cmd_items.proofs.case.case_items.Goals as goal
 
-pub returns-in-Ok-case_of : goal.returns-in-Ok-case_of
-returns-in-Ok-case_of c = (
+pub returns-in-Ok-case_of-clause-items : goal.returns-in-Ok-case_of-clause-items
+returns-in-Ok-case_of-clause-items c = (
   c.in-Ok.items.sent.items,
   c.in-Ok.items.own.items,
   c.in-Ok.items.opens,
