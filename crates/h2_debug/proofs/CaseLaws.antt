@@ -1,0 +1,127 @@
+-- The special case of an item of a run.
+use Rattle.std.proofs.Common.{◌≡◌, ◌∙◌, Ok, ◌+◌, ◌-◌, ◌<◌, ◌≤◌, ◌||◌, ◌++◌, ℕ, zero, suc, Bool, true, false, List, [], ◌∷◌, Option, Some, None, is_some, refl, sym, ap, subst, arith}
+use Rattle.h2_spec.specs.declared.causes.Cause.{Cause}
+use Rattle.h2_spec.specs.declared.causes.Cause.TheVariants.{ContinuationOutsideBlock, IntegerTooLong}
+use Rattle.h2_spec.specs.declared.ignored.Ignored.{Ignored}
+use Rattle.h2_spec.specs.declared.special_cases.SpecialCase.{SpecialCase}
+use Rattle.h2_spec.specs.declared.frames.Head.{Head}
+use Rattle.h2_spec.specs.Checks.{refusal}
+use Rattle.h2_spec.specs.Effect.{block_stream, cause_of}
+use Rattle.h2_spec.specs.Frames.Frame.{Item, WholeFrame}
+use Rattle.h2_spec.specs.Frames.Payload.{OfContinuation, part_of}
+use Rattle.h2_spec.specs.Hpack.Field.{Field}
+use Rattle.h2_spec.specs.State.{Decoding, OpenBlock, State}
+use Rattle.h2_spec.specs.Texts.View.{shown_block}
+use Rattle.h2_conn.specs.Shown.{Shows, fields_continued_in}
+use Rattle.h2_explain_item.specs.CaseFacts.{is_beyond_tables}
+use Rattle.h2_explain_item.specs.Special.{case_of_cause, special_reason}
+use Rattle.h2_explain_item.specs.declared.diagnosis.special.CaseFacts.{CaseFacts}
+use Rattle.h2_explain_item.specs.declared.diagnosis.special.Seen.{Seen}
+use Rattle.h2_debug.specs.Cases.{block_octets, case_after, case_at, ends_side, facts_in, fields_or_none, fragment_of, head_after, is_continuation, is_continued, is_ended_by, item_after, kind_at, leaves_ended, open_octets, seen_in, stream_in}
+use Rattle.h2_debug.specs.Items.{head_of_item}
+use Rattle.h2_debug.specs.Places.{Source, at, cause_at, ignored_at}
+
+-- ---- what was before an item
+
+pub continued-next : (r : Source) (p : ℕ) → 0 < p → is_continued r p ≡ is_continuation (head_after r (p - 1))
+continued-next r zero some = absurd (omega (arith, some))
+continued-next r (suc p) some = let e : suc p - 1 ≡ p = omega arith in ap (λ (n : ℕ). is_continuation (head_after r n)) (sym e)
+
+pub block-next : (r : Source) (p q : ℕ) → q ≡ p + 1 → block_octets r q ≡ open_octets (shown_block (at r p).block) (block_octets r p) ++ fragment_of (item_after r p)
+block-next r p q e = let next : q ≡ suc p = omega (arith, e) in rw next refl
+
+pub ended-next : (r : Source) (id p q : ℕ) → q ≡ p + 1
+    → is_ended_by r id q ≡ (is_ended_by r id p || leaves_ended (kind_at r id p) (kind_at r id q) (ends_side (shown_block (at r p).block) (head_after r p)))
+ended-next r id p q e = let next : q ≡ suc p = omega (arith, e) in rw next refl
+
+-- ---- the fields that are shown
+
+pub shows-some : (shown : Option (List Field)) (fields : List Field) → is_some shown ≡ true → Shows shown fields → fields_or_none shown ≡ fields
+shows-some None fields some x = cc
+shows-some (Some shown) fields some x = sym x
+
+pub shows-none : (shown : Option (List Field)) → is_some shown ≡ false → fields_or_none shown ≡ []
+shows-none None none = refl
+shows-none (Some shown) none = cc
+
+-- ---- the special case
+
+-- the item after a position has this special case, whatever is known of the octets of its block and of the end of its stream
+pub error-case : (r : Source) (p q : ℕ) (cause : Cause) (item : Item) (case : Option SpecialCase) → p ≡ q + 1 → cause_at r p ≡ Some cause → item_after r q ≡ Some item
+    → ((octets : List ℕ) (after_end : Bool) → case ≡ case_of_cause cause (seen_in (at r q) (head_of_item item)) (facts_in (is_continued r q) (at r q) item octets after_end)) → case ≡ case_at r p
+error-case r p q cause item case e is after x =
+    let next : p ≡ suc q = omega (arith, e) in
+    let is' : cause_at r (suc q) ≡ Some cause = rw next at is in
+    rw next (rw (after, is') (x (block_octets r (suc q)) (is_ended_by r (stream_in (head_of_item item)) q)))
+
+-- an integer that is too long, by the octets of its block
+pub integer-case : (r : Source) (p q : ℕ) (item : Item) (case : Option SpecialCase) (octets : List ℕ) → p ≡ q + 1 → cause_at r p ≡ Some IntegerTooLong → item_after r q ≡ Some item → octets ≡ block_octets r p
+    → ((s : Seen) (f : CaseFacts) → f.beyond_tables ≡ is_beyond_tables octets → case ≡ case_of_cause IntegerTooLong s f) → case ≡ case_at r p
+integer-case r p q item case octets e is after block x =
+    let next : p ≡ suc q = omega (arith, e) in
+    let is' : cause_at r (suc q) ≡ Some IntegerTooLong = rw next at is in
+    let block' : octets ≡ block_octets r (suc q) = rw next at block in
+    rw next (rw (after, is') (x (seen_in (at r q) (head_of_item item)) (facts_in (is_continued r q) (at r q) item (block_octets r (suc q)) (is_ended_by r (stream_in (head_of_item item)) q))
+    (ap is_beyond_tables (sym block'))))
+
+pub reason-case : (r : Source) (p q : ℕ) (reason : Ignored) (item : Item) (case : Option SpecialCase) → p ≡ q + 1 → cause_at r p ≡ None → ignored_at r p ≡ Some reason → item_after r q ≡ Some item
+    → case ≡ special_reason reason (is_ended_by r (stream_in (head_of_item item)) q) → case ≡ case_at r p
+reason-case r p q reason item case e no is after x =
+    let next : p ≡ suc q = omega (arith, e) in
+    let no' : cause_at r (suc q) ≡ None = rw next at no in
+    let is' : ignored_at r (suc q) ≡ Some reason = rw next at is in
+    rw next (rw (after, no', is') x)
+
+none-after : (r : Source) (q : ℕ) (item : Option Item) (cause : Cause) (ignored : Option Ignored) → ((s : Seen) (f : CaseFacts) → case_of_cause cause s f ≡ None) → None ≡ case_after r q item (Some cause) ignored
+none-after r q None cause ignored none = refl
+none-after r q (Some item) cause ignored none = sym (none _ _)
+
+-- a cause that has no special case
+pub no-error-case : (r : Source) (p : ℕ) (cause : Cause) → cause_at r p ≡ Some cause → ((s : Seen) (f : CaseFacts) → case_of_cause cause s f ≡ None) → None ≡ case_at r p
+no-error-case r zero cause is none = refl
+no-error-case r (suc q) cause is none = rw is (none-after r q (item_after r q) cause (ignored_at r (suc q)) none)
+
+none-ignored : (r : Source) (q : ℕ) (item : Option Item) (reason : Ignored) → ((after_end : Bool) → special_reason reason after_end ≡ None) → None ≡ case_after r q item None (Some reason)
+none-ignored r q None reason none = refl
+none-ignored r q (Some item) reason none = sym (none _)
+
+-- a reason that has none
+pub no-reason-case : (r : Source) (p : ℕ) (reason : Ignored) → cause_at r p ≡ None → ignored_at r p ≡ Some reason → ((after_end : Bool) → special_reason reason after_end ≡ None) → None ≡ case_at r p
+no-reason-case r zero reason no is none = refl
+no-reason-case r (suc q) reason no is none = rw (no, is) (none-ignored r q (item_after r q) reason none)
+
+no-rule-after : (r : Source) (q : ℕ) (item : Option Item) → None ≡ case_after r q item None None
+no-rule-after r q None = refl
+no-rule-after r q (Some item) = refl
+
+-- no error, and not ignored
+pub no-case : (r : Source) (p : ℕ) → cause_at r p ≡ None → ignored_at r p ≡ None → None ≡ case_at r p
+no-case r zero no none = refl
+no-case r (suc q) no none = rw (no, none) (no-rule-after r q (item_after r q))
+
+-- a place at which there is an error has an item before it
+pub error-later : (r : Source) (p : ℕ) (cause : Cause) → cause_at r p ≡ Some cause → 0 < p
+error-later r zero cause is = cc
+error-later r (suc p) cause is = omega arith
+
+pub reason-later : (r : Source) (p : ℕ) (reason : Ignored) → ignored_at r p ≡ Some reason → 0 < p
+reason-later r zero reason is = cc
+reason-later r (suc p) reason is = omega arith
+
+-- ---- CONTINUATION
+
+-- where the open block is decoded no more, its cause is that no block is open
+pub stopped-cause : (s : State) (h : Head) (p fragment : List ℕ) (b : OpenBlock) → refusal (block_stream s.block) s.core.phase h ≡ None → part_of h p ≡ Ok (OfContinuation fragment)
+    → s.block ≡ Some b → b.decoding ≡ None → cause_of s (WholeFrame h p) ≡ Some ContinuationOutsideBlock
+unfolding cause_of
+stopped-cause s h p fragment b passed read is none = rw (passed, read, is, none) refl
+
+-- where CONTINUATION is an error of another cause, its fields are shown
+pub continued-shows : (s : State) (h : Head) (p fragment : List ℕ) (b : OpenBlock) (d : Option Decoding) (cause : Cause) → refusal (block_stream s.block) s.core.phase h ≡ None
+    → part_of h p ≡ Ok (OfContinuation fragment) → s.block ≡ Some b → b.decoding ≡ d → cause_of s (WholeFrame h p) ≡ Some cause → (cause ≡ ContinuationOutsideBlock → ⊥)
+    → true ≡ is_some (fields_continued_in s b.shown d fragment)
+continued-shows s h p fragment b (Some d) cause passed read at is error other = refl
+continued-shows s h p fragment b None cause passed read at is error other =
+    let known = stopped-cause s h p fragment b passed read at is in
+    let same : cause ≡ ContinuationOutsideBlock = cc in
+    absurd (other same)
