@@ -8,16 +8,18 @@ use Rattle.h2_spec.specs.declared.frames.Head.{Head}
 use Rattle.h2_spec.specs.Checks.{refusal}
 use Rattle.h2_spec.specs.Effect.{block_stream, cause_of}
 use Rattle.h2_spec.specs.Frames.Frame.{Item, WholeFrame}
-use Rattle.h2_spec.specs.Frames.Payload.{OfContinuation, part_of}
+use Rattle.h2_spec.specs.Frames.Payload.{HeadersPart, OfContinuation, part_of}
 use Rattle.h2_spec.specs.Hpack.Field.{Field}
+use Rattle.h2_spec.specs.declared.connection.Purpose.{Purpose}
+use Rattle.h2_spec.specs.ReactionTable.{Cell, Error, Ignore, Rule}
 use Rattle.h2_spec.specs.State.{Decoding, OpenBlock, State}
 use Rattle.h2_spec.specs.Texts.View.{shown_block}
-use Rattle.h2_conn.specs.Shown.{Shows, fields_continued_in}
+use Rattle.h2_conn.specs.Shown.{Shows, fields_continued_in, fields_opened}
 use Rattle.h2_explain_item.specs.CaseFacts.{is_beyond_tables}
 use Rattle.h2_explain_item.specs.Special.{case_of_cause, special_reason}
 use Rattle.h2_explain_item.specs.declared.diagnosis.special.CaseFacts.{CaseFacts}
 use Rattle.h2_explain_item.specs.declared.diagnosis.special.Seen.{Seen}
-use Rattle.h2_debug.specs.Cases.{block_octets, case_after, case_at, ends_side, facts_in, fields_or_none, fragment_of, head_after, is_continuation, is_continued, is_ended_by, item_after, kind_at, leaves_ended, open_octets, seen_in, stream_in}
+use Rattle.h2_debug.specs.Cases.{block_octets, case_after, case_at, ends_side, facts_in, fields_or_none, fragment_of, head_after, is_continuation, is_continued, is_ended_by, item_after, kind_at, leaves_ended, open_octets, opens, seen_in, shown_stream, stream_in}
 use Rattle.h2_debug.specs.Items.{head_of_item}
 use Rattle.h2_debug.specs.Places.{Source, at, cause_at, ignored_at}
 
@@ -43,6 +45,17 @@ shows-some (Some shown) fields some x = sym x
 pub shows-none : (shown : Option (List Field)) → is_some shown ≡ false → fields_or_none shown ≡ []
 shows-none None none = refl
 shows-none (Some shown) none = cc
+
+-- the stream of an open block
+pub shown-stream : (b : Option OpenBlock) → shown_stream (shown_block b) ≡ block_stream b
+shown-stream None = refl
+shown-stream (Some b) = refl
+
+-- HEADERS that open a block show its fields
+pub opens-shows : (s : State) (h : Head) (part : HeadersPart) (cell : Cell Purpose) → opens cell ≡ is_some (fields_opened s h part cell)
+opens-shows s h part (Error cause) = refl
+opens-shows s h part (Ignore reason) = refl
+opens-shows s h part (Rule purpose) = refl
 
 -- ---- the special case
 

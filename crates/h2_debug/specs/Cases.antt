@@ -105,6 +105,11 @@ abbrev pub block_octets : Source → ℕ → List ℕ
 block_octets r zero = []
 block_octets r (suc p) = open_octets (shown_block (at r p).block) (block_octets r p) ++ fragment_of (item_after r p)
 
+-- the stream of the block that is shown
+abbrev pub shown_stream : Option BlockView → Option ℕ
+shown_stream None = None
+shown_stream (Some b) = Some b.stream
+
 -- ---- the end of the client's side of a stream
 
 -- whether a frame has END_STREAM, or the HEADERS of the block that it continues (6.1, 6.2)

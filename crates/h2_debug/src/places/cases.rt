@@ -1,13 +1,10 @@
 //! Which special case the rule of the item after a place is: what was before it is found by taking the items up to it once
 //! more. Definitions: `specs/Cases.antt`.
 
-ghost use Rattle.std.specs.Prelude.{◌≡◌, ◌+◌, ◌-◌, ◌<◌, ◌≤◌, ℕ, List, [], Bool, IfOk, OnOk, Option, Some, is_some, min, option_map};
-ghost use Rattle.h2_spec.specs.Effect.{block_stream, cause_of};
+ghost use Rattle.std.specs.Prelude.{◌≡◌, ◌+◌, ◌-◌, ◌<◌, ◌≤◌, ℕ, List, [], true, IfOk, OnOk, Some, is_some, min, option_map};
+ghost use Rattle.h2_spec.specs.Effect.{cause_of};
 ghost use Rattle.h2_spec.specs.Frames.Frame.{Got, Item, WholeFrame};
-ghost use Rattle.h2_spec.specs.Hpack.Field.{Field};
 ghost use Rattle.h2_spec.specs.ReactionTable.{headers_cell};
-ghost use Rattle.h2_spec.specs.State.{OpenBlock};
-ghost use Rattle.h2_spec.specs.Texts.View.{shown_block};
 ghost use Rattle.h2_spec.specs.declared.causes.Cause.{Cause};
 ghost use Rattle.h2_spec.specs.declared.causes.Cause.TheVariants.{ContinuationOutsideBlock, IntegerTooLong};
 ghost use Rattle.h2_spec.specs.Trace.{next_item};
@@ -248,7 +245,7 @@ fn facts_of_fields<A: Allocator>(fields: &Collected<A>) -> FieldFacts
 
 /// The stream of the open block.
 fn block_stream(block: Option<BlockView>) -> Option<u32>
-    ensures { (b : Option OpenBlock) → block ≡ shown_block b → result ≡ block_stream b }
+    ensures { result ≡ spec.shown_stream block }
 {
     match block {
         Some(block) => Some(block.stream),
@@ -302,7 +299,8 @@ fn fields_ahead<A: Allocator + Copy>(
     octets: &[u8],
 ) -> Result<FieldFacts, AllocError>
     requires { conn.now ≡ going conn.now.state [] }
-    ensures { IfOk result (λ facts. (fields : List Field) → next_fields conn.now.state (next_item conn.now.state octets.now) ≡ Some fields → facts ≡ field_facts fields) }
+    ensures { IfOk result (λ facts. is_some (next_fields conn.now.state (next_item conn.now.state octets.now)) ≡ true
+        → facts ≡ field_facts (fields_or_none (next_fields conn.now.state (next_item conn.now.state octets.now)))) }
 {
     let mut copy = conn.try_clone()?;
     let mut memory = Scratch::new(alloc);
