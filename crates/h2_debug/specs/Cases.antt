@@ -1,6 +1,6 @@
 -- Which special case the rule of an item of a run is (RFC 9113, 5.4): by the item, by the state before it, and by the items
 -- before it: whether the last one is CONTINUATION, the octets of its field block, and how the client's side of its stream ended.
-use Rattle.std.specs.Prelude.{ℕ, zero, suc, ◌++◌, ◌==◌, Bool, true, false, ◌&&◌, ◌||◌, not, List, [], ◌∷◌, Option, Some, None}
+use Rattle.std.specs.Prelude.{ℕ, zero, suc, ◌++◌, ◌==◌, Bool, true, false, ◌&&◌, ◌||◌, not, List, [], ◌∷◌, Option, Some, None, Result, Ok, Err}
 use Rattle.h2_spec.specs.declared.causes.Cause.{Cause}
 use Rattle.h2_spec.specs.declared.connection.BlockView.{BlockView}
 use Rattle.h2_spec.specs.declared.frames.Head.{Head}
@@ -8,7 +8,7 @@ use Rattle.h2_spec.specs.declared.ignored.Ignored.{Ignored}
 use Rattle.h2_spec.specs.declared.special_cases.SpecialCase.{SpecialCase}
 use Rattle.h2_spec.specs.declared.streams.StreamState.{StreamState}
 use Rattle.h2_spec.specs.declared.streams.StreamState.TheVariants.{Idle, Skipped, BothOpen, HalfRemote, HalfLocal, Ended, PeerReset, WeReset}
-use Rattle.h2_spec.specs.Frames.Frame.{Item, Preface, BadPreface, WholeFrame, Oversize}
+use Rattle.h2_spec.specs.Frames.Frame.{Item, Preface, BadPreface, WholeFrame, Oversize, Next, NoItem, Got}
 use Rattle.h2_spec.specs.Frames.FrameType.{CONTINUATION, DATA, END_STREAM, HEADERS, has}
 use Rattle.h2_spec.specs.Frames.Payload.{Part, OfData, OfHeaders, OfPriority, OfRstStream, OfSettings, OfSettingsAck, OfPushPromise, OfPing, OfGoaway, OfWindowUpdate, OfContinuation, OfUnknown, part_of}
 use Rattle.h2_spec.specs.Hpack.Field.{Field}
@@ -101,6 +101,10 @@ abbrev pub fragment_of : Option Item → List ℕ
 fragment_of None = []
 fragment_of (Some item) = fragment_in (part_in item)
 
+abbrev pub fragment_of_next : Next → List ℕ
+fragment_of_next NoItem = []
+fragment_of_next (Got item used) = fragment_in (part_in item)
+
 abbrev pub block_octets : Source → ℕ → List ℕ
 block_octets r zero = []
 block_octets r (suc p) = open_octets (shown_block (at r p).block) (block_octets r p) ++ fragment_of (item_after r p)
@@ -146,6 +150,22 @@ is_ended_by r id (suc p) = is_ended_by r id p || leaves_ended (kind_at r id p) (
 -- whether HEADERS open a block, by their cell of the table
 abbrev pub opens : Cell Purpose → Bool
 opens cell = run_cell (λ cause. false) (λ reason. false) (λ purpose. true) cell
+
+-- whether a payload shows fields of its block: HEADERS where they open one, CONTINUATION where one is open
+abbrev pub shows_by : (opens open_now : Bool) → Result Part Cause → Bool
+shows_by opens open_now (Err cause) = false
+shows_by opens open_now (Ok (OfData part)) = false
+shows_by opens open_now (Ok (OfHeaders part)) = opens
+shows_by opens open_now (Ok OfPriority) = false
+shows_by opens open_now (Ok (OfRstStream error)) = false
+shows_by opens open_now (Ok (OfSettings pairs)) = false
+shows_by opens open_now (Ok OfSettingsAck) = false
+shows_by opens open_now (Ok OfPushPromise) = false
+shows_by opens open_now (Ok (OfPing octets)) = false
+shows_by opens open_now (Ok (OfGoaway last error)) = false
+shows_by opens open_now (Ok (OfWindowUpdate increment)) = false
+shows_by opens open_now (Ok (OfContinuation fragment)) = open_now
+shows_by opens open_now (Ok OfUnknown) = false
 
 -- ---- the special case
 

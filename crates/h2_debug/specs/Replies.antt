@@ -95,7 +95,11 @@ reply_text d (code.Refused fault) = fault_line fault
 reply_text d code.Shown = shown_text d
 reply_text d (code.Explained case) = why_text d case
 
--- the reply to a move, and to a breakpoint
+-- the reply to `why`, to a move, and to a breakpoint
+abbrev pub why_reply : Result (Option SpecialCase) DebugFault → Reply
+why_reply (Ok case) = code.Explained case
+why_reply (Err fault) = code.Refused (fault_number fault)
+
 abbrev pub moved_reply : Result ℕ DebugFault → Reply
 moved_reply (Ok position) = code.At position
 moved_reply (Err fault) = code.Refused (fault_number fault)

@@ -1,9 +1,10 @@
 //! Which special case the rule of the item after a place is: what was before it is found by taking the items up to it once
 //! more. Definitions: `specs/Cases.antt`.
 
-ghost use Rattle.std.specs.Prelude.{◌≡◌, ◌+◌, ◌-◌, ◌<◌, ◌≤◌, ℕ, List, [], true, IfOk, OnOk, Some, is_some, min, option_map};
+ghost use Rattle.std.specs.Prelude.{◌≡◌, ◌++◌, ◌+◌, ◌-◌, ◌<◌, ◌≤◌, ℕ, List, [], true, IfOk, OnOk, Some, is_some, min, option_map};
 ghost use Rattle.h2_spec.specs.Effect.{cause_of};
 ghost use Rattle.h2_spec.specs.Frames.Frame.{Got, Item, WholeFrame};
+ghost use Rattle.h2_spec.specs.Texts.View.{shown_block};
 ghost use Rattle.h2_spec.specs.ReactionTable.{headers_cell};
 ghost use Rattle.h2_spec.specs.declared.causes.Cause.{Cause};
 ghost use Rattle.h2_spec.specs.declared.causes.Cause.TheVariants.{ContinuationOutsideBlock, IntegerTooLong};
@@ -11,7 +12,7 @@ ghost use Rattle.h2_spec.specs.Trace.{next_item};
 ghost use Rattle.h2_conn.specs.Connection.{going};
 ghost use Rattle.h2_conn.specs.Shown.{item_fields, next_fields};
 ghost use Rattle.h2_frame.specs.Items.{found_in, item_of};
-ghost use Rattle.h2_frame.specs.Parts.{part_seen};
+ghost use Rattle.h2_frame.specs.Parts.{part_seen, seen};
 ghost use Rattle.h2_explain_item.specs.FieldFacts.{field_facts};
 ghost use Rattle.h2_explain_item.specs.Special.{case_of_cause};
 ghost use Rattle.h2_debug.specs.Cases as spec;
@@ -263,6 +264,17 @@ fn opens_block(id: u32, kind: StreamState) -> bool
     }
 }
 
+/// Whether a payload shows fields of its block: HEADERS where they open one, CONTINUATION where one is open.
+fn is_shown(part: Result<Part<'_>, Cause>, opens: bool, open: bool) -> bool
+    ensures { result ≡ spec.shows_by opens open (seen part_seen part.entry) }
+{
+    match part {
+        Ok(Part::Headers(_)) => opens,
+        Ok(Part::Continuation(_)) => open,
+        _ => false,
+    }
+}
+
 /// Whether a frame shows fields of its block: its fragment is decoded. An open block is decoded no more where CONTINUATION is
 /// an error of another cause.
 fn is_decoded<A: Allocator + Copy>(conn: &Conn<'_, A>, frame: FrameRef<'_>) -> bool
@@ -270,15 +282,12 @@ fn is_decoded<A: Allocator + Copy>(conn: &Conn<'_, A>, frame: FrameRef<'_>) -> b
         → result ≡ is_some (item_fields conn.now.state (WholeFrame frame.entry.head frame.entry.payload.now)) }
 {
     let block = conn.open_block();
-    let stream = conn.stream(frame.head.stream);
-    match refusal(block_stream(block), conn.counts().phase, &frame.head) {
-        Some(_) => false,
-        None => match part_of(frame) {
-            Ok(Part::Headers(_)) => opens_block(frame.head.stream, stream.kind),
-            Ok(Part::Continuation(_)) => block.is_some(),
-            _ => false,
-        },
+    if refusal(block_stream(block), conn.counts().phase, &frame.head).is_some() {
+        return false;
     }
+    let stream = conn.stream(frame.head.stream);
+    let opens = opens_block(frame.head.stream, stream.kind);
+    is_shown(part_of(frame), opens, block.is_some())
 }
 
 /// The same of an item.
@@ -327,6 +336,38 @@ fn fields_shown<A: Allocator + Copy>(
     }
 }
 
+/// The octets that the next item has of a field block.
+fn fragment_ahead<'o, A: Allocator + Copy>(conn: &Conn<'_, A>, octets: &'o [u8]) -> &'o [u8]
+    ensures { result.now ≡ spec.fragment_of_next (next_item conn.now.state octets.now) }
+{
+    match item_ahead(conn, octets) {
+        Some((item, _)) => fragment_in(part_in(&item)),
+        None => &[],
+    }
+}
+
+/// Forgets the octets of a block that is open no more.
+fn clear_unless_open<A: Allocator>(open: Option<BlockView>, block: &mut Vec<u8, A>)
+    ensures { block.new.items ≡ spec.open_octets open block.old.items }
+{
+    if open.is_none() {
+        block.clear();
+    }
+}
+
+/// Adds the octets that the next item has of a field block to those of the open block.
+fn add_fragment<A: Allocator + Copy>(
+    conn: &Conn<'_, A>,
+    octets: &[u8],
+    block: &mut Vec<u8, A>,
+) -> Result<(), AllocError>
+    ensures { OnOk result (block.new.items ≡ spec.open_octets (shown_block conn.now.state.block) block.old.items ++ spec.fragment_of_next (next_item conn.now.state octets.now)) }
+{
+    clear_unless_open(conn.open_block(), block);
+    block.extend_from_slice(fragment_ahead(conn, octets))?;
+    Ok(())
+}
+
 /// The octets of the field block that an item goes on with, from its HEADERS on: all items up to it are taken from the start.
 pub fn block_octets<'b, A: Allocator + Copy>(
     alloc: A,
@@ -341,13 +382,8 @@ pub fn block_octets<'b, A: Allocator + Copy>(
 {
     let mut block = Vec::new(alloc);
     while place.position() < target {
-        if place.conn().open_block().is_none() {
-            block.clear();
-        }
         let octets = source.octets_from(place.used());
-        if let Some((item, _)) = item_ahead(place.conn(), octets) {
-            block.extend_from_slice(fragment_in(part_in(&item)))?;
-        }
+        add_fragment(place.conn(), octets, &mut block)?;
         place.advance(source)?;
     }
     Ok(block)
