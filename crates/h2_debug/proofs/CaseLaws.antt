@@ -18,11 +18,14 @@ use Rattle.h2_spec.specs.Stream.{stream_at}
 use Rattle.h2_spec.specs.Trace.{Event, next_item}
 use Rattle.h2_conn.specs.Connection.{Connection}
 use Rattle.h2_conn.specs.Shown.{Shows, checked_fields, fields_continued, fields_continued_in, fields_opened, item_fields, read_fields}
-use Rattle.h2_explain_item.specs.CaseFacts.{is_beyond_tables}
+use Rattle.h2_explain_item.proofs.SpecialLaws.{other-facts}
+use Rattle.h2_explain_item.specs.CaseFacts.{facts_by, is_beyond_tables}
+use Rattle.h2_explain_item.specs.FieldFacts.{field_facts}
+use Rattle.h2_explain_item.specs.declared.diagnosis.field_facts.FieldFacts.{FieldFacts}
 use Rattle.h2_explain_item.specs.Special.{case_of_cause, special_reason}
 use Rattle.h2_explain_item.specs.declared.diagnosis.special.CaseFacts.{CaseFacts}
 use Rattle.h2_explain_item.specs.declared.diagnosis.special.Seen.{Seen}
-use Rattle.h2_debug.specs.Cases.{block_octets, case_after, case_at, ends_side, facts_in, fields_or_none, fragment_of, head_after, is_continuation, is_continued, fragment_of_next, is_ended_by, item_after, item_in, kind_at, leaves_ended, open_octets, opens, seen_in, shown_stream, shows_by, stream_in}
+use Rattle.h2_debug.specs.Cases.{block_octets, case_after, case_at, ends_side, facts_in, fields_or_none, fragment_of, head_after, is_continuation, is_continued, fragment_of_next, is_ended_by, item_after, item_in, kind_at, leaves_ended, open_octets, opens, part_in, seen_in, shown_stream, shows_by, stream_in}
 use Rattle.h2_debug.specs.Items.{head_of_item}
 use Rattle.h2_debug.specs.Places.{Advances, IsAt, Placed, Source, at, cause_at, end, events, ignored_at}
 use Rattle.h2_debug.specs.declared.reasons.Reasons.{Reasons}
@@ -98,6 +101,13 @@ error-case r p place cause continued case x e within is behind known =
     let caused : cause_of (at r q) item ≡ Some cause = ap (λ (y : Reasons). y.cause) (sym there.reasons) ∙ (rw e at is) in
     let known' = rw (state, behind) at known in
     rw next (rw (there.after, is') (known' item there.used there.next caused (block_octets r (suc q)) (is_ended_by r (stream_in (head_of_item item)) q)))
+
+-- an item ahead has this special case, by what is known of it and of its fields
+pub ahead-known : (s : State) (continued : Bool) (cause : Cause) (item : Item) (seen : Seen) (part : Option Part) (fields : FieldFacts) (case : Option SpecialCase) → seen ≡ seen_in s (head_of_item item) → part ≡ part_in item
+    → (cause ≡ IntegerTooLong → ⊥) → ((cause ≡ ContinuationOutsideBlock → ⊥) → fields ≡ field_facts (fields_or_none (item_fields s item))) → case ≡ case_of_cause cause seen (facts_by continued part fields [] false)
+    → (octets : List ℕ) (after_end : Bool) → case ≡ case_of_cause cause (seen_in s (head_of_item item)) (facts_in continued s item octets after_end)
+ahead-known s continued cause item seen part fields case saw holds other same is octets after_end =
+    rw (saw, holds) at is ∙ other-facts cause (seen_in s (head_of_item item)) continued (part_in item) fields (field_facts (fields_or_none (item_fields s item))) octets after_end other same
 
 -- each position but the last has an item after it
 item-there : (es : List Event) (n : ℕ) → n < length es → (item : Item) × (item_in es n ≡ Some item)
