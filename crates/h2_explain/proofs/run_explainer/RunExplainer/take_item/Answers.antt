@@ -28,7 +28,7 @@ returns-clause-ok g c =
     let after = c.moment_at.ensures ∙ ap (moment_of c.take_and_report.new.self.state) c.stream_of_next-stream.ensures in
     record {
       item = x;
-      explains = item-explained c.args.conn.now.state c.args.octets.now c.start_of-start.new.out.items c.take_and_report.new.out.items (e.items + 1) e.offset c.take_and_report.new.self x c.take_and_report.ensures.ready first taken
+      explains = item-explained c.args.conn.now.state c.args.octets.now c.start_of-start.new.out c.take_and_report.new.out (e.items + 1) e.offset c.take_and_report.new.self x c.take_and_report.ensures.ready first taken
           refl refl c.first_octets-own.ensures refl sent before after;
       used_is = refl;
       written = subst (λ (r : Result (Unit {0}) ExplainFault). Gains (IsWritten (λ (t : List ℕ). IsItemText e.form x t) r) (g.O.Output.written c.args.output.now) (g.O.Output.written c.write_item.new.output)) c.in-Ok.is (c.write_item.ensures.gains well);
