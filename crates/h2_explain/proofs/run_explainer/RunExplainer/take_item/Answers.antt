@@ -70,10 +70,3 @@ returns-in-Err-write_item-clause-stopped g c = λ keeps.
 
 pub returns-in-Err-write_item-clause-cut : goal.returns-in-Err-write_item-clause-cut
 returns-in-Err-write_item-clause-cut g c = c.in-Err-write_item.ensures.gains
-
-pub returns-in-None-clause-stopped : goal.returns-in-None-clause-stopped
-returns-in-None-clause-stopped g c = λ keeps.
-    inr (c.in-Ok-Some.taken.used, rw (c.in-Ok-Some.field-0-is, c.start_of-start.ensures.kept keeps) at c.in-Ok-Some.ensures.ok)
-
-pub returns-in-None-clause-cut : goal.returns-in-None-clause-cut
-returns-in-None-clause-cut g c = λ well. gains-none (λ (t : List ℕ). t ≡ []) refl (g.O.Output.written c.args.output.now) _ refl
