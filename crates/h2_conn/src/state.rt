@@ -128,7 +128,7 @@ impl<'b, A: Allocator + Copy> State<'b, A> {
         self.core
     }
 
-    /// Looks a stream's record up, so that what comes next finds it at once.
+    /// Looks a live stream's record up, so that what comes next finds it at once.
     #[inline(always)]
     pub fn look_up(&mut self, id: u32)
         ensures { self.new ≡ self.old }

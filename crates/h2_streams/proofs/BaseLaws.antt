@@ -17,9 +17,9 @@ use Rattle.h2_streams.specs.Rebuilt.{AreKnown, AreOthersClosed, as_in}
 use Rattle.h2_streams.proofs.BriefLaws.{brief-all}
 use Rattle.h2_streams.proofs.JoinedEntries.{in-behind, in-known, none-front}
 use Rattle.h2_streams.proofs.JoinedLaws.{record-map, rise-map}
-use Rattle.h2_streams.proofs.JoinedPut.{at-joined, at-rest, found-own, found-shared, get-dropped, put-first, rising-front, same-front, shared-found}
+use Rattle.h2_streams.proofs.JoinedPut.{as_in-own, at-joined, at-rest, found-own, found-shared, get-dropped, put-first, rising-front, same-front, shared-found}
 use Rattle.h2_streams.proofs.PlaceLaws.{live-found, recorded-found, rise, rising-put}
-use Rattle.h2_streams.proofs.RebuiltLaws.{IsContinued, as_in-id, as_in-none, continues-closed, eqb-other, eqb-same, found-above, known-put, none-some, rise-filter, rise-put, rising-rebuilt}
+use Rattle.h2_streams.proofs.RebuiltLaws.{IsContinued, as_in-none, continues-closed, eqb-other, eqb-same, found-above, known-put, none-some, rise-filter, rise-put, rising-rebuilt}
 use Rattle.h2_streams.proofs.SharedLaws.{filter-all}
 
 -- ---- what is at a place is found
@@ -52,12 +52,11 @@ rising-length low last (x ∷ xs) h =
     let within = h.2 in
     omega (arith, rest, over, within)
 
--- where there is one in brief, all have one of the same stream there
-pub at-brief : {base own : List Stream} {n last : ℕ} → IsJoined base n own last → (i : ℕ) (st : Stream) → slice_get base i ≡ Some st → record_of (joined base n own) st.id ≡ slice_get (joined base n own) i
+-- at the place of one in brief is one's own of the same stream, or else it
+pub at-brief : {base own : List Stream} {n last : ℕ} → IsJoined base n own last → (i : ℕ) (st : Stream) → slice_get base i ≡ Some st → Some (unwrap_or (record_of own st.id) st) ≡ slice_get (joined base n own) i
 at-brief {base} {own} {n} {last} j i st e =
     let there = at-joined base own n i (get-within base i st e) ∙ ap (option_map (as_in (take n own))) e in
-    let found = at-found 0 (joined base n own) i (as_in (take n own) st) (rise 0 last (joined base n own) j.rising) there in
-    ap (record_of (joined base n own)) (sym (as_in-id (take n own) st)) ∙ found ∙ sym there
+    sym (there ∙ ap Some (as_in-own j st (at-found 0 base i st j.base_rising e)))
 
 -- and after those it is one's own
 pub at-own : (base own : List Stream) (n i : ℕ) → slice_get base i ≡ None → slice_get (drop n own) (i - length base) ≡ slice_get (joined base n own) i

@@ -16,7 +16,7 @@ ghost use Rattle.h2_streams.specs.Shift as shift;
 use crate::kinds::is_ready;
 use crate::lookup::hash::IdHash;
 use crate::lookup::ids::{append, ids_above, list};
-use crate::lookup::live::{enter, enter_each, note_ended, place_in, record_in};
+use crate::lookup::live::{enter, enter_each, known_place, note_ended, place_in, record_in};
 use crate::lookup::places::{raise_at, write};
 use crate::lookup::walks::{first_waiting, list_ready};
 use crate::sharing::rebuilt::live_records;
@@ -195,12 +195,14 @@ impl<A: Allocator> OwnRecords<A> {
         record_in(&self.live, self.records.as_slice(), self.recent, id)
     }
 
-    // Tries the place found last before the map, and compares it too, so it may be any number.
-    /// Looks the stream's record up, so that the calls that come next find it at once. Nothing changes.
+    // The place is compared where it is used, so it may be any number.
+    /// Looks the record of a live stream up, so that the calls that come next find it at once. Nothing changes.
     pub(crate) fn look_up(&mut self, id: u32)
         ensures { self.new ≡ self.old }
     {
-        self.recent = place_in(&self.live, self.records.as_slice(), self.recent, id);
+        if let Some(place) = known_place(&self.live, self.records.as_slice(), self.recent, id) {
+            self.recent = place;
+        }
     }
 
     /// The number of records.

@@ -181,7 +181,7 @@ impl<A: Allocator> Streams<A> {
         self.base.find(&self.own, id)
     }
 
-    /// Looks the stream's record up, so that the calls that come next find it at once. Nothing changes.
+    /// Looks the record of a live stream up, so that the calls that come next find it at once. Nothing changes.
     pub fn look_up(&mut self, id: u32)
         ensures { self.new ≡ self.old }
     {

@@ -33,7 +33,7 @@ use h2_spec::connection::{ConnectionState, Phase};
 use h2_spec::frames::{ACK, Head};
 use h2_spec::ignored::Ignored;
 use h2_spec::reactions::Verdict;
-use h2_spec::streams::is_live;
+use h2_spec::streams::{Stream, is_live};
 use std::alloc::{AllocError, Allocator};
 
 impl<'b, A: Allocator + Copy> State<'b, A> {
@@ -54,24 +54,25 @@ impl<'b, A: Allocator + Copy> State<'b, A> {
         ensures { Settles self.old (O.octets out.old) (makes self.old (rule.reset_at self.old id)) result self.new (O.octets out.new) }
     {
         self.look_up(id);
-        if self.only_resets(id) {
+        let stream = self.stream_at(id);
+        if self.only_resets(&stream) {
             self.reset(id);
             return Ok(Verdict {
                 cause: None,
                 ignored: None,
             });
         }
-        let reaction = on_reset(self.core(), self.stream_at(id));
+        let reaction = on_reset(self.core(), stream);
         self.conclude_leaving_counts(reaction, out)
     }
 
     /// Whether a stream is live, and no stream can send.
     #[inline(always)]
-    fn only_resets(&self, id: u32) -> bool
-        ensures live { IsTrue result → is_live (kind_of self.now.core.last self.now.streams id) ≡ true }
+    fn only_resets(&self, stream: &Stream) -> bool
+        ensures live { IsTrue result → is_live stream.now.kind ≡ true }
         ensures idle { IsTrue result → list_any is_ready self.now.streams ≡ false }
     {
-        is_live(self.stream_at(id).kind) && self.streams.none_ready()
+        is_live(stream.kind) && self.streams.none_ready()
     }
 
     /// The peer resets a live stream.

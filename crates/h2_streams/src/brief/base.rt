@@ -1,7 +1,7 @@
 //! The first records, in brief: those of streams that are not live any more are kept by their identifiers and states
 //! alone. Definitions: `specs/Joined.antt`.
 
-ghost use Rattle.std.specs.Prelude.{◌≡◌, ◌≤◌, [], length, map, take, true, IfOk, IsOk, IsTrue, OnErr, OnOk, Some, slice_get};
+ghost use Rattle.std.specs.Prelude.{◌≡◌, ◌≤◌, [], length, map, take, true, IfOk, IsOk, IsTrue, OnErr, OnOk, Some, slice_get, unwrap_or};
 ghost use Rattle.h2_spec.specs.Stream.{is_live, kind_of, put, record_of};
 ghost use Rattle.h2_streams.specs.Brief.{AreBrief, brief};
 ghost use Rattle.h2_streams.specs.Joined as spec;
@@ -122,7 +122,7 @@ impl<A: Allocator> Base<A> {
         ensures { result ≡ slice_get (spec.with_base self.now own.now).streams place }
     {
         match self.records.at(place) {
-            Some(stream) => self.find(own, stream.id),
+            Some(stream) => Some(own_or(own, stream)),
             None => {
                 let rest = &own.as_slice()[self.front..];
                 record_at(rest, place - self.records.count()).copied()
@@ -137,6 +137,16 @@ impl<A: Allocator> Base<A> {
         ensures { result ≡ true → (self.now.front ≡ length own.now) × spec.AreKept self.now.records own.now }
     {
         self.front == own.len() && are_kept(&self.records, own)
+    }
+}
+
+/// One's own record of the same stream, or else this one.
+fn own_or<A: Allocator>(own: &OwnRecords<A>, stream: Stream) -> Stream
+    ensures { result ≡ unwrap_or (record_of own.now.streams stream.id) stream }
+{
+    match own.get(stream.id) {
+        Some(changed) => *changed,
+        None => stream,
     }
 }
 

@@ -121,7 +121,7 @@ pub(crate) fn record_in<'a, A: Allocator>(
 // What the map says is compared with the record there, so a look-up needs no law of the map.
 /// The place of the record with this identifier, if it is `recent` or the map has it.
 #[inline(always)]
-fn known_place<A: Allocator>(
+pub(crate) fn known_place<A: Allocator>(
     live: &IndexMap<u32, usize, IdHash, A>,
     records: &[Stream],
     recent: usize,
