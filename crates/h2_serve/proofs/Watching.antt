@@ -18,7 +18,6 @@ use Rattle.h2_explain.specs.declared.run.Form.{Form}
 use Rattle.h2_explain.specs.declared.run_explainer.RunExplainer.{RunExplainer}
 use Rattle.h2_explain.specs.declared.run.Summary.{Summary}
 use Rattle.h2_explain.proofs.Steps.{new-begins, new-explains}
-use Rattle.h2_explain_step.specs.declared.explainer.ItemExplainer.{ItemExplainer}
 use Rattle.h2_serve.specs.declared.explained.explained_conn.Conclusion.{Conclusion}
 use Rattle.h2_serve.specs.declared.fault.ServeFault.{ServeFault}
 use Rattle.h2_serve.specs.declared.fault.TextFault.{TextFault}
@@ -62,9 +61,9 @@ said-new form c e is new = (
 -- ---- a piece
 
 -- whatever is known of a read, the octets are those that were explained
-explained-read : {A : Type 0} (form : Form) (s : State) (b text : List ℕ) (c : Connection) (e : RunExplainer A) (read : ItemExplainer A)
-    → IsExplained false form s b c e text → IsExplained false form s b c (record e { explainer = read }) text
-explained-read form s b text c e read said =
+explained-read : {A : Type 0} (form : Form) (s : State) (b text : List ℕ) (c : Connection) (e e' : RunExplainer A) (begins : BeginsRead e e')
+    → IsExplained false form s b c e text → IsExplained false form s b c (record e { explainer = begins.0 }) text
+explained-read form s b text c e e' begins said =
     let x = said.1 in (
       said.0,
       record { after = x.after; stops = x.stops; items_are = x.items_are; offset_is = x.offset_is; held_is = x.held_is; left_is = x.left_is; tallied = x.tallied },
@@ -77,7 +76,7 @@ goes-read P c e e' begins p = λ form s b text said.
     let none = goes-none P c e p form s b text said in (
       none.0,
       subst (λ (x : RunExplainer A). IsExplained false form s (b ++ []) c x (text ++ none.0)) (sym begins.1)
-          (explained-read form s (b ++ []) (text ++ none.0) c e begins.0 none.1),
+          (explained-read form s (b ++ []) (text ++ none.0) c e e' begins none.1),
       none.2,
     )
 

@@ -109,7 +109,7 @@ goes-more refused P Q R c c' c'' e e' e'' a b join one two = λ form s o text sa
       join first.0 second.0 first.2 second.2,
     )
 
--- memory was refused: the same is said of more octets
+-- memory was refused: what is said holds for more octets too
 pub goes-cut : {A : Type 0} (P : List ℕ → Type 0) (c c' : Connection) (e e' : RunExplainer A) (a b : List ℕ)
     → GoesOn true c e P a c' e' → GoesOn true c e P (a ++ b) c' e'
 goes-cut P c c' e e' a b one = λ form s o text said.
