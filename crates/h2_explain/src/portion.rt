@@ -39,7 +39,8 @@ pub(crate) fn portion_of(phase: Phase, held: &[u8], octets: &[u8]) -> usize
 {
     let rest = match phase {
         Phase::Preface => preface_rest(held, octets),
-        Phase::Settings | Phase::Running | Phase::Ended(_) => frame_rest(phase, held, octets),
+        Phase::Settings | Phase::Running => frame_rest(phase, held, octets),
+        Phase::Ended(_) => octets.len(),
     };
     rest.max(1).min(octets.len())
 }
