@@ -1,5 +1,5 @@
 -- The special case of an item of a run.
-use Rattle.std.proofs.Common.{◌≡◌, ◌∙◌, Result, Ok, Err, ◌+◌, ◌-◌, ◌<◌, ◌≤◌, ◌||◌, ◌++◌, ℕ, zero, suc, Bool, true, false, List, [], ◌∷◌, drop, length, Option, Some, None, is_some, refl, sym, ap, subst, arith}
+use Rattle.std.proofs.Common.{◌≡◌, ◌∙◌, Result, Ok, Err, ◌+◌, ◌-◌, ◌<◌, ◌≤◌, ◌||◌, ◌++◌, ℕ, zero, suc, Bool, true, false, List, [], ◌∷◌, ◌⊎◌, inl, inr, drop, get_or, length, take, Option, Some, None, is_some, refl, sym, ap, subst, arith}
 use Rattle.h2_spec.specs.declared.causes.Cause.{Cause}
 use Rattle.h2_spec.specs.declared.causes.Cause.TheVariants.{ContinuationOutsideBlock, IntegerTooLong}
 use Rattle.h2_spec.specs.declared.ignored.Ignored.{Ignored}
@@ -18,6 +18,10 @@ use Rattle.h2_spec.specs.Stream.{stream_at}
 use Rattle.h2_spec.specs.Trace.{Event, next_item}
 use Rattle.h2_conn.specs.Connection.{Connection}
 use Rattle.h2_conn.specs.Shown.{Shows, checked_fields, fields_continued, fields_continued_in, fields_opened, item_fields, read_fields}
+use Rattle.std.proofs.lemmas.List.{take_more}
+use Rattle.std.proofs.lemmas.Option.{slice_get_cases}
+use Rattle.std.specs.List.{slice_get}
+use Rattle.h2_explain_item.proofs.FieldLaws.{facts-more}
 use Rattle.h2_explain_item.proofs.SpecialLaws.{other-facts}
 use Rattle.h2_explain_item.specs.CaseFacts.{facts_by, is_beyond_tables}
 use Rattle.h2_explain_item.specs.FieldFacts.{field_facts}
@@ -25,7 +29,7 @@ use Rattle.h2_explain_item.specs.declared.diagnosis.field_facts.FieldFacts.{Fiel
 use Rattle.h2_explain_item.specs.Special.{case_of_cause, special_reason}
 use Rattle.h2_explain_item.specs.declared.diagnosis.special.CaseFacts.{CaseFacts}
 use Rattle.h2_explain_item.specs.declared.diagnosis.special.Seen.{Seen}
-use Rattle.h2_debug.specs.Cases.{block_octets, case_after, case_at, ends_side, facts_in, fields_or_none, fragment_of, head_after, is_continuation, is_continued, fragment_of_next, is_ended_by, item_after, item_in, kind_at, leaves_ended, open_octets, opens, part_in, seen_in, shown_stream, shows_by, stream_in}
+use Rattle.h2_debug.specs.Cases.{block_octets, case_after, case_at, ends_side, facts_in, facts_with, fields_or_none, fragment_of, head_after, is_continuation, is_continued, fragment_of_next, is_ended_by, item_after, item_in, kind_at, leaves_ended, open_octets, opens, part_in, seen_in, shown_stream, shows_by, stream_in}
 use Rattle.h2_debug.specs.Items.{head_of_item}
 use Rattle.h2_debug.specs.Places.{Advances, IsAt, Placed, Source, at, cause_at, end, events, ignored_at}
 use Rattle.h2_debug.specs.declared.reasons.Reasons.{Reasons}
@@ -62,6 +66,17 @@ ended-step r id before after ended now x y e is step =
     let state : before.connection.state ≡ at r before.position = ap (λ (c : Connection). c.state) x.goes in
     let state' : after.connection.state ≡ at r after.position = ap (λ (c : Connection). c.state) y.goes in
     rw (state, state', is) at step ∙ sym (ended-next r id before.position after.position e)
+
+-- the facts of the first fields with one more
+pub facts-next : (fields : List Field) (i : ℕ) (facts : FieldFacts) (f : Option Field) → facts ≡ field_facts (take i fields) → i < length fields → f ≡ slice_get fields i
+    → facts_with facts f ≡ field_facts (take (i + 1) fields)
+facts-next fields i facts f is less at = by (slice_get_cases fields i).1
+  where
+    by : ((x : Field) × (i < length fields) × (slice_get fields i ≡ Some x) × (get_or fields i x ≡ x)) ⊎ ((length fields ≤ i) × (slice_get fields i ≡ None)) → facts_with facts f ≡ field_facts (take (i + 1) fields)
+    by (inl x) =
+        let more : take (i + 1) fields ≡ take i fields ++ x.0 ∷ [] = take_more fields i x.0 less ∙ ap (λ (y : Field). take i fields ++ y ∷ []) x.3 in
+        rw (at, x.2, is, more) (sym (facts-more (take i fields) x.0))
+    by (inr x) = absurd (omega (arith, less, x.0))
 
 -- ---- the fields that are shown
 
@@ -130,21 +145,21 @@ integer-case r p q case octets e within is block x =
 
 pub reason-case : (r : Source) (p q : ℕ) (reason : Ignored) (case : Option SpecialCase) → p ≡ q + 1 → p ≤ end r → cause_at r p ≡ None → ignored_at r p ≡ Some reason
     → case ≡ special_reason reason (is_ended_by r (stream_in (head_after r q)) q) → case ≡ case_at r p
-reason-case r p q reason case e within no is x =
+reason-case r p q reason case e within without is x =
     let there = item-there (events r) q (omega (arith, e, within)) in
     let item : Item = there.0 in
     let after : item_after r q ≡ Some item = there.1 in
     let next : p ≡ suc q = omega (arith, e) in
-    let no' : cause_at r (suc q) ≡ None = rw next at no in
+    let without' : cause_at r (suc q) ≡ None = rw next at without in
     let is' : ignored_at r (suc q) ≡ Some reason = rw next at is in
     let x' : case ≡ special_reason reason (is_ended_by r (stream_in (head_of_item item)) q) = rw after at x in
-    rw next (rw (after, no', is') x')
+    rw next (rw (after, without', is') x')
 
 none-after : (r : Source) (q : ℕ) (item : Option Item) (cause : Cause) (ignored : Option Ignored) → ((s : Seen) (f : CaseFacts) → case_of_cause cause s f ≡ None) → None ≡ case_after r q item (Some cause) ignored
 none-after r q None cause ignored none = refl
 none-after r q (Some item) cause ignored none = sym (none _ _)
 
--- a cause that has no special case
+-- a cause that has without special case
 pub no-error-case : (r : Source) (p : ℕ) (cause : Cause) → cause_at r p ≡ Some cause → ((s : Seen) (f : CaseFacts) → case_of_cause cause s f ≡ None) → None ≡ case_at r p
 no-error-case r zero cause is none = refl
 no-error-case r (suc q) cause is none = rw is (none-after r q (item_after r q) cause (ignored_at r (suc q)) none)
@@ -155,8 +170,8 @@ none-ignored r q (Some item) reason none = sym (none _)
 
 -- a reason that has none
 pub no-reason-case : (r : Source) (p : ℕ) (reason : Ignored) → cause_at r p ≡ None → ignored_at r p ≡ Some reason → ((after_end : Bool) → special_reason reason after_end ≡ None) → None ≡ case_at r p
-no-reason-case r zero reason no is none = refl
-no-reason-case r (suc q) reason no is none = rw (no, is) (none-ignored r q (item_after r q) reason none)
+no-reason-case r zero reason without is none = refl
+no-reason-case r (suc q) reason without is none = rw (without, is) (none-ignored r q (item_after r q) reason none)
 
 no-rule-after : (r : Source) (q : ℕ) (item : Option Item) → None ≡ case_after r q item None None
 no-rule-after r q None = refl
@@ -164,8 +179,8 @@ no-rule-after r q (Some item) = refl
 
 -- no error, and not ignored
 pub no-case : (r : Source) (p : ℕ) → cause_at r p ≡ None → ignored_at r p ≡ None → None ≡ case_at r p
-no-case r zero no none = refl
-no-case r (suc q) no none = rw (no, none) (no-rule-after r q (item_after r q))
+no-case r zero without none = refl
+no-case r (suc q) without none = rw (without, none) (no-rule-after r q (item_after r q))
 
 -- a place at which there is an error has an item before it
 pub error-later : (r : Source) (p : ℕ) (cause : Cause) → cause_at r p ≡ Some cause → 0 < p

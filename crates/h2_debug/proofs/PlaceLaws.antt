@@ -211,6 +211,10 @@ place-more r p x =
     let state : p.connection.state ≡ s = ap (λ (d : Connection). d.state) x.goes in
     rw state (item-follows s (next_item s (drop p.used r.octets)) (drop p.used r.octets) p.position (events r) refl x.later x.within)
 
+-- a connection at a place can take an item
+pub place-ready : (r : Source) (p : Placed) → IsAt r p → p.connection ≡ going p.connection.state []
+place-ready r p x = x.goes ∙ ap (λ (s : State). going s []) (sym (ap (λ (c : Connection). c.state) x.goes))
+
 -- ---- the item that follows
 
 item-in : (n : ℕ) (es more : List Event) (e : Event) → drop n es ≡ e ∷ more → item_in es n ≡ Some e.item

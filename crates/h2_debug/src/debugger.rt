@@ -609,15 +609,15 @@ impl<'b, A: Allocator + Copy> Debugger<'b, A> {
         self.present.reasons().ignored
     }
 
-    /// The special case of the error at the present position, an integer that is too long. All items up to it are taken once
-    /// more: it ends the connection.
-    fn integer_case(&mut self) -> Result<Option<SpecialCase>, AllocError>
-        requires { cause_at self.old.run self.old.position ≡ Some IntegerTooLong }
-        ensures case { IfOk result (λ case. case ≡ case_at self.old.run self.old.position) }
-        ensures same { self.new ≡ self.old }
+    /// The special case of the error at the present position, an integer that is too long; all items up to it are taken from
+    /// this place on.
+    fn integer_case_from(&self, mut place: Place<'b, A>) -> Result<Option<SpecialCase>, AllocError>
+        requires at { IsAt self.now.run place }
+        requires start { place.position ≡ 0 }
+        requires cause { cause_at self.now.run self.now.position ≡ Some IntegerTooLong }
+        ensures { IfOk result (λ case. case ≡ case_at self.now.run self.now.position) }
     {
         let position = self.present.position();
-        let mut place = self.start_for(0)?;
         let source = Source {
             book: self.book,
             config: self.config,
@@ -627,15 +627,31 @@ impl<'b, A: Allocator + Copy> Debugger<'b, A> {
         Ok(case_of_integer(octets.as_slice()))
     }
 
-    /// The special case of the error with this cause that the item at the present position is.
-    fn error_case(&mut self, cause: Cause) -> Result<Option<SpecialCase>, AllocError>
-        requires cause { cause_at self.old.run self.old.position ≡ Some cause }
-        requires other { cause ≡ IntegerTooLong → ⊥ }
+    /// The same. It ends the connection.
+    fn integer_case(&mut self) -> Result<Option<SpecialCase>, AllocError>
+        requires { cause_at self.old.run self.old.position ≡ Some IntegerTooLong }
         ensures case { IfOk result (λ case. case ≡ case_at self.old.run self.old.position) }
         ensures same { self.new ≡ self.old }
     {
-        let before = self.present.position().saturating_sub(1);
-        let mut place = self.start_for(before.saturating_sub(1))?;
+        let place = self.start_for(0)?;
+        self.integer_case_from(place)
+    }
+
+    /// The special case of the error with this cause that the item after a position is; the items up to it are taken from this
+    /// place on.
+    fn error_case_from(
+        &self,
+        mut place: Place<'b, A>,
+        before: usize,
+        cause: Cause,
+    ) -> Result<Option<SpecialCase>, AllocError>
+        requires at { IsAt self.now.run place }
+        requires ahead { place.position ≤ before - 1 }
+        requires last { self.now.position ≡ before + 1 }
+        requires cause { cause_at self.now.run self.now.position ≡ Some cause }
+        requires other { cause ≡ IntegerTooLong → ⊥ }
+        ensures { IfOk result (λ case. case ≡ case_at self.now.run self.now.position) }
+    {
         let source = Source {
             book: self.book,
             config: self.config,
@@ -650,6 +666,18 @@ impl<'b, A: Allocator + Copy> Debugger<'b, A> {
             cause,
             continued,
         )
+    }
+
+    /// The special case of the error with this cause that the item at the present position is.
+    fn error_case(&mut self, cause: Cause) -> Result<Option<SpecialCase>, AllocError>
+        requires cause { cause_at self.old.run self.old.position ≡ Some cause }
+        requires other { cause ≡ IntegerTooLong → ⊥ }
+        ensures case { IfOk result (λ case. case ≡ case_at self.old.run self.old.position) }
+        ensures same { self.new ≡ self.old }
+    {
+        let before = self.pos().saturating_sub(1);
+        let place = self.start_for(before.saturating_sub(1))?;
+        self.error_case_from(place, before, cause)
     }
 
     /// The special case of an error with this cause, if it is one; no memory is taken where it can't be.
@@ -668,8 +696,37 @@ impl<'b, A: Allocator + Copy> Debugger<'b, A> {
         }
     }
 
-    /// The special case of the item at the present position, which is ignored for this reason. All items up to it are taken
-    /// once more.
+    /// The special case of the item after a position, which is ignored for this reason: the items up to it are taken from one
+    /// place on for its stream, and from the start on for how the client's side of that ended.
+    fn reason_case_from(
+        &self,
+        mut last: Place<'b, A>,
+        mut first: Place<'b, A>,
+        before: usize,
+        reason: Ignored,
+    ) -> Result<Option<SpecialCase>, AllocError>
+        requires last_at { IsAt self.now.run last }
+        requires ahead { last.position ≤ before }
+        requires first_at { IsAt self.now.run first }
+        requires start { first.position ≡ 0 }
+        requires last { self.now.position ≡ before + 1 }
+        requires cause { cause_at self.now.run self.now.position ≡ None }
+        requires reason { ignored_at self.now.run self.now.position ≡ Some reason }
+        ensures { IfOk result (λ case. case ≡ case_at self.now.run self.now.position) }
+    {
+        let source = Source {
+            book: self.book,
+            config: self.config,
+            octets: self.octets.as_slice(),
+        };
+        advance_to(&source, &mut last, before)?;
+        let stream = next_stream(&source, &mut last)?;
+        let ended = is_ended_by(&source, &mut first, stream, before)?;
+        Ok(special_reason(reason, ended))
+    }
+
+    /// The special case of the item at the present position, which is ignored for this reason; no memory is taken where it
+    /// can't be one.
     fn reason_case(&mut self, reason: Ignored) -> Result<Option<SpecialCase>, AllocError>
         requires cause { cause_at self.old.run self.old.position ≡ None }
         requires reason { ignored_at self.old.run self.old.position ≡ Some reason }
@@ -680,18 +737,10 @@ impl<'b, A: Allocator + Copy> Debugger<'b, A> {
         if !has_reason_cases(reason) {
             return Ok(None);
         }
-        let before = self.present.position().saturating_sub(1);
-        let mut last = self.start_for(before)?;
-        let mut first = self.start_for(0)?;
-        let source = Source {
-            book: self.book,
-            config: self.config,
-            octets: self.octets.as_slice(),
-        };
-        advance_to(&source, &mut last, before)?;
-        let stream = next_stream(&source, &mut last)?;
-        let ended = is_ended_by(&source, &mut first, stream, before)?;
-        Ok(special_reason(reason, ended))
+        let before = self.pos().saturating_sub(1);
+        let last = self.start_for(before)?;
+        let first = self.start_for(0)?;
+        self.reason_case_from(last, first, before, reason)
     }
 
     /// Which special case the error of the item that leads to the present position is, or why it was ignored, if it is one:
@@ -706,8 +755,7 @@ impl<'b, A: Allocator + Copy> Debugger<'b, A> {
         ensures fault { IfErr result (λ fault. fault ≡ NoMemory) }
         ensures same { self.new ≡ self.old }
     {
-        let reasons = self.present.reasons();
-        match (reasons.cause, reasons.ignored) {
+        match (self.cause(), self.ignored()) {
             (Some(cause), _) => Ok(self.cause_case(cause)?),
             (None, Some(reason)) => Ok(self.reason_case(reason)?),
             (None, None) => Ok(None),

@@ -1,9 +1,10 @@
 //! Which special case the rule of the item after a place is: what was before it is found by taking the items up to it once
 //! more. Definitions: `specs/Cases.antt`.
 
-ghost use Rattle.std.specs.Prelude.{◌≡◌, ◌++◌, ◌+◌, ◌-◌, ◌<◌, ◌≤◌, ℕ, List, [], true, IfOk, OnOk, Some, is_some, min, option_map};
+ghost use Rattle.std.specs.Prelude.{◌≡◌, ◌++◌, ◌+◌, ◌-◌, ◌<◌, ◌≤◌, ℕ, List, [], Bool, true, IfOk, OnOk, Some, is_some, min, option_map};
 ghost use Rattle.h2_spec.specs.Effect.{cause_of};
-ghost use Rattle.h2_spec.specs.Frames.Frame.{Got, Item, WholeFrame};
+ghost use Rattle.h2_spec.specs.Frames.Frame as frames;
+ghost use Rattle.h2_spec.specs.Frames.Frame.{Got, WholeFrame};
 ghost use Rattle.h2_spec.specs.Texts.View.{shown_block};
 ghost use Rattle.h2_spec.specs.ReactionTable.{headers_cell};
 ghost use Rattle.h2_spec.specs.declared.causes.Cause.{Cause};
@@ -231,15 +232,23 @@ fn fragment_in<'o>(part: Option<Part<'o>>) -> &'o [u8]
     }
 }
 
+/// The facts of fields with one more, if there is one.
+fn facts_with(facts: FieldFacts, field: Option<(&[u8], &[u8])>) -> FieldFacts
+    ensures { result ≡ spec.facts_with facts (option_map spec.field_lent field.entry) }
+{
+    match field {
+        Some((name, value)) => facts.with(name, value),
+        None => facts,
+    }
+}
+
 /// The facts of fields that the connection has decoded.
 fn facts_of_fields<A: Allocator>(fields: &Collected<A>) -> FieldFacts
     ensures { result ≡ field_facts fields.now.fields }
 {
     let mut facts = FieldFacts::none();
     for place in 0..fields.len() {
-        if let Some((name, value)) = fields.get(place) {
-            facts = facts.with(name, value);
-        }
+        facts = facts_with(facts, fields.get(place));
     }
     facts
 }
@@ -265,12 +274,12 @@ fn opens_block(id: u32, kind: StreamState) -> bool
 }
 
 /// Whether a payload shows fields of its block: HEADERS where they open one, CONTINUATION where one is open.
-fn is_shown(part: Result<Part<'_>, Cause>, opens: bool, open: bool) -> bool
-    ensures { result ≡ spec.shows_by opens open (seen part_seen part.entry) }
+fn is_shown(part: Result<Part<'_>, Cause>, opens: bool, is_open: bool) -> bool
+    ensures { result ≡ spec.shows_by opens is_open (seen part_seen part.entry) }
 {
     match part {
         Ok(Part::Headers(_)) => opens,
-        Ok(Part::Continuation(_)) => open,
+        Ok(Part::Continuation(_)) => is_open,
         _ => false,
     }
 }
@@ -347,10 +356,10 @@ fn fragment_ahead<'o, A: Allocator + Copy>(conn: &Conn<'_, A>, octets: &'o [u8])
 }
 
 /// Forgets the octets of a block that is open no more.
-fn clear_unless_open<A: Allocator>(open: Option<BlockView>, block: &mut Vec<u8, A>)
-    ensures { block.new.items ≡ spec.open_octets open block.old.items }
+fn clear_unless_open<A: Allocator>(shown: Option<BlockView>, block: &mut Vec<u8, A>)
+    ensures { block.new.items ≡ spec.open_octets shown block.old.items }
 {
-    if open.is_none() {
+    if shown.is_none() {
         block.clear();
     }
 }
@@ -400,7 +409,7 @@ pub fn case_ahead<A: Allocator + Copy>(
 ) -> Result<Option<SpecialCase>, AllocError>
     requires ready { conn.now ≡ going conn.now.state [] }
     requires other { cause ≡ IntegerTooLong → ⊥ }
-    ensures { IfOk result (λ case. (item : Item) (used : ℕ) → next_item conn.now.state octets.now ≡ Got item used → cause_of conn.now.state item ≡ Some cause
+    ensures { IfOk result (λ case. (item : frames.Item) (used : ℕ) → next_item conn.now.state octets.now ≡ Got item used → cause_of conn.now.state item ≡ Some cause
         → (block : List ℕ) (after_end : Bool) → case ≡ case_of_cause cause (seen_in conn.now.state (head_of_item item)) (facts_in continued conn.now.state item block after_end)) }
 {
     let Some((item, _)) = item_ahead(conn, octets) else {
