@@ -159,7 +159,7 @@ none-after : (r : Source) (q : ℕ) (item : Option Item) (cause : Cause) (ignore
 none-after r q None cause ignored none = refl
 none-after r q (Some item) cause ignored none = sym (none _ _)
 
--- a cause that has without special case
+-- a cause that has no special case
 pub no-error-case : (r : Source) (p : ℕ) (cause : Cause) → cause_at r p ≡ Some cause → ((s : Seen) (f : CaseFacts) → case_of_cause cause s f ≡ None) → None ≡ case_at r p
 no-error-case r zero cause is none = refl
 no-error-case r (suc q) cause is none = rw is (none-after r q (item_after r q) cause (ignored_at r (suc q)) none)

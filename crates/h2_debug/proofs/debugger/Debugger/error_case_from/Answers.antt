@@ -6,13 +6,13 @@ use Rattle.h2_debug.proofs.CaseLaws.{error-case}
 use Rattle.h2_debug.proofs.PlaceLaws.{place-ready}
 use Rattle.h2_debug.proofs.debugger.Debugger.error_case_from.Goals as goal
 
-pub advance_until-continued-requires-clause-at : goal.advance_until-continued-requires-clause-at
-advance_until-continued-requires-clause-at g c =
+pub advance_until-requires-clause-at : goal.advance_until-requires-clause-at
+advance_until-requires-clause-at g c =
     let at = subst (λ (d : Debugging). IsAt d.run c.args.place) (sym c.self.view_is) c.requires.at in
     rw c.as_slice.ensures.value at
 
-pub advance_until-continued-requires-clause-within : goal.advance_until-continued-requires-clause-within
-advance_until-continued-requires-clause-within g c =
+pub advance_until-requires-clause-within : goal.advance_until-requires-clause-within
+advance_until-requires-clause-within g c =
     let last = subst (λ (d : Debugging). d.position ≡ c.args.before + 1) (sym c.self.view_is) c.requires.last in
     rw c.as_slice.ensures.value (omega (arith, last, c.self.invariant.now.within))
 

@@ -5,13 +5,13 @@ use Rattle.h2_debug.specs.Places.{IsAt, cause_at}
 use Rattle.h2_debug.proofs.CaseLaws.{error-later, integer-case}
 use Rattle.h2_debug.proofs.debugger.Debugger.integer_case_from.Goals as goal
 
-pub block_octets-octets-requires-clause-at : goal.block_octets-octets-requires-clause-at
-block_octets-octets-requires-clause-at g c =
+pub block_octets-requires-clause-at : goal.block_octets-requires-clause-at
+block_octets-requires-clause-at g c =
     let at = subst (λ (d : Debugging). IsAt d.run c.args.place) (sym c.self.view_is) c.requires.at in
     rw c.as_slice.ensures.value at
 
-pub block_octets-octets-requires-clause-within : goal.block_octets-octets-requires-clause-within
-block_octets-octets-requires-clause-within g c = rw (c.as_slice.ensures.value, c.position-position.ensures) c.self.invariant.now.within
+pub block_octets-requires-clause-within : goal.block_octets-requires-clause-within
+block_octets-requires-clause-within g c = rw (c.as_slice.ensures.value, c.position-position.ensures) c.self.invariant.now.within
 
 pub returns : goal.returns
 returns g c =

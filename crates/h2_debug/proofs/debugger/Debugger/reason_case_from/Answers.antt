@@ -9,19 +9,19 @@ advance_to-requires-clause-at g c =
     let at = subst (λ (d : Debugging). IsAt d.run c.args.last) (sym c.self.view_is) c.requires.last_at in
     rw c.as_slice.ensures.value at
 
-pub next_stream-stream-requires-clause-more : goal.next_stream-stream-requires-clause-more
-next_stream-stream-requires-clause-more g c =
+pub next_stream-requires-clause-more : goal.next_stream-requires-clause-more
+next_stream-requires-clause-more g c =
     let last = subst (λ (d : Debugging). d.position ≡ c.args.before + 1) (sym c.self.view_is) c.requires.last in
     let here = rw c.as_slice.ensures.value at c.in_ok-advance_to.ensures.position in
     rw c.as_slice.ensures.value (omega (arith, here, last, c.self.invariant.now.within))
 
-pub is_ended_by-ended-requires-clause-at : goal.is_ended_by-ended-requires-clause-at
-is_ended_by-ended-requires-clause-at g c =
+pub is_ended_by-requires-clause-at : goal.is_ended_by-requires-clause-at
+is_ended_by-requires-clause-at g c =
     let at = subst (λ (d : Debugging). IsAt d.run c.args.first) (sym c.self.view_is) c.requires.first_at in
     rw c.as_slice.ensures.value at
 
-pub is_ended_by-ended-requires-clause-within : goal.is_ended_by-ended-requires-clause-within
-is_ended_by-ended-requires-clause-within g c =
+pub is_ended_by-requires-clause-within : goal.is_ended_by-requires-clause-within
+is_ended_by-requires-clause-within g c =
     let last = subst (λ (d : Debugging). d.position ≡ c.args.before + 1) (sym c.self.view_is) c.requires.last in
     rw c.as_slice.ensures.value (omega (arith, last, c.self.invariant.now.within))
 
