@@ -226,10 +226,7 @@ pub fn read_contents<F: Files>(
 pub fn copy_of(alloc: Global, text: &str) -> Result<Octets<Global>, AllocError>
     ensures { IfOk result (λ octets. octets ≡ text.now) }
 {
-    match text.as_bytes().to_vec(alloc) {
-        Ok(octets) => Ok(Octets::new(octets)),
-        Err(error) => Err(error),
-    }
+    Ok(Octets::new(text.as_bytes().to_vec(alloc)?))
 }
 
 /// The octets that pairs of hex digits write.
@@ -237,10 +234,9 @@ fn read_hex(alloc: Global, digits: &[u8]) -> Result<Vec<u8>, AllocError>
     requires { IsTrue (is_some (octets_in_hex digits.now)) }
     ensures { IfOk result (λ octets. octets_in_hex digits.now ≡ Some octets.items) }
 {
-    match octets_of(alloc, digits) {
-        Ok(Some(octets)) => Ok(octets),
-        Ok(None) => unreachable!(),
-        Err(error) => Err(error),
+    match octets_of(alloc, digits)? {
+        Some(octets) => Ok(octets),
+        None => unreachable!(),
     }
 }
 

@@ -68,13 +68,9 @@ pub fn read_headers(alloc: Global, pairs: &[Value]) -> Result<Vec<Field<Global>>
 fn field_from(alloc: Global, name: &str, value: &str) -> Result<Field<Global>, AllocError>
     ensures { IfOk result (λ f. f ≡ field name.now value.now) }
 {
-    let Ok(name) = name.as_bytes().to_vec(alloc) else {
-        return Err(AllocError);
-    };
-    match value.as_bytes().to_vec(alloc) {
-        Ok(value) => Ok(Field::new(name, value)),
-        Err(error) => Err(error),
-    }
+    let name = name.as_bytes().to_vec(alloc)?;
+    let value = value.as_bytes().to_vec(alloc)?;
+    Ok(Field::new(name, value))
 }
 
 /// A name and a value, from an array of two strings.

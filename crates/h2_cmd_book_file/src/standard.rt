@@ -87,10 +87,7 @@ fn put_new<R: rt::Files>(
     octets: &[u8],
     permissions: Permissions,
 ) -> io::Result<()> {
-    let mut file = match new_file(runtime, beside) {
-        Ok(file) => file,
-        Err(error) => return Err(error),
-    };
+    let mut file = new_file(runtime, beside)?;
     let written = match write_whole(&mut file, octets, permissions) {
         Ok(()) => runtime.rename(beside, path),
         Err(error) => Err(error),
@@ -108,18 +105,10 @@ fn replace_file<R: rt::Files>(
     path: &str,
     octets: &[u8],
 ) -> io::Result<()> {
-    let path = match runtime.canonicalize(alloc, path) {
-        Ok(path) => path,
-        Err(error) => return Err(error),
-    };
-    let permissions = match runtime.metadata(path.as_str()) {
-        Ok(about) => about.permissions(),
-        Err(error) => return Err(error),
-    };
-    match format!(in alloc; "{}.blessed", path.as_str()) {
-        Ok(beside) => put_new(runtime, path.as_str(), beside.as_str(), octets, permissions),
-        Err(error) => Err(io::Error::from(error)),
-    }
+    let path = runtime.canonicalize(alloc, path)?;
+    let permissions = runtime.metadata(path.as_str())?.permissions();
+    let beside = format!(in alloc; "{}.blessed", path.as_str())?;
+    put_new(runtime, path.as_str(), beside.as_str(), octets, permissions)
 }
 
 /// All that a reader has left, at most `most` octets.
