@@ -1,11 +1,12 @@
-//! The result of a case on a server, as TAP: a line with the verdict, and what is to be said about items in YAML.
+//! What is said of a case behind the line of its result, in YAML. No definition speaks of these texts.
 
+use crate::ends::{CaseEnd, Refusal, Skip};
 use h2_cmd_items::sent::Sent;
 use h2_cmd_judge::case::{Finding, Judgement};
 use h2_cmd_judge::judge::{Reaction, Unseen, Verdict};
 use h2_explain_text::others::no_errors;
 use h2_explain_words::names::Code;
-use h2_io::say::{EscapedText, Say, TextBuilder};
+use h2_io::say::{Say, TextBuilder};
 use h2_io::say_all;
 use h2_spec::conforming::{Codes, Observed, Reactions};
 use h2_spec::rules::ServerDuty;
@@ -84,7 +85,7 @@ fn unseen_words(why: Unseen) -> &'static str {
 }
 
 /// The word of a verdict.
-pub(crate) fn verdict_word(verdict: Verdict) -> &'static str {
+fn verdict_word(verdict: Verdict) -> &'static str {
     match verdict {
         Verdict::Same => "same",
         Verdict::Allowed => "allowed",
@@ -170,15 +171,6 @@ fn say_findings(judged: &[Sent], judgement: &Judgement, out: &mut TextBuilder) {
     "  ...\n".say(out);
 }
 
-/// The line of a result.
-fn say_line(is_ok: bool, number: u64, file: &str, title: Option<&[u8]>, out: &mut TextBuilder) {
-    let word = if is_ok { "ok " } else { "not ok " };
-    say_all!(out; word, number, " - ", EscapedText(file.as_bytes()));
-    if let Some(title) = title {
-        say_all!(out; ": ", EscapedText(title));
-    }
-}
-
 /// Why a case is skipped, in words: as for its first item.
 fn skip_words(judgement: &Judgement) -> &'static str {
     for finding in judgement.findings.as_slice() {
@@ -189,178 +181,47 @@ fn skip_words(judgement: &Judgement) -> &'static str {
     "no item is judged"
 }
 
-/// The text of the result of a case.
-pub(crate) fn result_text(
-    alloc: Global,
-    number: u64,
-    file: &str,
-    title: Option<&[u8]>,
-    judged: &[Sent],
-    judgement: &Judgement,
-) -> Result<String, AllocError> {
-    let mut out = TextBuilder::with(alloc, true);
-    match judgement.verdict {
-        Verdict::Same => {
-            say_line(true, number, file, title, &mut out);
-            "\n".say(&mut out);
-        }
-        Verdict::Allowed => {
-            say_line(true, number, file, title, &mut out);
-            "\n".say(&mut out);
-            say_findings(judged, judgement, &mut out);
-        }
-        Verdict::Doubtful => {
-            say_line(false, number, file, title, &mut out);
-            " # TODO doubtful\n".say(&mut out);
-            say_findings(judged, judgement, &mut out);
-        }
-        Verdict::Broken => {
-            say_line(false, number, file, title, &mut out);
-            "\n".say(&mut out);
-            say_findings(judged, judgement, &mut out);
-        }
-        Verdict::Skipped(_) => {
-            say_line(true, number, file, title, &mut out);
-            say_all!(&mut out; " # SKIP ", skip_words(judgement), "\n");
-        }
+/// Why a case is passed over, in words.
+fn passed_words(why: Skip) -> &'static str {
+    match why {
+        Skip::SendsNothing => "it sends nothing",
+        Skip::OtherOctets => "the client sent other octets",
+        Skip::Cut => "it took more than 5 s, or more than 16 MiB came",
     }
-    out.finish()
 }
 
-/// The text of the result of a case that is not played, for this reason.
-pub(crate) fn skipped_text(
-    alloc: Global,
-    number: u64,
-    file: &str,
-    title: Option<&[u8]>,
-    is_ok: bool,
-    why: &str,
-) -> Result<String, AllocError> {
-    let mut out = TextBuilder::with(alloc, true);
-    say_line(is_ok, number, file, title, &mut out);
-    if is_ok {
-        say_all!(&mut out; " # SKIP ", why, "\n");
+/// Why a case can't be played, in words.
+fn refusal_words(why: &Refusal) -> &str {
+    match why {
+        Refusal::NothingListens => "nothing listens on the port any more",
+        Refusal::BadLimits => "a limit or a setting is out of range",
+        Refusal::Unread => "the file can't be read",
+        Refusal::TooLong => "the file has more than 16777216 octets",
+        Refusal::NoText => "the file is not UTF-8",
+        Refusal::Words(why) => why.as_str(),
+    }
+}
+
+/// What is said of a verdict behind its line.
+fn say_judged(sent: &[Sent], judgement: &Judgement, out: &mut TextBuilder) {
+    if let Verdict::Skipped(_) = judgement.verdict {
+        say_all!(out; skip_words(judgement), "\n");
     } else {
-        say_all!(&mut out; "\n  ---\n  - found: ", why, "\n  ...\n");
+        say_findings(sent, judgement, out);
     }
-    out.finish()
 }
 
-/// A rule that a server broke, and in how many cases.
-#[derive(Clone, Copy)]
-struct Fault {
-    name: &'static str,
-    section: &'static str,
-    count: u64,
-}
-
-/// What is said at the end.
-#[derive(Drop)]
-pub(crate) struct Sums {
-    same: u64,
-    allowed: u64,
-    doubtful: u64,
-    broken: u64,
-    skipped: u64,
-    /// How many cases can't be played.
-    refused: u64,
-    faults: Vec<Fault>,
-}
-
-impl Sums {
-    /// No case yet.
-    pub(crate) fn new(alloc: Global) -> Sums {
-        Sums {
-            same: 0,
-            allowed: 0,
-            doubtful: 0,
-            broken: 0,
-            skipped: 0,
-            refused: 0,
-            faults: Vec::new(alloc),
+/// What is said of a case with these items behind the line of its result.
+///
+/// `AllocError` where memory is refused.
+pub fn details(alloc: Global, sent: &[Sent], end: &CaseEnd) -> Result<Vec<u8>, AllocError> {
+    let mut out = TextBuilder::with(alloc, true);
+    match end {
+        CaseEnd::Judged(judgement) => say_judged(sent, judgement, &mut out),
+        CaseEnd::Skipped(why) => say_all!(&mut out; passed_words(*why), "\n"),
+        CaseEnd::Refused(why) => {
+            say_all!(&mut out; "  ---\n  - found: ", refusal_words(why), "\n  ...\n")
         }
     }
-
-    /// A case was passed over.
-    pub(crate) fn skip(&mut self) {
-        self.skipped = self.skipped.saturating_add(1);
-    }
-
-    /// A case can't be played.
-    pub(crate) fn refuse(&mut self) {
-        self.refused = self.refused.saturating_add(1);
-    }
-
-    /// Whether nothing is broken, and each case can be played.
-    pub(crate) fn is_passed(&self) -> bool {
-        self.broken == 0 && self.refused == 0
-    }
-
-    /// A rule was broken.
-    fn add_fault(&mut self, name: &'static str, section: &'static str) -> Result<(), AllocError> {
-        for fault in self.faults.as_mut_slice().iter_mut() {
-            if fault.name == name {
-                fault.count = fault.count.saturating_add(1);
-                return Ok(());
-            }
-        }
-        match self.faults.push(Fault {
-            name,
-            section,
-            count: 1,
-        }) {
-            Ok(()) => Ok(()),
-            Err(_) => Err(AllocError),
-        }
-    }
-
-    /// The first rule that was broken in a case.
-    fn add_faults(&mut self, judged: &[Sent], judgement: &Judgement) -> Result<(), AllocError> {
-        if judgement.stray.is_some() {
-            return self.add_fault("rst-stream-on-idle", "RFC 9113 6.4");
-        }
-        if judgement.unreadable.is_some() {
-            return self.add_fault("unreadable-block", "RFC 9113 4.3");
-        }
-            for (sent, finding) in judged.iter().zip(judgement.findings.as_slice()) {
-            if let Verdict::Broken = finding.verdict {
-                return self.add_fault(sent.row.name, sent.row.section);
-            }
-        }
-        Ok(())
-    }
-
-    /// A case was judged.
-    pub(crate) fn add(
-        &mut self,
-        judged: &[Sent],
-        judgement: &Judgement,
-    ) -> Result<(), AllocError> {
-        let count = match judgement.verdict {
-            Verdict::Same => &mut self.same,
-            Verdict::Allowed => &mut self.allowed,
-            Verdict::Doubtful => &mut self.doubtful,
-            Verdict::Broken => &mut self.broken,
-            Verdict::Skipped(_) => &mut self.skipped,
-        };
-        *count = count.saturating_add(1);
-        if let Verdict::Broken = judgement.verdict {
-            return self.add_faults(judged, judgement);
-        }
-        Ok(())
-    }
-
-    /// The lines at the end, each a comment of TAP: the rules that were broken, and then how many cases there are of each
-    /// verdict.
-    pub(crate) fn text(&self, alloc: Global) -> Result<String, AllocError> {
-        let mut out = TextBuilder::with(alloc, true);
-        for fault in self.faults.as_slice() {
-            say_all!(&mut out; "# broken: ", fault.name, ", ", fault.section);
-            say_all!(&mut out; ": cases ", fault.count, "\n");
-        }
-        say_all!(&mut out; "# same ", self.same, ", allowed ", self.allowed);
-        say_all!(&mut out; ", doubtful ", self.doubtful, ", broken ", self.broken);
-        say_all!(&mut out; ", skipped ", self.skipped, "\n");
-        out.finish()
-    }
+    out.into_octets()
 }
