@@ -184,11 +184,15 @@ unfoldable pub rule_text : Rule → List ℕ
 rule_text r =
     codes "# broken: " ++ broken_name r.broken ++ codes ", " ++ broken_section r.broken ++ codes ": cases " ++ decimal r.count ++ codes "\n"
 
+unfoldable pub unbroken_text : Counts → List ℕ
+unbroken_text c = codes "# same " ++ decimal c.same ++ codes ", allowed " ++ decimal c.allowed ++ codes ", doubtful " ++ decimal c.doubtful
+
+unfoldable pub others_text : Counts → List ℕ
+others_text c = codes ", broken " ++ decimal c.broken ++ codes ", skipped " ++ decimal c.skipped ++ codes "\n1.." ++ decimal c.all ++ codes "\n"
+
 -- how many there are of each kind, and how many in all
-unfoldable pub counts_text : Counts → List ℕ
-counts_text c =
-    codes "# same " ++ decimal c.same ++ codes ", allowed " ++ decimal c.allowed ++ codes ", doubtful " ++ decimal c.doubtful
-    ++ codes ", broken " ++ decimal c.broken ++ codes ", skipped " ++ decimal c.skipped ++ codes "\n1.." ++ decimal c.all ++ codes "\n"
+abbrev pub counts_text : Counts → List ℕ
+counts_text c = unbroken_text c ++ others_text c
 
 -- the lines behind the results
 abbrev pub end_text : Counts → List Rule → List ℕ

@@ -2,7 +2,7 @@
 
 ghost use Rattle.std.specs.Prelude.{◌≡◌, ◌++◌, IfOk, OnOk, false, flat_map, is_err, map};
 ghost use Rattle.std.specs.List.{position};
-ghost use Rattle.h2_cmd_against.specs.Results.{broken_by, broken_in, broken_name, broken_section, counted, counted_if, counts_text, end_text, first_broken, have_name, is_broken, is_named, is_passed, named, named_at, no_counts, rule_text, with_broken, with_rule, with_skipped, with_verdict};
+ghost use Rattle.h2_cmd_against.specs.Results.{broken_by, broken_in, broken_name, broken_section, counted, counted_if, counts_text, end_text, first_broken, have_name, is_broken, is_named, is_passed, named, named_at, no_counts, others_text, rule_text, unbroken_text, with_broken, with_rule, with_skipped, with_verdict};
 
 use crate::ends::CaseEnd;
 use h2_cmd_items::sent::Sent;
@@ -77,30 +77,41 @@ impl Text for Rule {
     }
 }
 
-#[tactic(auto, unfolding(crate::specs::Results::counts_text))]
+/// The first half of the line of counts: what did not break a rule.
+#[derive(Clone, Copy)]
+struct Unbroken(Counts);
+
+#[tactic(auto, unfolding(crate::specs::Results::unbroken_text))]
+impl Text for Unbroken {
+    ghost text = { λ u. unbroken_text u.0 };
+
+    fn write_to<O: Output>(&self, output: &mut O) -> Result<(), DeviceFault> {
+        let (same, allowed) = (Number(self.0.same), Number(self.0.allowed));
+        let doubtful = Number(self.0.doubtful);
+        texts!("# same ", same, ", allowed ", allowed, ", doubtful ", doubtful).write_to(output)
+    }
+}
+
+/// The second half, and how many there are in all.
+#[derive(Clone, Copy)]
+struct Others(Counts);
+
+#[tactic(auto, unfolding(crate::specs::Results::others_text))]
+impl Text for Others {
+    ghost text = { λ o. others_text o.0 };
+
+    fn write_to<O: Output>(&self, output: &mut O) -> Result<(), DeviceFault> {
+        let (broken, skipped) = (Number(self.0.broken), Number(self.0.skipped));
+        let all = Number(self.0.all);
+        texts!(", broken ", broken, ", skipped ", skipped, "\n1..", all, "\n").write_to(output)
+    }
+}
+
 impl Text for Counts {
     ghost text = { λ c. counts_text c };
 
     fn write_to<O: Output>(&self, output: &mut O) -> Result<(), DeviceFault> {
-        let (same, allowed) = (Number(self.same), Number(self.allowed));
-        let (doubtful, broken) = (Number(self.doubtful), Number(self.broken));
-        let (skipped, all) = (Number(self.skipped), Number(self.all));
-        texts!(
-            "# same ",
-            same,
-            ", allowed ",
-            allowed,
-            ", doubtful ",
-            doubtful,
-            ", broken ",
-            broken,
-            ", skipped ",
-            skipped,
-            "\n1..",
-            all,
-            "\n"
-        )
-        .write_to(output)
+        texts!(Unbroken(*self), Others(*self)).write_to(output)
     }
 }
 
