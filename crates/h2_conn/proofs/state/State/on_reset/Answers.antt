@@ -20,7 +20,7 @@ live : (stream at : Stream) → stream ≡ at → is_live stream.kind ≡ true �
 live stream at same h = subst (λ (st : Stream). is_live st.kind ≡ true) same h
 
 pub reset-requires-clause-live : goal.reset-requires-clause-live
-reset-requires-clause-live g c = live _ _ (rw c.look_up.ensures at c.stream_at.ensures.value) (c.only_resets.ensures.live c.if-only_resets.true)
+reset-requires-clause-live g c = live _ _ c.stream_at-stream.ensures.value (c.only_resets.ensures.live c.if-only_resets.true)
 
 -- nothing is sent
 pub returns-then-only_resets : goal.returns-then-only_resets
@@ -31,11 +31,11 @@ returns-then-only_resets g c =
     let idle = none-ready (open_window s.core) s.streams (c.only_resets.ensures.idle c.if-only_resets.true) in
     let none = none-put (open_window s.core) (reset_as true st) s.streams (reset-waits st) idle in
     rw (sym c.look_up.ensures) (settles-quietly s c.reset.new.self (puts s.core (reset_as true st)) (on_reset s.core st) _ (g.O.Outgoing.octets c.args.out.now)
-    (resets-rule s.core st (live _ _ c.stream_at.ensures.value (c.only_resets.ensures.live c.if-only_resets.true))) refl refl none c.reset.ensures)
+    (resets-rule s.core st (live _ _ c.stream_at-stream.ensures.value (c.only_resets.ensures.live c.if-only_resets.true))) refl refl none c.reset.ensures)
 
 pub conclude_leaving_counts-requires : goal.conclude_leaving_counts-requires
-conclude_leaving_counts-requires g c = let s = c.look_up.new.self in λ k. ((refl, tt), (subst (λ (x : State). IsStopped x.block) (sym c.look_up.ensures) c.requires.stopped, (sound-by s _ _ c.core.ensures.counts (c.on_reset-reaction.ensures.sound s.book (records s) c.stream_at.ensures.found), leaves-by _ _ _ _ c.on_reset-reaction.ensures.rule c.core.ensures.counts (reset-leaves _ _))))
+conclude_leaving_counts-requires g c = let s = c.look_up.new.self in λ k. ((refl, tt), (subst (λ (x : State). IsStopped x.block) (sym c.look_up.ensures) c.requires.stopped, (sound-by s _ _ c.core.ensures.counts (c.on_reset-reaction.ensures.sound s.book (records s) c.stream_at-stream.ensures.found), leaves-by _ _ _ _ c.on_reset-reaction.ensures.rule c.core.ensures.counts (reset-leaves _ _))))
 
 -- looking the record up changes nothing
 pub returns : goal.returns
-returns g c = rw (c.on_reset-reaction.ensures.rule, c.core.ensures.counts, c.stream_at.ensures.value, c.look_up.ensures) at c.conclude_leaving_counts.ensures
+returns g c = rw (c.on_reset-reaction.ensures.rule, c.core.ensures.counts, c.stream_at-stream.ensures.value, c.look_up.ensures) at c.conclude_leaving_counts.ensures
