@@ -1,18 +1,20 @@
 -- The results of cases and of files, one after another.
-use Rattle.std.proofs.Common.{◌≡◌, ◌<◌, ◌≤◌, ◌+◌, ◌++◌, ℕ, Bool, true, false, List, [], ◌∷◌, Option, Some, None, length, map, take, drop, drop-cons, get_or, Bor, add-one, le-ltb, lt-ltb, refl, sym, subst, inl, inr, append_assoc, ap}
+use Rattle.std.proofs.Common.{◌≡◌, ◌∙◌, ◌<◌, ◌≤◌, ◌+◌, ◌++◌, ℕ, Bool, true, false, List, [], ◌∷◌, Option, Some, None, OnOk, Result, Ok, Err, length, map, take, drop, drop-cons, get_or, Bor, add-one, le-ltb, lt-ltb, refl, sym, subst, inl, inr, append_assoc, ap}
+use Rattle.std.proofs.lemmas.Grind.{flat_map-append}
 use Rattle.std.proofs.lemmas.List.{append-nil, drop_all, map-append}
+use Rattle.std.proofs.lemmas.Str.{IsUtf8-from_is_utf8}
 use Rattle.std.specs.Option.{IsSomeAnd}
-use Rattle.std.specs.Str.{is_utf8}
+use Rattle.std.specs.Str.{IsUtf8, is_utf8}
 use Rattle.h2_spec.specs.Requests.Answer.{Entry}
-use Rattle.h2_cmd_batch.specs.Input.{most}
+use Rattle.h2_io.specs.Limit.{most}
 use Rattle.h2_cmd_book_file.specs.Entries.{Directory}
 use Rattle.h2_cmd_cases.specs.Files.{case_length, cases_from}
 use Rattle.h2_cmd_cases.proofs.CaseLists.{case-at, none-left}
 use Rattle.h2_cmd_check.specs.JUnit.{FileResults, results_in}
 use Rattle.h2_cmd_check.specs.declared.junit.Suite.{Suite}
 use Rattle.h2_cmd_exchange.specs.Links.{LinkEvent}
-use Rattle.h2_cmd_against.specs.Files.{JudgesAll, JudgesCase, JudgesOne, cases_if, cases_with}
-use Rattle.h2_cmd_against.specs.Program.{AreSuites, IsSuite}
+use Rattle.h2_cmd_against.specs.Files.{JudgesAll, JudgesCase, RefusesFor, cases_if, cases_with}
+use Rattle.h2_cmd_against.specs.Program.{AreSuites, IsSuite, texts}
 use Rattle.h2_cmd_against.specs.Results.{SoFar}
 use Rattle.h2_cmd_against.specs.declared.server.Server.{Server}
 
@@ -53,6 +55,24 @@ pub cases-long : (file : Option (List ℕ)) → IsSomeAnd file (λ octets. most 
 cases-long None h = refl
 cases-long (Some octets) h = rw (lt-ltb most (length octets) h) refl
 
+pub no-text : (octets : List ℕ) → (IsUtf8 octets → ⊥) → is_utf8 octets ≡ false
+no-text octets isnt = at (is_utf8 octets) refl
+  where
+    at : (b : Bool) → is_utf8 octets ≡ b → is_utf8 octets ≡ false
+    at true e = absurd (isnt (IsUtf8-from_is_utf8 octets e))
+    at false e = e
+
+-- what follows where nothing was refused
+pub ok-then : {A E P Q : Type 0} (r : Result A E) → (P → Q) → OnOk r P → OnOk r Q
+ok-then (Ok a) f p = f p
+ok-then (Err e) f p = p
+
+-- a file that has no cases
+pub refused-alone : (d : Directory) (server : Server) (book : List Entry) (file : List ℕ) (cases : List (Option (List (List ℕ)))) (s s' : SoFar) (log : Option (List LinkEvent))
+    → cases ≡ None ∷ [] → RefusesFor file None s s' → JudgesAll d server book file cases s log s' log
+refused-alone d server book file cases s s' log is r =
+    subst (λ (cs : List (Option (List (List ℕ)))). JudgesAll d server book file cs s log s' log) (sym is) (s', log, (r, refl), (refl, refl))
+
 -- ---- files
 
 -- the results of some first files, and more follow
@@ -78,14 +98,21 @@ one-more suites suites' suite more grown =
     sym (append_assoc (map results_in suites) (results_in suite ∷ []) more)
     ∙ ap (λ (xs : List FileResults). xs ++ more) (sym (map-append results_in suites (suite ∷ [])) ∙ ap (λ (xs : List Suite). map results_in xs) (sym grown))
 
-pub suite-next : (d : Directory) (server : Server) (book : List Entry) (names : List (Bor (List ℕ))) (i : ℕ) (x : Bor (List ℕ)) (all : List (List ℕ)) (s mid next : SoFar) (log between after : Option (List LinkEvent)) (suites suites' : List Suite) (suite : Suite)
-    → i < length names → SuitesOn d server book all s log suites (names_left names i) mid between
-    → IsSuite d server book mid between (get_or names i x).now (results_in suite) next after → suites' ≡ suites ++ suite ∷ []
+pub suite-next : (d e : Directory) (server : Server) (book : List Entry) (names : List (Bor (List ℕ))) (i : ℕ) (x : Bor (List ℕ)) (all : List (List ℕ)) (s mid next : SoFar) (log between after : Option (List LinkEvent)) (suites suites' : List Suite) (suite : Suite)
+    → i < length names → e ≡ d → SuitesOn d server book all s log suites (names_left names i) mid between
+    → IsSuite e server book mid between (get_or names i x).now (results_in suite) next after → suites' ≡ suites ++ suite ∷ []
     → SuitesOn d server book all s log suites' (names_left names (i + 1)) next after
-suite-next d server book names i x all s mid next log between after suites suites' suite h so_far one grown = λ cut more s' log' is.
+suite-next d e server book names i x all s mid next log between after suites suites' suite h same so_far one grown = λ cut more s' log' is.
     subst (λ (w : List FileResults). AreSuites cut d server book s log all w s' log') (one-more suites suites' suite more grown)
     (subst (λ (ns : List (List ℕ)). SuitesOn d server book all s log suites ns mid between) (split names i x h) so_far cut (results_in suite ∷ more) s' log'
-    (inr (results_in suite, next, after, one, more, refl, is)))
+    (inr (results_in suite, next, after, subst (λ (f : Directory). IsSuite f server book mid between (get_or names i x).now (results_in suite) next after) same one, more, refl, is)))
+
+-- and its text
+pub texts-more : (suites suites' : List Suite) (suite : Suite) → suites' ≡ suites ++ suite ∷ [] → texts (map results_in suites) ++ suite.results.items ≡ texts (map results_in suites')
+texts-more suites suites' suite grown =
+    ap (λ (t : List ℕ). texts (map results_in suites) ++ t) (sym (append-nil suite.results.items))
+    ∙ sym (flat_map-append (λ (f : FileResults). f.results) (map results_in suites) (results_in suite ∷ []))
+    ∙ ap texts (sym (map-append results_in suites (suite ∷ [])) ∙ ap (λ (xs : List Suite). map results_in xs) (sym grown))
 
 -- all of them
 pub suites-ended : (d : Directory) (server : Server) (book : List Entry) (names : List (Bor (List ℕ))) (i : ℕ) (all : List (List ℕ)) (s mid : SoFar) (log between : Option (List LinkEvent)) (suites : List Suite)

@@ -6,7 +6,7 @@ use Rattle.h2_spec.specs.Requests.Answer.{Entry}
 use Rattle.h2_spec.specs.State.{is_allowed, opening}
 use Rattle.h2_spec.specs.Texts.Script.{lines_of}
 use Rattle.h2_cmd_batch.specs.CaseSetups.{setup_of}
-use Rattle.h2_cmd_batch.specs.Input.{most}
+use Rattle.h2_io.specs.Limit.{most}
 use Rattle.h2_cmd_batch.specs.declared.case_setup.CaseSetup.{CaseSetup}
 use Rattle.h2_cmd_book_file.specs.Entries.{Directory}
 use Rattle.h2_cmd_cases.specs.CaseWords.{have_words}

@@ -54,14 +54,22 @@ status_found (Some p) = status_among p.reading.events
 abbrev pub AsksPost : Option (List LinkEvent) → (status : ℕ) → Option (List LinkEvent) → Type 0
 AsksPost log status log' = (found : Option Played) × Asks true log found log' × (status ≡ status_found found)
 
--- what is known of a server to which requests were played
+-- what is known of a server to which a GET was played, and of which a POST gets this status
 abbrev pub IsSurveyed : Played → (post : ℕ) → Server → Type 0
 IsSurveyed p post s = (s.octets.items ≡ p.reading.octets) × (s.get ≡ status_among p.reading.events) × (s.post ≡ post) × (s.client ≡ None)
 
--- nothing listens, or this is known
-abbrev pub SurveysIf : Option Played → Option (List LinkEvent) → Option Server → Option (List LinkEvent) → Type 0
+abbrev pub IsFound : Option Played → Option Server → Type 0
+IsFound None server = server ≡ None
+IsFound (Some p) server = (s : Server) × (server ≡ Some s) × IsSurveyed p 0 s
+
+-- by a GET alone; none where nothing listens
+abbrev pub AsksGet : Option (List LinkEvent) → Option Server → Option (List LinkEvent) → Type 0
+AsksGet log server log' = (found : Option Played) × Asks false log found log' × IsFound found server
+
+-- with the status that a POST gets
+abbrev pub SurveysIf : Option Server → Option (List LinkEvent) → Option Server → Option (List LinkEvent) → Type 0
 SurveysIf None log server log' = (server ≡ None) × (log' ≡ log)
-SurveysIf (Some p) log server log' = (s : Server) × (server ≡ Some s) × (post : ℕ) × AsksPost log post log' × IsSurveyed p post s
+SurveysIf (Some s) log server log' = (post : ℕ) × AsksPost log post log' × (server ≡ Some (record s { post = post }))
 
 abbrev pub Surveys : Option (List LinkEvent) → Option Server → Option (List LinkEvent) → Type 0
-Surveys log server log' = (found : Option Played) × (mid : Option (List LinkEvent)) × Asks false log found mid × SurveysIf found mid server log'
+Surveys log server log' = (found : Option Server) × (mid : Option (List LinkEvent)) × AsksGet log found mid × SurveysIf found mid server log'

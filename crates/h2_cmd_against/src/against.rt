@@ -3,27 +3,26 @@
 ghost use Rattle.std.specs.Prelude.{◌≡◌, ◌==◌, false, map, true};
 ghost use Rattle.h2_cmd_args.specs.Plans.{book_asked};
 ghost use Rattle.h2_cmd_batch.specs.CommandEnd.{PrintsSome};
-ghost use Rattle.h2_cmd_against.specs.Program.{EndsAgainst, IsJudged, case_names};
+ghost use Rattle.h2_cmd_against.specs.Program.{EndsAgainst, IsJudged};
 
 use crate::cases::Bench;
 use crate::program::{print_end, print_files};
 use crate::results::SoFar;
-use crate::server::Server;
 use crate::start::{case_names, server_for};
 use h2_cmd_args::command::Against;
 use h2_cmd_batch::{BenchFault, PrintFault, book_for_words, print_fault};
 use h2_cmd_book_file::Files;
 use h2_cmd_exchange::link::Link;
 use h2_io::Output;
-use h2_request_book::book::Book;
 use std::alloc::Global;
 
-/// Judges the server of which this is known. Gives the status.
+/// Judges the server of which this is known by the cases of files, with this path for the results as JUnit XML. Gives the
+/// status.
 fn judge_known<F: Files, L: Link, O: Output, E: Output>(
     alloc: Global,
-    plan: &Against<'_>,
-    book: &Book<Global>,
-    server: &Server,
+    bench: Bench<'_>,
+    names: &[&str],
+    junit: &str,
     link: &mut L,
     files: &mut F,
     output: &mut O,
@@ -31,30 +30,20 @@ fn judge_known<F: Files, L: Link, O: Output, E: Output>(
 ) -> u8
     requires writer { O.has_failed output.old ≡ false }
     ensures printed { F.is_printed files.old ≡ true → O.has_failed output.new ≡ false
-        → PrintsSome (λ t. IsJudged plan.now.junit.now (F.file files.old) server.now book.now (case_names plan.now.judge (map (λ n. n.now) plan.now.files.items))
+        → PrintsSome (λ t. IsJudged junit.now (F.file files.old) bench.entry.server.now bench.entry.book.now (map (λ n. n.now) names.now)
         (L.log link.old) (F.file files.new) (L.log link.new) t) (O.written output.old) (O.written output.new) result }
     ensures flag { O.has_failed output.new ≡ (result == 3) }
 {
-    let bench = Bench {
-        book,
-        server,
-        millis: u64::from(plan.wait),
-    };
-    let names = case_names(plan.judge, plan.files.as_slice());
-    let mut so_far = SoFar::new(alloc);
-    if output.write(b"TAP version 13\n").is_err() {
-        return 3;
+    match output.write(b"TAP version 13\n") {
+        Ok(()) => {}
+        Err(_) => return 3,
     }
+    let mut so_far = SoFar::new(alloc);
     match print_files(alloc, bench, names, files, link, &mut so_far, output) {
-        Ok(suites) => print_end(
-            alloc,
-            plan.junit,
-            &so_far,
-            suites.as_slice(),
-            files,
-            output,
-            errors,
-        ),
+        Ok(suites) => {
+            let suites = suites.as_slice();
+            print_end(alloc, junit, &so_far, suites, files, output, errors)
+        }
         Err(PrintFault::Fault(fault)) => print_fault(output, fault),
         Err(PrintFault::NotWritten) => 3,
     }
@@ -93,7 +82,15 @@ pub fn judge_server<F: Files, L: Link, O: Output, E: Output>(
         Err(fault) => return print_fault(output, fault),
     };
     match server_for(alloc, plan.judge, plan.files.as_slice(), files, link) {
-        Ok(server) => judge_known(alloc, plan, &book, &server, link, files, output, errors),
+        Ok(server) => {
+            let bench = Bench {
+                book: &book,
+                server: &server,
+                millis: u64::from(plan.wait),
+            };
+            let names = case_names(plan.judge, plan.files.as_slice());
+            judge_known(alloc, bench, names, plan.junit, link, files, output, errors)
+        }
         Err(fault) => {
             say_missing(fault, errors);
             print_fault(output, fault)

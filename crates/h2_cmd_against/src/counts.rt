@@ -88,7 +88,15 @@ impl Text for Unbroken {
     fn write_to<O: Output>(&self, output: &mut O) -> Result<(), DeviceFault> {
         let (same, allowed) = (Number(self.0.same), Number(self.0.allowed));
         let doubtful = Number(self.0.doubtful);
-        texts!("# same ", same, ", allowed ", allowed, ", doubtful ", doubtful).write_to(output)
+        texts!(
+            "# same ",
+            same,
+            ", allowed ",
+            allowed,
+            ", doubtful ",
+            doubtful
+        )
+        .write_to(output)
     }
 }
 
@@ -103,7 +111,16 @@ impl Text for Others {
     fn write_to<O: Output>(&self, output: &mut O) -> Result<(), DeviceFault> {
         let (broken, skipped) = (Number(self.0.broken), Number(self.0.skipped));
         let all = Number(self.0.all);
-        texts!(", broken ", broken, ", skipped ", skipped, "\n1..", all, "\n").write_to(output)
+        texts!(
+            ", broken ",
+            broken,
+            ", skipped ",
+            skipped,
+            "\n1..",
+            all,
+            "\n"
+        )
+        .write_to(output)
     }
 }
 

@@ -11,7 +11,6 @@ ghost use Rattle.h2_cmd_against.specs.Program.{CutsSuites, GainsSuites, IsEnd, I
 ghost use Rattle.h2_cmd_against.specs.Results.{is_passed};
 
 use crate::cases::Bench;
-use crate::counts::end_text;
 use crate::files::judge_file;
 use crate::results::SoFar;
 use h2_cmd_batch::{BenchFault, PrintFault, print_fault};
@@ -173,8 +172,9 @@ pub fn print_end<F: Files, O: Output, E: Output>(
         → PrintsSome (λ t. IsEnd junit.now (F.file files.old) so_far.now (map results_in suites.now) (F.file files.new) t) (O.written output.old) (O.written output.new) result }
     ensures flag { O.has_failed output.new ≡ (result == 3) }
 {
-    let Ok(text) = end_text(alloc, so_far.counts, so_far.rules.as_slice()) else {
-        return print_fault(output, BenchFault::NoMemory);
+    let text = match so_far.end(alloc) {
+        Ok(text) => text,
+        Err(_) => return print_fault(output, BenchFault::NoMemory),
     };
     match write_junit(alloc, junit, suites, files, errors) {
         Ok(()) => print_octets(output, text.as_slice(), status_of(so_far)),

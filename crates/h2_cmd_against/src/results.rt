@@ -1,9 +1,9 @@
 //! The results of cases, by version 13 of the Test Anything Protocol. Definitions: `specs/Results.antt`.
 
 ghost use Rattle.std.specs.Prelude.{◌≡◌, [], IfOk, OnOk, option_map, true};
-ghost use Rattle.h2_cmd_against.specs.Results.{Adds, AddsResult, directive, is_ok, emptied, is_plain, no_case};
+ghost use Rattle.h2_cmd_against.specs.Results.{Adds, AddsResult, directive, emptied, end_text, is_ok, is_plain, no_case};
 
-use crate::counts::{Counts, Rule, count_broken};
+use crate::counts::{Counts, Rule, count_broken, end_text};
 use crate::ends::{CaseEnd, is_same};
 use crate::words::details;
 use h2_cmd_check::{Title, result_front};
@@ -108,6 +108,15 @@ impl SoFar {
             rules: Vec::new(alloc),
             text: Vec::new(alloc),
         }
+    }
+
+    /// The lines behind the results.
+    ///
+    /// `AllocError` where memory is refused.
+    pub fn end(&self, alloc: Global) -> Result<Vec<u8>, AllocError>
+        ensures { IfOk result (λ text. text.items ≡ end_text self.now.counts self.now.rules) }
+    {
+        end_text(alloc, self.counts, self.rules.as_slice())
     }
 
     /// Takes the text out.

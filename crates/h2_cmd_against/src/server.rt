@@ -2,7 +2,7 @@
 //! `specs/Servers.antt`.
 
 ghost use Rattle.std.specs.Prelude.{◌≡◌, IfOk};
-ghost use Rattle.h2_cmd_against.specs.Servers.{Asks, AsksPost, Surveys, request, status_among, status_of};
+ghost use Rattle.h2_cmd_against.specs.Servers.{Asks, AsksGet, AsksPost, IsSurveyed, Surveys, request, status_among, status_of};
 
 use h2_cmd_exchange::link::Link;
 use h2_cmd_exchange::played::Played;
@@ -93,26 +93,45 @@ fn status_of_post<L: Link>(alloc: Global, link: &mut L) -> Result<u32, AllocErro
     }
 }
 
+/// What is known of a server to which a GET was played.
+fn server_of(alloc: Global, played: &Played) -> Result<Server, AllocError>
+    ensures { IfOk result (IsSurveyed played.now 0) }
+{
+    let octets = Vec::from_slice(alloc, played.reading.octets())?;
+    Ok(Server {
+        octets,
+        get: status_among(played.reading.events()),
+        post: 0,
+        client: None,
+    })
+}
+
+/// What is known of a server by a GET; none where nothing listens.
+fn server_by_get<L: Link>(alloc: Global, link: &mut L) -> Result<Option<Server>, AllocError>
+    ensures { IfOk result (λ server. AsksGet (L.log link.old) server (L.log link.new)) }
+{
+    match asked(alloc, link, false) {
+        Ok(Some(played)) => match server_of(alloc, &played) {
+            Ok(server) => Ok(Some(server)),
+            Err(error) => Err(error),
+        },
+        Ok(None) => Ok(None),
+        Err(error) => Err(error),
+    }
+}
+
 /// What is known of a server; none where nothing listens.
 ///
 /// `AllocError` where memory is refused.
 pub fn survey<L: Link>(alloc: Global, link: &mut L) -> Result<Option<Server>, AllocError>
     ensures { IfOk result (λ server. Surveys (L.log link.old) server (L.log link.new)) }
 {
-    let (octets, get) = match asked(alloc, link, false) {
-        Ok(Some(played)) => (
-            Vec::from_slice(alloc, played.reading.octets())?,
-            status_among(played.reading.events()),
-        ),
-        Ok(None) => return Ok(None),
-        Err(error) => return Err(error),
-    };
-    let post = status_of_post(alloc, link)?;
-    let client = None;
-    Ok(Some(Server {
-        octets,
-        get,
-        post,
-        client,
-    }))
+    match server_by_get(alloc, link) {
+        Ok(Some(server)) => match status_of_post(alloc, link) {
+            Ok(post) => Ok(Some(Server { post, ..server })),
+            Err(error) => Err(error),
+        },
+        Ok(None) => Ok(None),
+        Err(error) => Err(error),
+    }
 }

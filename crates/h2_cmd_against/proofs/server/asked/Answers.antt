@@ -10,4 +10,4 @@ returns-in-Ok g c =
     let ends : List ℕ = 24 ∷ 33 ∷ 56 ∷ [] in
     let asked = subst (λ (o : List ℕ). Plays o ends false (g.L.Link.log c.connect.new.self) c.in-Ok.played end) c.request.ensures c.in-Ok.ensures in
     let opened = c.connect.ensures ∙ ap (λ (b : Bool). happened (g.L.Link.log c.args.link.now) (Opened b)) c.if-not-connect.false in
-    (true, c.in-Ok.played, refl, subst (λ (k : Option (List LinkEvent)). Plays (request c.args.is_post) ends false k c.in-Ok.played end) opened asked)
+    (true, (c.in-Ok.played, refl, subst (λ (k : Option (List LinkEvent)). Plays (request c.args.is_post) ends false k c.in-Ok.played end) opened asked))
