@@ -33,7 +33,7 @@ three held first second third = simp append_assoc refl
 two : (held first second third : List ℕ) → ((held ++ first) ++ second) ++ third ≡ held ++ ((first ++ second) ++ third)
 two held first second third = simp append_assoc refl
 
--- the lines behind all results
+-- the lines after all results
 judged-by : (junit : List ℕ) (d d' : Directory) (server : Server) (book : List Entry) (names : List (List ℕ)) (log log' : Option (List LinkEvent)) (s : SoFar) (suites : List FileResults) (t : Printed)
     → AreSuites false d server book no_case log names suites s log' → IsEnd junit d s suites d' t
     → IsJudged junit d server book names log d' log' (record { text = version_line ++ texts suites ++ t.text; status = t.status })
@@ -67,7 +67,7 @@ judges-whole junit d d' server book names log log' s suites a₀ a b c status be
       (r.2.0 ∙ ap (λ (w : List ℕ). Some w) (three held version_line (texts suites) r.0.text), r.2.1),
     )
 
--- the line of a fault behind the results of some first files
+-- the line of a fault after the results of some first files
 pub judges-cut : (junit : List ℕ) (d d' : Directory) (server : Server) (book : List Entry) (names : List (List ℕ)) (log log' : Option (List LinkEvent)) (fault : BenchFault) (a₀ a b c : Option (List ℕ)) (status : ℕ)
     → Appends a₀ a version_line → CutsSuites d server book no_case log names a b → d' ≡ d → ((held : List ℕ) → b ≡ Some held → Prints (failed fault) held c status)
     → PrintsSome (λ t. IsJudged junit d server book names log d' log' t) a₀ c status

@@ -1,4 +1,4 @@
--- What the program prints: the results of the cases of files, behind them the rules that were broken and how many cases there
+-- What the program prints: the results of the cases of files, after them the rules that were broken and how many cases there
 -- are of each kind; and the status.
 use Rattle.std.specs.Prelude.{◌≡◌, ◌⊎◌, ◌++◌, ℕ, Bool, true, false, List, [], ◌∷◌, codes, drop, flat_map, map, unwrap_or, Option, Some, None, Result, Ok, Err}
 use Rattle.std.specs.Io.KnownBytes.{Appends}
@@ -9,8 +9,6 @@ use Rattle.h2_cmd_args.specs.Grammar.{BookAsked}
 use Rattle.h2_cmd_batch.specs.Books.{book_said}
 use Rattle.h2_cmd_batch.specs.CommandEnd.{PrintsSome}
 use Rattle.h2_cmd_batch.specs.Printing.{Printed, failed, failed_after, refused}
-use Rattle.h2_cmd_batch.specs.declared.commands.each.PrintFault.{PrintFault}
-use Rattle.h2_cmd_batch.specs.declared.commands.each.PrintFault.TheVariants.{Fault, NotWritten}
 use Rattle.h2_cmd_batch.specs.declared.fault.BenchFault.{BenchFault}
 use Rattle.h2_cmd_batch.specs.declared.fault.BenchFault.TheVariants.{NoMemory, Read, Socket}
 use Rattle.h2_cmd_book_file.specs.Entries.{Directory}
@@ -20,6 +18,8 @@ use Rattle.h2_cmd_exchange.specs.Links.{LinkEvent}
 use Rattle.h2_cmd_against.specs.Files.{JudgesAll, cases_with}
 use Rattle.h2_cmd_against.specs.Results.{SoFar, emptied, end_text, is_passed, no_case}
 use Rattle.h2_cmd_against.specs.Servers.{Surveys}
+use Rattle.h2_cmd_against.specs.declared.program.Stop.{Stop}
+use Rattle.h2_cmd_against.specs.declared.program.Stop.TheVariants as stop
 use Rattle.h2_cmd_against.specs.declared.server.Server.{Server}
 
 -- ---- what is known of the server
@@ -95,10 +95,10 @@ CutsSuites files server book s log names before after =
     (suites : List FileResults) × (s' : SoFar) × (log' : Option (List LinkEvent)) × GainsSuites true files server book s log names suites s' log' before after
 
 -- a write failed
-abbrev pub is_unwritten : {A : Type 0} → Result A PrintFault → Bool
+abbrev pub is_unwritten : {A : Type 0} → Result A Stop → Bool
 is_unwritten (Ok a) = false
-is_unwritten (Err (Fault fault)) = false
-is_unwritten (Err NotWritten) = true
+is_unwritten (Err stop.NoMemory) = false
+is_unwritten (Err stop.NotWritten) = true
 
 -- ---- the program
 
@@ -114,13 +114,13 @@ abbrev pub status_of : (passed : Bool) → ℕ
 status_of true = 0
 status_of false = 1
 
--- the lines behind results were printed, and the file has the results; or a fault was
+-- the lines after results were printed, and the file has the results; or a fault was
 abbrev pub IsEnd : (junit : List ℕ) → Directory → SoFar → List FileResults → Directory → Printed → Type 0
 IsEnd junit files s suites files' t =
     (IsFiled junit files suites files' × (t ≡ record { text = end_text s.counts s.rules; status = status_of (is_passed s.counts) }))
     ⊎ ((files' ≡ files) × ((fault : BenchFault) × (t ≡ failed fault)))
 
--- all results, and the lines behind them; the status is 0 where no rule is broken and each case can be played
+-- all results, and the lines after them; the status is 0 where no rule is broken and each case can be played
 pub record IsWhole (junit : List ℕ) (files : Directory) (server : Server) (book : List Entry) (names : List (List ℕ)) (log : Option (List LinkEvent)) (files' : Directory) (log' : Option (List LinkEvent)) (t : Printed) : Type 0 where
   pub so_far : SoFar
   pub suites : List FileResults

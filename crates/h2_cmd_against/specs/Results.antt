@@ -134,7 +134,7 @@ verdict_directive verdict.Doubtful = codes " # TODO doubtful\n"
 verdict_directive verdict.Broken = codes "\n"
 verdict_directive (verdict.Skipped why) = codes " # SKIP "
 
--- the words behind its name
+-- the words after its name
 abbrev pub directive : CaseEnd → List ℕ
 directive (Judged j) = verdict_directive j.verdict
 directive (Skipped why) = codes " # SKIP "
@@ -146,7 +146,7 @@ is_plain (Judged j) = is_same j.verdict
 is_plain (Skipped why) = false
 is_plain (Refused why) = false
 
--- its text: the line, and what is said behind it
+-- its text: the line, and what is said after it
 pub record IsResult (number : ℕ) (file : List ℕ) (title : Option (List ℕ)) (end : CaseEnd) (text : List ℕ) : Type 0 where
   pub more : List ℕ
   pub whole : text ≡ result_front (is_ok end) number file title ++ directive end ++ more
@@ -194,6 +194,6 @@ others_text c = codes ", broken " ++ decimal c.broken ++ codes ", skipped " ++ d
 abbrev pub counts_text : Counts → List ℕ
 counts_text c = unbroken_text c ++ others_text c
 
--- the lines behind the results
+-- the lines after the results
 abbrev pub end_text : Counts → List Rule → List ℕ
 end_text c rules = flat_map rule_text rules ++ counts_text c

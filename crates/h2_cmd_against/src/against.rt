@@ -6,11 +6,11 @@ ghost use Rattle.h2_cmd_batch.specs.CommandEnd.{PrintsSome};
 ghost use Rattle.h2_cmd_against.specs.Program.{EndsAgainst, IsJudged};
 
 use crate::cases::Bench;
-use crate::program::{print_end, print_files};
+use crate::program::{Stop, print_end, print_files};
 use crate::results::SoFar;
 use crate::start::{case_names, server_for};
 use h2_cmd_args::command::Against;
-use h2_cmd_batch::{BenchFault, PrintFault, book_for_words, print_fault};
+use h2_cmd_batch::{BenchFault, book_for_words, print_fault};
 use h2_cmd_book_file::Files;
 use h2_cmd_exchange::link::Link;
 use h2_io::Output;
@@ -44,8 +44,8 @@ fn judge_known<F: Files, L: Link, O: Output, E: Output>(
             let suites = suites.as_slice();
             print_end(alloc, junit, &so_far, suites, files, output, errors)
         }
-        Err(PrintFault::Fault(fault)) => print_fault(output, fault),
-        Err(PrintFault::NotWritten) => 3,
+        Err(Stop::NoMemory) => print_fault(output, BenchFault::NoMemory),
+        Err(Stop::NotWritten) => 3,
     }
 }
 

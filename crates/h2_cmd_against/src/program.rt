@@ -1,24 +1,31 @@
-//! The program: the results of the cases of files, and behind them the rules that were broken. Definitions:
+//! The program: the results of the cases of files, and after them the rules that were broken. Definitions:
 //! `specs/Program.antt`.
 
-ghost use Rattle.std.specs.Prelude.{◌≡◌, ◌==◌, ◌<◌, List, ℕ, Some, IfErr, IfOk, OnErr, OnOk, false, map, true};
+ghost use Rattle.std.specs.Prelude.{◌≡◌, ◌==◌, ◌<◌, List, ℕ, Some, IfOk, OnErr, OnOk, false, map, true};
 ghost use Rattle.std.specs.Io.KnownBytes.{Appends};
 ghost use Rattle.h2_cmd_check.specs.JUnit.{results_in};
 ghost use Rattle.h2_cmd_batch.specs.CommandEnd.{Prints, PrintsSome};
-ghost use Rattle.h2_cmd_batch.specs.declared.commands.each.PrintFault.TheVariants.{Fault};
-ghost use Rattle.h2_cmd_batch.specs.declared.fault.BenchFault.TheVariants.{NoMemory};
 ghost use Rattle.h2_cmd_against.specs.Program.{CutsSuites, GainsSuites, IsEnd, IsFiled, IsSuite, is_unwritten, status_of};
 ghost use Rattle.h2_cmd_against.specs.Results.{is_passed};
 
 use crate::cases::Bench;
 use crate::files::judge_file;
 use crate::results::SoFar;
-use h2_cmd_batch::{BenchFault, PrintFault, print_fault};
+use h2_cmd_batch::{BenchFault, print_fault};
 use h2_cmd_book_file::{Files, FilesFault};
 use h2_cmd_check::{Suite, junit_text};
 use h2_cmd_exchange::link::Link;
 use h2_io::Output;
 use std::alloc::{AllocError, Global};
+
+/// Why results are not all written.
+#[derive(Clone, Copy)]
+pub enum Stop {
+    /// Memory was refused.
+    NoMemory,
+    /// A write failed.
+    NotWritten,
+}
 
 /// The results of the cases of a file.
 fn suite_of<'n, F: Files, L: Link>(
@@ -53,12 +60,12 @@ fn print_file<'n, F: Files, L: Link, O: Output>(
     file: &'n str,
     so_far: &mut SoFar,
     output: &mut O,
-) -> Result<Suite<'n>, PrintFault>
+) -> Result<Suite<'n>, Stop>
     requires writer { O.has_failed output.old ≡ false }
     ensures results { F.is_printed files.old ≡ true → IfOk result (λ suite. IsSuite (F.file files.old) bench.entry.server.now bench.entry.book.now
         so_far.old (L.log link.old) file.now (results_in suite) so_far.new (L.log link.new)) }
     ensures written { IfOk result (λ suite. Appends (O.written output.old) (O.written output.new) suite.results.items) }
-    ensures memory { O.has_failed output.new ≡ false → IfErr result (λ fault. (fault ≡ Fault NoMemory) × (O.written output.new ≡ O.written output.old)) }
+    ensures kept { O.has_failed output.new ≡ false → OnErr result (O.written output.new ≡ O.written output.old) }
     ensures flag { O.has_failed output.new ≡ is_unwritten result }
     ensures same_printed { F.is_printed files.new ≡ F.is_printed files.old }
     ensures same_files { F.file files.new ≡ F.file files.old }
@@ -66,15 +73,15 @@ fn print_file<'n, F: Files, L: Link, O: Output>(
     match suite_of(alloc, bench, files, link, file, so_far) {
         Ok(suite) => match output.write(suite.results.as_slice()) {
             Ok(()) => Ok(suite),
-            Err(_) => Err(PrintFault::NotWritten),
+            Err(_) => Err(Stop::NotWritten),
         },
-        Err(_) => Err(PrintFault::Fault(BenchFault::NoMemory)),
+        Err(_) => Err(Stop::NoMemory),
     }
 }
 
 /// Writes the results of the cases of files, one after another.
 ///
-/// `Fault` where memory is refused: those of some first files were written. `NotWritten` where a write failed.
+/// `NoMemory` where memory is refused: those of some first files were written. `NotWritten` where a write failed.
 pub fn print_files<'n, F: Files, L: Link, O: Output>(
     alloc: Global,
     bench: Bench<'_>,
@@ -83,13 +90,12 @@ pub fn print_files<'n, F: Files, L: Link, O: Output>(
     link: &mut L,
     so_far: &mut SoFar,
     output: &mut O,
-) -> Result<Vec<Suite<'n>>, PrintFault>
+) -> Result<Vec<Suite<'n>>, Stop>
     requires writer { O.has_failed output.old ≡ false }
     ensures results { F.is_printed files.old ≡ true → IfOk result (λ suites. GainsSuites false (F.file files.old) bench.entry.server.now bench.entry.book.now so_far.old (L.log link.old)
         (map (λ n. n.now) names.now) (map results_in suites.items) so_far.new (L.log link.new) (O.written output.old) (O.written output.new)) }
     ensures cut { F.is_printed files.old ≡ true → O.has_failed output.new ≡ false → OnErr result (CutsSuites (F.file files.old) bench.entry.server.now bench.entry.book.now so_far.old (L.log link.old)
         (map (λ n. n.now) names.now) (O.written output.old) (O.written output.new)) }
-    ensures memory { O.has_failed output.new ≡ false → IfErr result (λ fault. fault ≡ Fault NoMemory) }
     ensures flag { O.has_failed output.new ≡ is_unwritten result }
     ensures same_printed { F.is_printed files.new ≡ F.is_printed files.old }
     ensures same_files { F.file files.new ≡ F.file files.old }
@@ -102,7 +108,7 @@ pub fn print_files<'n, F: Files, L: Link, O: Output>(
         };
         match suites.push(suite) {
             Ok(()) => {}
-            Err(_) => return Err(PrintFault::Fault(BenchFault::NoMemory)),
+            Err(_) => return Err(Stop::NoMemory),
         }
     }
     Ok(suites)
@@ -157,7 +163,7 @@ fn print_octets<O: Output>(output: &mut O, octets: &[u8], status: u8) -> u8
     }
 }
 
-/// Writes the lines behind the results, and before them the results to the file that is to have them. Gives the status.
+/// Writes the lines after the results, and before them the results to the file that is to have them. Gives the status.
 pub fn print_end<F: Files, O: Output, E: Output>(
     alloc: Global,
     junit: &str,

@@ -45,7 +45,7 @@ fn is_ok(end: &CaseEnd) -> bool
     }
 }
 
-/// The words behind the name of a result.
+/// The words after the name of a result.
 fn directive(end: &CaseEnd) -> &'static str
     ensures { result.now ≡ directive end.now }
 {
@@ -70,7 +70,7 @@ fn is_plain(end: &CaseEnd) -> bool
     }
 }
 
-/// What is said behind the line of a result.
+/// What is said after the line of a result.
 fn more(alloc: Global, sent: &[Sent], end: &CaseEnd) -> Result<Vec<u8>, AllocError>
     ensures { IfOk result (λ text. is_plain end.now ≡ true → text.items ≡ []) }
 {
@@ -110,7 +110,7 @@ impl SoFar {
         }
     }
 
-    /// The lines behind the results.
+    /// The lines after the results.
     ///
     /// `AllocError` where memory is refused.
     pub fn end(&self, alloc: Global) -> Result<Vec<u8>, AllocError>

@@ -106,7 +106,7 @@ pub fn server_for<F: Files, L: Link>(
     }
 }
 
-/// The files that have cases: those behind the two with what was recorded, if there are such.
+/// The files that have cases: those after the two with what was recorded, if there are such.
 pub fn case_names<'n, 'a>(is_recorded: bool, names: &'n [&'a str]) -> &'n [&'a str]
     ensures { result.now ≡ case_names is_recorded names.now }
 {

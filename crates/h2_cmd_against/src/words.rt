@@ -1,4 +1,4 @@
-//! What is said of a case behind the line of its result, in YAML. No definition speaks of these texts.
+//! The YAML of a case, after the line of its result. No definition speaks of these texts.
 
 use crate::ends::{CaseEnd, Refusal, Skip};
 use h2_cmd_items::sent::Sent;
@@ -202,7 +202,7 @@ fn refusal_words(why: &Refusal) -> &str {
     }
 }
 
-/// What is said of a verdict behind its line.
+/// The words of a verdict, after its line.
 fn say_judged(sent: &[Sent], judgement: &Judgement, out: &mut TextBuilder) {
     if let Verdict::Skipped(_) = judgement.verdict {
         say_all!(out; skip_words(judgement), "\n");
@@ -211,7 +211,7 @@ fn say_judged(sent: &[Sent], judgement: &Judgement, out: &mut TextBuilder) {
     }
 }
 
-/// What is said of a case with these items behind the line of its result.
+/// The words of a case with these items, after the line of its result.
 ///
 /// `AllocError` where memory is refused.
 pub fn details(alloc: Global, sent: &[Sent], end: &CaseEnd) -> Result<Vec<u8>, AllocError> {

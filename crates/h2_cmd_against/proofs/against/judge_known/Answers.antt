@@ -1,12 +1,13 @@
 use Rattle.std.proofs.Common.{◌≡◌, ◌∙◌, Err, List, Option, Result, Vec, ap, false, map, subst, true, ℕ}
 use Rattle.std.specs.declared.alloc.Global.{Global}
 use Rattle.h2_cmd_batch.specs.CommandEnd.{PrintsSome}
-use Rattle.h2_cmd_batch.specs.declared.commands.each.PrintFault.{PrintFault}
+use Rattle.h2_cmd_batch.specs.declared.fault.BenchFault.TheVariants.{NoMemory}
 use Rattle.h2_cmd_book_file.specs.Entries.{Directory}
 use Rattle.h2_cmd_check.specs.JUnit.{FileResults, results_in}
 use Rattle.h2_cmd_check.specs.declared.junit.Suite.{Suite}
 use Rattle.h2_cmd_against.specs.Program.{CutsSuites, GainsSuites, IsEnd, is_unwritten}
 use Rattle.h2_cmd_against.specs.Results.{SoFar}
+use Rattle.h2_cmd_against.specs.declared.program.Stop.{Stop}
 use Rattle.h2_cmd_against.proofs.ProgramLaws.{judges-cut, judges-whole}
 use Rattle.h2_cmd_against.proofs.against.judge_known.Goals as goal
 
@@ -32,8 +33,8 @@ returns-in-Ok-print_files-clause-printed g c = λ printed well.
     let ended = subst (λ (xs : List Suite). PrintsSome (λ t. IsEnd junit d s (map results_in xs) d' t) b e c.print_end.result) c.as_slice-suites.ensures.value end in
     judges-whole junit d d' server book names log log' s suites a₀ a b e c.print_end.result c.in-Ok.ensures.octets all ended
 
-pub returns-in-Err-Fault-clause-printed : goal.returns-in-Err-Fault-clause-printed
-returns-in-Err-Fault-clause-printed g c = λ printed well.
+pub returns-in-Err-NoMemory-clause-printed : goal.returns-in-Err-NoMemory-clause-printed
+returns-in-Err-NoMemory-clause-printed g c = λ printed well.
     let d = g.F.Files.file c.args.files.now in
     let names : List (List ℕ) = map (λ n. n.now) c.args.names.now in
     let server = c.args.bench.server.now in
@@ -42,8 +43,8 @@ returns-in-Err-Fault-clause-printed g c = λ printed well.
     let a₀ = g.O.Output.written c.args.output.now in
     let a = g.O.Output.written c.write.new.self in
     let b = g.O.Output.written c.print_files.new.output in
-    let inner = c.in-Err-Fault.is ∙ ap (λ (w : PrintFault). Err w) c.in-Err-Fault.field-0-is in
-    let flag = c.print_files.ensures.flag ∙ ap (λ (r : Result (Vec Suite Global) PrintFault). is_unwritten r) inner in
-    let some = subst (λ (u : SoFar). CutsSuites d server book u log names a b) c.new-so_far.ensures (c.in-Err-Fault.ensures.cut printed flag) in
-    judges-cut c.args.junit.now d (g.F.Files.file c.print_files.new.files) server book names log (g.L.Link.log c.print_files.new.link) c.in-Err-Fault.fault a₀ a b (g.O.Output.written c.print_fault.new.output) c.print_fault.result
+    let inner = c.in-Err-NoMemory.is ∙ ap (λ (w : Stop). Err w) c.in-Err-NoMemory.field-0-is in
+    let flag = c.print_files.ensures.flag ∙ ap (λ (r : Result (Vec Suite Global) Stop). is_unwritten r) inner in
+    let some = subst (λ (u : SoFar). CutsSuites d server book u log names a b) c.new-so_far.ensures (c.in-Err-NoMemory.ensures.cut printed flag) in
+    judges-cut c.args.junit.now d (g.F.Files.file c.print_files.new.files) server book names log (g.L.Link.log c.print_files.new.link) NoMemory a₀ a b (g.O.Output.written c.print_fault.new.output) c.print_fault.result
     c.in-Ok.ensures.octets some c.print_files.ensures.same_files (c.print_fault.ensures.printed well)

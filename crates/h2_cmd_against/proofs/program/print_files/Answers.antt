@@ -1,10 +1,10 @@
 use Rattle.std.proofs.Common.{◌≡◌, ◌∙◌, ◌++◌, ◌+◌, ◌∷◌, [], ℕ, List, Option, Result, ap, map, refl, subst, sym}
 use Rattle.std.proofs.KnownBytes.{Appends-trans}
 use Rattle.std.specs.Io.KnownBytes.{Appends}
-use Rattle.h2_cmd_batch.specs.declared.commands.each.PrintFault.{PrintFault}
 use Rattle.h2_cmd_check.specs.JUnit.{results_in}
 use Rattle.h2_cmd_check.specs.declared.junit.Suite.{Suite}
 use Rattle.h2_cmd_against.specs.Program.{is_unwritten, texts}
+use Rattle.h2_cmd_against.specs.declared.program.Stop.{Stop}
 use Rattle.h2_cmd_against.proofs.FileLaws.{names_left, suite-next, suites-cut, suites-ended, texts-more}
 use Rattle.h2_cmd_against.proofs.program.print_files.Goals as goal
 
@@ -16,7 +16,7 @@ returns-in-Err-clause-cut g c = λ printed well.
     let between = g.L.Link.log c.loop-file.link in
     let cut = suites-cut (g.F.Files.file c.args.files.now) c.args.bench.server.now c.args.bench.book.now (names_left names c.loop-file.file-index) (map (λ n. n.now) names)
     c.args.so_far.now c.loop-file.so_far (g.L.Link.log c.args.link.now) between suites (inv.results printed) in
-    let same = (c.in-Err.ensures.memory well).1 in
+    let same = c.in-Err.ensures.kept well in
     let written = subst (λ (b : Option (List ℕ)). Appends (g.O.Output.written c.args.output.now) b (texts (map results_in suites))) (sym same) inv.written in
     (map results_in suites, c.loop-file.so_far, between, (cut, written))
 
@@ -62,7 +62,7 @@ loop-file-preserved g c =
     let b = g.O.Output.written c.print_file.new.output in
     let grown : more ≡ suites ++ suite ∷ [] = c.in-Ok-push.ensures.items in
     record {
-      writer = c.print_file.ensures.flag ∙ ap (λ (r : Result Suite PrintFault). is_unwritten r) c.in-Ok.is;
+      writer = c.print_file.ensures.flag ∙ ap (λ (r : Result Suite Stop). is_unwritten r) c.in-Ok.is;
       same_printed = c.print_file.ensures.same_printed ∙ inv.same_printed;
       same_files = c.print_file.ensures.same_files ∙ inv.same_files;
       results = λ printed.
