@@ -178,8 +178,24 @@ in_place_rule = record (new_rule (codes "in-place")) { long = Some (codes "in-pl
 abbrev pub junit_rule : Rule
 junit_rule = record (new_rule (codes "junit")) { long = Some (codes "junit"); action = Some Set }
 
+-- the port of the server that is judged, 0 to 65535
+abbrev pub against_rule : Rule
+against_rule = record (new_rule (codes "against")) { long = Some (codes "against"); action = Some Set; parser = Some (parser.Unsigned 0 65535) }
+
+-- how many milliseconds without an octet end a wait, 0 to 1000
+abbrev pub wait_rule : Rule
+wait_rule = record (new_rule (codes "wait")) { long = Some (codes "wait"); action = Some Set; parser = Some (parser.Unsigned 0 1000) }
+
+-- whether a server is judged by octets that were recorded
+abbrev pub judge_rule : Rule
+judge_rule = record (new_rule (codes "judge")) { long = Some (codes "judge"); action = Some SetTrue }
+
+-- a command with the rules of servers that are judged
+abbrev pub with_judge : App → App
+with_judge app = with_rule (with_rule (with_rule app against_rule) wait_rule) judge_rule
+
 abbrev pub check_app : App
-check_app = with_rule (with_rule (with_rule (with_rule (with_rule (with_rule (with_limits (new_app (codes "check"))) book_rule) bless_rule) in_place_rule) junit_rule) quiet_rule) files_rule
+check_app = with_rule (with_rule (with_judge (with_rule (with_rule (with_rule (with_rule (with_limits (new_app (codes "check"))) book_rule) bless_rule) in_place_rule) junit_rule)) quiet_rule) files_rule
 
 abbrev pub top_app : App
 top_app = record (new_app (codes "h2_bench")) { top = record (new_app (codes "h2_bench")).top { subcommand_required = true } }
@@ -233,6 +249,7 @@ pub data Asked : Type 0 where
   serve : (config : Config) → (port : ℕ) → (count : ℕ) → (watched : ReportAsked) → (book : BookAsked) → Asked
   explain : (config : Config) → (view : FormAsked) → (file : Text) → (book : BookAsked) → Asked
   check : (config : Config) → (book : BookAsked) → (bless : Bool) → (in_place : Bool) → (junit : Text) → (files : List Text) → Asked
+  against : (config : Config) → (book : BookAsked) → (port wait : ℕ) → (judge : Bool) → (junit : Text) → (files : List Text) → Asked
 
 -- the number that a text spells in decimal digits, if it is below 2 ^ 32
 abbrev pub number_of : Text → Option ℕ
@@ -329,6 +346,23 @@ report_at rows = record {
   record_to = text_at (codes "record") rows;
 }
 
+-- whether a server is to be judged: over a connection, or by octets that were recorded
+abbrev pub is_against : List Row → Bool
+is_against rows = is_some (number_given (codes "against") rows) || is_set (codes "judge") rows
+
+-- how it is judged
+abbrev pub against_asked : List Row → Asked
+against_asked rows = against (config_at rows) (file_book_at rows) (number_at (codes "against") 0 rows) (number_at (codes "wait") 15 rows)
+    (is_set (codes "judge") rows) (text_at (codes "junit") rows) (texts_at (codes "FILE") rows)
+
+-- how cases are checked
+abbrev pub check_asked : List Row → Asked
+check_asked rows = check (config_at rows) (file_book_at rows) (is_set (codes "bless") rows) (is_set (codes "in-place") rows) (text_at (codes "junit") rows) (texts_at (codes "FILE") rows)
+
+-- what `check` is to do
+abbrev pub cases_asked : List Row → Asked
+cases_asked rows = if is_against rows then against_asked rows else check_asked rows
+
 abbrev pub asked_by : Text → List Row → Option Asked
 asked_by name rows =
     if bytes_eq name (codes "play") then Some (batch (play (config_at rows) (number_at (codes "cut") 0 rows) (is_set (codes "each") rows) (book_at rows)))
@@ -338,7 +372,7 @@ asked_by name rows =
     else if bytes_eq name (codes "debug") then Some (debug (config_at rows) (book_at rows))
     else (if bytes_eq name (codes "serve") then Some (serve (config_at rows) (number_at (codes "PORT") 0 rows) (number_at (codes "COUNT") 0 rows) (report_at rows) (book_at rows))
     else (if bytes_eq name (codes "explain") then Some (explain (config_at rows) (form_at rows) (file_among (texts_at (codes "ANSWER") rows)) (explain_book_at rows))
-    else (if bytes_eq name (codes "check") then Some (check (config_at rows) (file_book_at rows) (is_set (codes "bless") rows) (is_set (codes "in-place") rows) (text_at (codes "junit") rows) (texts_at (codes "FILE") rows)) else None)))
+    else (if bytes_eq name (codes "check") then Some (cases_asked rows) else None)))
 
 -- ---- what words say of devices
 

@@ -4,7 +4,7 @@
 ghost use Rattle.std.specs.Prelude.{◌≡◌, ◌≤◌, length, IfOk, IfErr, IfSome, bytes_eq, Some, None, codes, map, option_map};
 ghost use Rattle.clap.specs.Words.{found_of, kind_of, rows_of, subcommand_of, subcommand_rows_of};
 ghost use Rattle.clap.specs.declared.error.ErrorKind.TheVariants.{OutOfMemory};
-ghost use Rattle.h2_cmd_args.specs.Grammar.{answers_among, asked_at, asked_by, asked_of, bench_app, book_at, config_at, devices_at, devices_found, devices_of, file_among, files_among, is_answer, is_part_at, is_set, number_at, number_given, path_in, text_at, texts_at, report_at};
+ghost use Rattle.h2_cmd_args.specs.Grammar.{against_asked, answers_among, asked_at, asked_by, asked_of, bench_app, book_at, check_asked, config_at, devices_at, devices_found, devices_of, file_among, files_among, is_against, is_answer, is_part_at, is_set, number_at, number_given, path_in, report_at, text_at, texts_at};
 ghost use Rattle.h2_cmd_args.specs.Plans.{book_asked, devices_asked, planned, report_asked, Refuses};
 
 use crate::usages::bench_command;
@@ -129,6 +129,25 @@ pub struct Check<'a> {
     pub files: Vec<&'a str>,
 }
 
+/// How servers are judged by cases.
+#[derive(Drop)]
+pub struct Against<'a> {
+    /// The limits and the settings of cases that say none.
+    pub config: Config,
+    /// The book of these cases.
+    pub book: BookWords<'a>,
+    /// The port of 127.0.0.1 that the server listens on, 0 to 65535; 0 where octets are judged that were recorded.
+    pub port: u32,
+    /// How many milliseconds without an octet end the wait for what a server does, 0 to 1000.
+    pub wait: u32,
+    /// Whether octets are judged that were recorded: those of the first file and of the second.
+    pub judge: bool,
+    /// The path of the file that takes the results as JUnit XML; empty where none does.
+    pub junit: &'a str,
+    /// The paths of the files that have the cases.
+    pub files: Vec<&'a str>,
+}
+
 /// What the words say of the devices that a command is given. The program that has the devices chooses them by this:
 /// a command itself takes its input as hex, or as a text, from where it is given.
 #[derive(Clone, Copy)]
@@ -168,6 +187,8 @@ pub enum Plan<'a> {
     Explain(Explain<'a>),
     /// Checks the cases of files.
     Check(Check<'a>),
+    /// Judges a server by the cases of files.
+    Against(Against<'a>),
 }
 
 /// A command of the command line.
@@ -407,8 +428,7 @@ fn explain_from<'a>(alloc: Global, matches: &ArgMatches<'a>) -> Result<Explain<'
 
 /// How cases are to be checked.
 fn check_from<'a>(alloc: Global, matches: &ArgMatches<'a>) -> Result<Check<'a>, AllocError>
-    ensures { IfOk result (λ check. Some (planned (Plan.Check check)) ≡ asked_by (codes "check") (rows_of
-        (found_of matches.now))) }
+    ensures { IfOk result (λ check. planned (Plan.Check check) ≡ check_asked (rows_of (found_of matches.now))) }
 {
     let files = texts_at(alloc, matches, "FILE")?;
     let file = text_at(matches, "book");
@@ -425,6 +445,45 @@ fn check_from<'a>(alloc: Global, matches: &ArgMatches<'a>) -> Result<Check<'a>, 
         junit: text_at(matches, "junit"),
         files,
     })
+}
+
+/// How a server is to be judged.
+fn against_from<'a>(alloc: Global, matches: &ArgMatches<'a>) -> Result<Against<'a>, AllocError>
+    ensures { IfOk result (λ against. planned (Plan.Against against) ≡ against_asked (rows_of (found_of matches.now))) }
+{
+    let files = texts_at(alloc, matches, "FILE")?;
+    let file = text_at(matches, "book");
+    let answers = Vec::new(alloc);
+    Ok(Against {
+        config: config_at(matches),
+        book: BookWords {
+            file,
+            why: !is_set(matches, "quiet"),
+            answers,
+        },
+        port: number_at(matches, "against", 0),
+        wait: number_at(matches, "wait", 15),
+        judge: is_set(matches, "judge"),
+        junit: text_at(matches, "junit"),
+        files,
+    })
+}
+
+/// Whether a server is to be judged: over a connection, or by octets that were recorded.
+fn is_against(matches: &ArgMatches<'_>) -> bool
+    ensures { result ≡ is_against (rows_of (found_of matches.now)) }
+{
+    number_given(matches, "against").is_some() || is_set(matches, "judge")
+}
+
+/// What `check` is to do: a server is judged, or cases are checked.
+fn cases_from<'a>(alloc: Global, matches: &ArgMatches<'a>) -> Result<Plan<'a>, AllocError>
+    ensures { IfOk result (λ plan. Some (planned plan) ≡ asked_by (codes "check") (rows_of (found_of matches.now))) }
+{
+    if is_against(matches) {
+        return Ok(Plan::Against(against_from(alloc, matches)?));
+    }
+    Ok(Plan::Check(check_from(alloc, matches)?))
 }
 
 /// Whether two names are the same.
@@ -465,7 +524,7 @@ fn plan_from<'a>(
         return Ok(Some(Plan::Explain(explain_from(alloc, matches)?)));
     }
     if is(name, "check") {
-        return Ok(Some(Plan::Check(check_from(alloc, matches)?)));
+        return Ok(Some(cases_from(alloc, matches)?));
     }
     Ok(None)
 }

@@ -204,6 +204,24 @@ const JUNIT: Word = Word {
     help: "Writes the results as JUnit XML into this file too",
 };
 
+const AGAINST: Word = Word {
+    name: "against",
+    kind: Kind::Number(65535),
+    help: "Plays the cases to the server that listens on this port of 127.0.0.1, and judges it",
+};
+
+const WAIT: Word = Word {
+    name: "wait",
+    kind: Kind::Number(1000),
+    help: "With --against: the milliseconds without an octet after which the next item is sent, 0 to 1000; 15 where none is given",
+};
+
+const JUDGE: Word = Word {
+    name: "judge",
+    kind: Kind::Flag,
+    help: "Judges a server by octets that were recorded: the first FILE has the client's, the second the server's, the others have cases",
+};
+
 const ANSWERS: Word = Word {
     name: "ANSWER",
     kind: Kind::Texts,
@@ -291,7 +309,8 @@ static USAGES: [Usage; 8] = [
         name: "check",
         about: "Plays the cases of files, and says of each whether what it expects holds",
         words: &[
-            STREAMS, CREDIT, TABLE, WINDOW, FRAME, BOOK, BLESS, IN_PLACE, JUNIT, QUIET, FILES,
+            STREAMS, CREDIT, TABLE, WINDOW, FRAME, BOOK, BLESS, IN_PLACE, JUNIT, AGAINST, WAIT,
+            JUDGE, QUIET, FILES,
         ],
     },
 ];

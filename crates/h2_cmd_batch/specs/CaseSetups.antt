@@ -6,7 +6,7 @@ use Rattle.h2_spec.specs.declared.connection.Config.{Config}
 use Rattle.h2_cmd_book_file.specs.Contents.{beside}
 use Rattle.h2_cmd_book_file.specs.Entries.{Directory}
 use Rattle.h2_cmd_cases.specs.CaseWords.{before_words, have_idle, with_case_words}
-use Rattle.h2_cmd_args.specs.Grammar.{Asked, BookAsked, asked_of, batch, debug, serve, explain, check}
+use Rattle.h2_cmd_args.specs.Grammar.{Asked, BookAsked, asked_of, batch, debug, serve, explain, check, against}
 use Rattle.h2_cmd_batch.specs.Books.{book_said}
 use Rattle.h2_cmd_batch.specs.declared.case_setup.CaseSetup.{CaseSetup}
 use Rattle.h2_cmd_batch.specs.declared.case_setup.OwnFault.{OwnFault}
@@ -39,6 +39,7 @@ setup_asked files file (Some (batch asked)) = None
 setup_asked files file (Some (serve config port count watched book)) = None
 setup_asked files file (Some (explain config view from book)) = None
 setup_asked files file (Some (check config book bless in_place junit names)) = None
+setup_asked files file (Some (against config book port wait judge junit names)) = None
 setup_asked files file None = None
 
 -- what words say, if they are words

@@ -210,7 +210,7 @@ fn own_asked<F: Files>(
 {
     match plan {
         Plan::Debug(plan) => own_plan(alloc, files, case, plan),
-        Plan::Batch(_) | Plan::Serve(_) | Plan::Explain(_) | Plan::Check(_) => {
+        Plan::Batch(_) | Plan::Serve(_) | Plan::Explain(_) | Plan::Check(_) | Plan::Against(_) => {
             Err(refused(alloc, case, "other words"))
         }
     }

@@ -1,5 +1,5 @@
 -- The text of a verdict, by version 13 of the Test Anything Protocol.
-use Rattle.std.specs.Prelude.{◌≡◌, ℕ, ◌==◌, ◌||◌, ◌&&◌, ◌++◌, nat_lt, Bool, false, List, [], ◌∷◌, codes, decimal, flat_map, if◌then◌else◌, Option, Some, None}
+use Rattle.std.specs.Prelude.{◌≡◌, ℕ, ◌==◌, ◌||◌, ◌&&◌, ◌++◌, nat_lt, Bool, true, false, List, [], ◌∷◌, codes, decimal, flat_map, if◌then◌else◌, Option, Some, None}
 use Rattle.hex.specs.Hex.{encode_lower}
 use Rattle.h2_cmd_check.specs.Cases.{Outcome, Skipped, Holds, Fails}
 use Rattle.h2_cmd_check.specs.declared.growing.Growing.{Growing}
@@ -34,6 +34,14 @@ escaped octets = flat_map escaped_octet octets
 abbrev pub title_text : Option (List ℕ) → List ℕ
 title_text None = []
 title_text (Some title) = codes ": " ++ escaped title
+
+abbrev pub ok_words : (is_ok : Bool) → List ℕ
+ok_words true = codes "ok "
+ok_words false = codes "not ok "
+
+-- the line of a result up to its name
+abbrev pub result_front : (is_ok : Bool) → (number : ℕ) → (file : List ℕ) → (title : Option (List ℕ)) → List ℕ
+result_front is_ok number file title = ok_words is_ok ++ decimal number ++ codes " - " ++ escaped file ++ title_text title
 
 -- the line of the result with this number
 abbrev pub result_line : ℕ → List ℕ → Option (List ℕ) → Outcome → List ℕ

@@ -19,5 +19,6 @@ mod walk;
 pub use bless::{add_lines, bless_case};
 pub use fault::CaseFault;
 pub use junit::{Suite, junit_text, tap_text};
-pub use tap::{Title, plan_line, verdict_text};
+pub use tap::{Title, plan_line, result_front, verdict_text};
+pub use texts::octets_of_lines;
 pub use verdict::{CaseVerdict, Wrong, check_case};

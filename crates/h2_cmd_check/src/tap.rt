@@ -2,7 +2,7 @@
 
 ghost use Rattle.std.specs.Prelude.{◌≡◌, ◌++◌, codes, decimal, IfOk};
 ghost use Rattle.std.specs.Option.{option_map};
-ghost use Rattle.h2_cmd_check.specs.Tap.{Gains, GainsSome, IsResult, directive, result_line, result_words, title_text};
+ghost use Rattle.h2_cmd_check.specs.Tap.{Gains, GainsSome, IsResult, directive, result_front, result_line, result_words, title_text};
 ghost use Rattle.h2_cmd_check.specs.Walks.{outcome_by};
 
 use crate::growing::{Growing, is_printable};
@@ -196,6 +196,26 @@ pub fn verdict_text(
         CaseVerdict::Skipped | CaseVerdict::Holds => {}
         CaseVerdict::Fails(wrongs) => put_wrongs(alloc, title.file, wrongs.as_slice(), &mut out),
     }
+    out.finish()
+}
+
+/// The line of a result up to its name: whether it is `ok`, its number, from 1, and what the case is called.
+///
+/// `AllocError` where memory is refused.
+pub fn result_front(
+    alloc: Global,
+    is_ok: bool,
+    number: u64,
+    title: Title<'_>,
+) -> Result<Vec<u8>, AllocError>
+    ensures { IfOk result (λ text. text.items ≡ result_front is_ok number title.entry.file.now (option_map (λ t. t.now) title.entry.title)) }
+{
+    let mut out = Growing::new(alloc);
+    out.text(if is_ok { "ok " } else { "not ok " });
+    out.number(number);
+    out.text(" - ");
+    out.escaped(title.file.as_bytes());
+    put_title(title.title, &mut out);
     out.finish()
 }
 

@@ -80,7 +80,9 @@ fn add_octets(alloc: Global, line: &[u8], octets: &mut Vec<u8>) -> Result<(), Al
 }
 
 /// The octets of the lines of a case.
-fn octets_of_lines(alloc: Global, lines: &[&[u8]]) -> Result<Vec<u8>, AllocError>
+///
+/// `AllocError` where memory is refused.
+pub fn octets_of_lines(alloc: Global, lines: &[&[u8]]) -> Result<Vec<u8>, AllocError>
     ensures { IfOk result (λ octets. octets.items ≡ octets_of_lines (map (λ l. l.now) lines.now)) }
 {
     let mut octets = Vec::new(alloc);

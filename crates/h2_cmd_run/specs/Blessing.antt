@@ -11,7 +11,7 @@ use Rattle.h2_cmd_cases.specs.CaseWords.{have_words}
 use Rattle.h2_cmd_cases.specs.Files.{cases_in, preamble_length}
 use Rattle.h2_cmd_check.specs.Blessed.{blessed, kept_line}
 use Rattle.h2_cmd_check.specs.Frames.{is_none}
-use Rattle.h2_cmd_args.specs.Grammar.{Asked, BookAsked, batch, check, debug, explain, serve}
+use Rattle.h2_cmd_args.specs.Grammar.{Asked, BookAsked, against, batch, check, debug, explain, serve}
 use Rattle.h2_cmd_batch.specs.Books.{book_said}
 use Rattle.h2_cmd_batch.specs.declared.case_setup.CaseSetup.{CaseSetup}
 use Rattle.h2_cmd_run.specs.CheckProgram.{setup_for}
@@ -105,3 +105,4 @@ writes_files (Some (debug config book)) = false
 writes_files (Some (serve config port count watched book)) = false
 writes_files (Some (explain config view file book)) = false
 writes_files (Some (check config book bless in_place junit names)) = writes_for bless in_place junit
+writes_files (Some (against config book port wait judge junit names)) = false

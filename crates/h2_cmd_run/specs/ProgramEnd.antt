@@ -18,7 +18,7 @@ use Rattle.h2_serve.specs.declared.explained.explain.Clients.{Clients}
 use Rattle.h2_serve.specs.declared.fault.ServeFault.{ServeFault}
 use Rattle.h2_serve.specs.declared.fault.ServeFault.TheVariants as server
 use Rattle.h2_debug.specs.Session as session
-use Rattle.h2_cmd_args.specs.Grammar.{Asked, BatchAsked, BookAsked, batch, debug, serve, explain, check}
+use Rattle.h2_cmd_args.specs.Grammar.{Asked, BatchAsked, BookAsked, batch, debug, serve, explain, check, against}
 use Rattle.h2_cmd_args.specs.declared.command.Refusal.{Refusal}
 use Rattle.h2_cmd_args.specs.declared.command.Refusal.TheVariants as words
 use Rattle.h2_cmd_batch.specs.Books.{book_said}
@@ -121,7 +121,7 @@ abbrev pub EndsShown : (List Entry → Type 0) → Form → Config → (port cou
 EndsShown IsBook form config port count before after log log' status =
     ((status ≡ 1) × EndsInLine before after) ⊎ ((status ≡ 3) ⊎ ((book : List Entry) × IsBook book × IsShown form book config port count before after log log' status))
 
--- whether words ask for connections to be served
+-- whether words ask for connections to be served, or for a server to be judged
 abbrev pub is_serve : Option Asked → Bool
 is_serve None = false
 is_serve (Some (batch b)) = false
@@ -129,6 +129,7 @@ is_serve (Some (debug config book)) = false
 is_serve (Some (serve config port count watched book)) = true
 is_serve (Some (explain config view file book)) = false
 is_serve (Some (check config book bless in_place junit names)) = false
+is_serve (Some (against config book port wait judge junit names)) = true
 
 -- whether anything is read for words
 abbrev pub is_reader : Option Asked → Bool
@@ -138,6 +139,7 @@ is_reader (Some (debug config book)) = true
 is_reader (Some (serve config port count watched book)) = false
 is_reader (Some (explain config view file book)) = true
 is_reader (Some (check config book bless in_place junit names)) = false
+is_reader (Some (against config book port wait judge junit names)) = false
 
 abbrev pub asks_why : Option Asked → Bool
 asks_why None = false
@@ -146,3 +148,4 @@ asks_why (Some (debug config book)) = book.why
 asks_why (Some (serve config port count watched book)) = book.why
 asks_why (Some (explain config view file book)) = book.why
 asks_why (Some (check config book bless in_place junit names)) = book.why
+asks_why (Some (against config book port wait judge junit names)) = book.why

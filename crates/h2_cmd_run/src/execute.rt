@@ -82,8 +82,8 @@ pub fn debug_over<F: Files, I: Input, O: Output, E: Output>(
     }
 }
 
-/// Does what was asked for, and gives the exit status. Where that is nothing, or connections to be served, nothing is
-/// read.
+/// Does what was asked for, and gives the exit status. Where that is nothing, connections to be served or a server to be
+/// judged, nothing is read.
 ///
 /// 0: done. 1: a fault ended it, and its line was written. 2: the words were refused, or ask for help, and what there
 /// is to say of them was written; or they ask for connections to be served, and nothing was written (`serve` does
@@ -143,7 +143,7 @@ pub fn carry_out<F: Files, I: Input, O: Output, E: Output>(
     match asked {
         Ok(Plan::Batch(batch)) => respond(alloc, batch, files, input, output, errors),
         Ok(Plan::Debug(plan)) => debug(alloc, plan, files, input, output, errors),
-        Ok(Plan::Serve(_)) => 2,
+        Ok(Plan::Serve(_) | Plan::Against(_)) => 2,
         Ok(Plan::Explain(plan)) => explain_plan(alloc, plan, files, input, output, errors),
         Ok(Plan::Check(plan)) => check_plan(alloc, plan, files, output, errors),
         Err(Refusal::Words(text)) => print(output, &text.as_str(), 2),

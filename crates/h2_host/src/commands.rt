@@ -2,7 +2,7 @@
 
 ghost use Rattle.std.specs.Prelude.{◌≡◌, false};
 
-use h2_cmd_args::command::{Debug, Plan, Refusal, Serve};
+use h2_cmd_args::command::{Against, Debug, Plan, Refusal, Serve};
 use h2_cmd_book_file::Files;
 use h2_io::{Input, Output};
 use std::alloc::Global;
@@ -41,4 +41,7 @@ pub trait Commands {
 
     /// Serves, as the words ask for; gives the exit status, and whether a sentence says why already.
     fn serve<W: Write>(&self, rt: &HostRuntime, plan: &Serve<'_>, output: &mut W) -> (u8, bool);
+
+    /// Judges a server, as the words ask for; gives the exit status, and whether a sentence says why already.
+    fn against<W: Write>(&self, rt: &HostRuntime, plan: &Against<'_>, output: &mut W) -> (u8, bool);
 }

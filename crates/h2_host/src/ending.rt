@@ -135,6 +135,7 @@ fn say_of_plan(
         Plan::Check(check) if outcome.unwritten.is_none() && !outcome.is_said => {
             say_of_cases(rt, check, out);
         }
+        Plan::Against(_) => {}
         Plan::Serve(serve) if outcome.status == 1 && !outcome.is_said => {
             say_of_server(rt, plan, serve.port, outcome, out);
         }

@@ -158,6 +158,7 @@ fn run_over<'w, C: Commands>(
     let mut given = input_of(rt, commands, asked, devices, case, &state);
     let (status, is_said) = match &*asked {
         Ok(Plan::Serve(plan)) => commands.serve(rt, plan, gathered),
+        Ok(Plan::Against(plan)) => commands.against(rt, plan, gathered),
         _ => carry_out_over(rt, commands, asked, devices, &mut given, gathered),
     };
     let status = match gathered.flush() {

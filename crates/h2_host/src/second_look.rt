@@ -205,7 +205,7 @@ pub fn say_outcome(alloc: Global, plan: &Plan<'_>, outcome: Outcome<'_>, out: &m
             Plan::Serve(serve) => outcome.say_served(serve.config, serve.port, out),
             Plan::Explain(explain) => outcome.say_hex(alloc, Some(explain.config), true, out),
             // What can't be read of its files has its sentence by the program, which has the files.
-            Plan::Check(_) => {}
+            Plan::Check(_) | Plan::Against(_) => {}
         }
     }
 }

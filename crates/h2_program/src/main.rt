@@ -3,7 +3,11 @@
 
 ghost use Rattle.std.specs.Prelude.{◌≡◌, false};
 
-use h2_cmd_args::command::{Debug, Refusal, Serve};
+mod peer;
+
+use crate::peer::TcpPeer;
+use h2_cmd_against::against::judge_server;
+use h2_cmd_args::command::{Against, Debug, Refusal, Serve};
 use h2_cmd_book_file::Files;
 use h2_cmd_run::{Keeper, NoKeeper, Plan, TcpPort, carry_out, debug_over, serve};
 use h2_host::{Commands, NamedFiles, Noted, ServerOutput, Stopwatch, run_program};
@@ -67,6 +71,26 @@ fn serve_over<'x, W: Write>(
     }
 }
 
+/// Judges a server, as the words ask for; gives the status, and whether a sentence was written.
+fn judge_over<W: Write>(rt: &HostRuntime, plan: &Against<'_>, output: &mut W) -> (u8, bool) {
+    let mut files = NamedFiles { rt };
+    let mut stderr = rt.stderr();
+    let mut errors = IntoWrite::new(&mut stderr);
+    let mut noted = Noted::new(&mut errors);
+    let mut written = IntoWrite::new(output);
+    let port = u16::try_from(plan.port).unwrap_or(0);
+    let mut peer = TcpPeer::new(rt, port);
+    let status = judge_server(
+        rt.alloc(),
+        plan,
+        &mut peer,
+        &mut files,
+        &mut written,
+        &mut noted,
+    );
+    (status, noted.is_written())
+}
+
 /// The commands as h2_cmd_run has them.
 #[derive(Clone, Copy)]
 struct Program;
@@ -99,6 +123,15 @@ impl Commands for Program {
 
     fn serve<W: Write>(&self, rt: &HostRuntime, plan: &Serve<'_>, output: &mut W) -> (u8, bool) {
         serve_over(rt, plan, output)
+    }
+
+    fn against<W: Write>(
+        &self,
+        rt: &HostRuntime,
+        plan: &Against<'_>,
+        output: &mut W,
+    ) -> (u8, bool) {
+        judge_over(rt, plan, output)
     }
 }
 

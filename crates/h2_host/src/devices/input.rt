@@ -8,7 +8,7 @@ use crate::{
     Behind, Console, Front, Hexed, Manner, SessionState, TakenInput, WaitingInput, WaitingOutput,
     hex_of,
 };
-use h2_cmd_args::command::{Batch, Check, Devices, Plan, Refusal};
+use h2_cmd_args::command::{Against, Batch, Check, Devices, Plan, Refusal};
 use h2_cmd_book_file::{Files, FilesFault};
 use h2_cmd_messages::{InputSource, has_offsets, is_capture};
 use h2_io::MAX_INPUT;
@@ -79,10 +79,29 @@ fn refusal_of_check(check: &Check<'_>) -> Option<&'static str> {
     None
 }
 
+/// Why the words of a server that is judged don't go together, where they don't.
+fn refusal_of_against(against: &Against<'_>) -> Option<&'static str> {
+    if against.judge && against.port != 0 {
+        return Some("error: --judge takes recorded octets and --against a port: leave out one\n");
+    }
+    if against.judge && against.files.len() < 3 {
+        return Some(
+            "error: --judge needs three files or more: the client's octets, the server's, and cases\n",
+        );
+    }
+    if !against.judge && against.port == 0 {
+        return Some("error: invalid value for '--against <against>': a port, 1 to 65535\n");
+    }
+    None
+}
+
 /// Why words that don't go together are refused, where they don't.
 fn refusal_of(asked: &Result<Plan<'_>, Refusal>, devices: Devices<'_>) -> Option<&'static str> {
     if let Ok(Plan::Check(check)) = asked {
         return refusal_of_check(check);
+    }
+    if let Ok(Plan::Against(against)) = asked {
+        return refusal_of_against(against);
     }
     if let Ok(Plan::Explain(explain)) = asked
         && explain.file != ""
@@ -112,6 +131,7 @@ fn book_of<'p>(plan: &'p Plan<'_>) -> &'p str {
         Plan::Serve(serve) => serve.book.file,
         Plan::Explain(explain) => explain.book.file,
         Plan::Check(check) => check.book.file,
+        Plan::Against(against) => against.book.file,
         Plan::Batch(_) => "",
     }
 }
@@ -124,6 +144,7 @@ fn reads_input(plan: &Plan<'_>, devices: Devices<'_>) -> bool {
         Plan::Serve(_) => false,
         Plan::Explain(explain) => explain.file == "" && devices.file == "",
         Plan::Check(check) => check.files.iter().any(|file| *file == STANDARD_INPUT),
+        Plan::Against(against) => against.files.iter().any(|file| *file == STANDARD_INPUT),
     }
 }
 

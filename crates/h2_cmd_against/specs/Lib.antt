@@ -1,0 +1,5 @@
+pub mod Ends
+pub mod Files
+pub mod Program
+pub mod Results
+pub mod Servers

@@ -1,0 +1,99 @@
+//! `check --against` and `check --judge`. Definitions: `specs/Program.antt`.
+
+ghost use Rattle.std.specs.Prelude.{◌≡◌, ◌==◌, false, map, true};
+ghost use Rattle.h2_cmd_args.specs.Plans.{book_asked};
+ghost use Rattle.h2_cmd_batch.specs.CommandEnd.{PrintsSome};
+ghost use Rattle.h2_cmd_against.specs.Program.{EndsAgainst, IsJudged};
+
+use crate::cases::Bench;
+use crate::program::{Stop, print_end, print_files};
+use crate::results::SoFar;
+use crate::start::{case_names, server_for};
+use h2_cmd_args::command::Against;
+use h2_cmd_batch::{BenchFault, book_for_words, print_fault};
+use h2_cmd_book_file::Files;
+use h2_cmd_exchange::link::Link;
+use h2_io::Output;
+use std::alloc::Global;
+
+/// Judges the server of which this is known by the cases of files, with this path for the results as JUnit XML. Gives the
+/// status.
+fn judge_known<F: Files, L: Link, O: Output, E: Output>(
+    alloc: Global,
+    bench: Bench<'_>,
+    names: &[&str],
+    junit: &str,
+    link: &mut L,
+    files: &mut F,
+    output: &mut O,
+    errors: &mut E,
+) -> u8
+    requires writer { O.has_failed output.old ≡ false }
+    ensures printed { F.is_printed files.old ≡ true → O.has_failed output.new ≡ false
+        → PrintsSome (λ t. IsJudged junit.now (F.file files.old) bench.entry.server.now bench.entry.book.now (map (λ n. n.now) names.now)
+        (L.log link.old) (F.file files.new) (L.log link.new) t) (O.written output.old) (O.written output.new) result }
+    ensures flag { O.has_failed output.new ≡ (result == 3) }
+{
+    match output.write(b"TAP version 13\n") {
+        Ok(()) => {}
+        Err(_) => return 3,
+    }
+    let mut so_far = SoFar::new(alloc);
+    match print_files(alloc, bench, names, files, link, &mut so_far, output) {
+        Ok(suites) => {
+            let suites = suites.as_slice();
+            print_end(alloc, junit, &so_far, suites, files, output, errors)
+        }
+        Err(Stop::NoMemory) => print_fault(output, BenchFault::NoMemory),
+        Err(Stop::NotWritten) => 3,
+    }
+}
+
+/// Says why no case was judged, where words tell more than the fault.
+fn say_missing<E: Output>(fault: BenchFault, errors: &mut E) {
+    let _ = match fault {
+        BenchFault::Socket => {
+            errors.write(b"nothing listens on this port of 127.0.0.1, or it speaks no HTTP/2.\n")
+        }
+        BenchFault::Read => errors.write(b"the recorded octets can't be read.\n"),
+        _ => Ok(()),
+    };
+}
+
+/// Judges a server by the cases of files, as a plan says, and prints the results as TAP. Gives the status: 0 where nothing is
+/// broken, 1 where something is, where a case can't be played, and after a fault, 3 where the output failed. Sentences are
+/// written to `errors`.
+pub fn judge_server<F: Files, L: Link, O: Output, E: Output>(
+    alloc: Global,
+    plan: &Against<'_>,
+    link: &mut L,
+    files: &mut F,
+    output: &mut O,
+    errors: &mut E,
+) -> u8
+    requires writer { O.has_failed output.old ≡ false }
+    ensures printed { F.is_printed files.old ≡ true → O.has_failed output.new ≡ false
+        → EndsAgainst plan.now.judge plan.now.junit.now (F.file files.old) (book_asked plan.now.book) (map (λ n. n.now) plan.now.files.items)
+        (L.log link.old) (F.file files.new) (L.log link.new) (O.written output.old) (O.written output.new) result }
+    ensures flag { O.has_failed output.new ≡ (result == 3) }
+{
+    let book = match book_for_words(alloc, &plan.book, files, errors) {
+        Ok(book) => book,
+        Err(fault) => return print_fault(output, fault),
+    };
+    match server_for(alloc, plan.judge, plan.files.as_slice(), files, link) {
+        Ok(server) => {
+            let bench = Bench {
+                book: &book,
+                server: &server,
+                millis: u64::from(plan.wait),
+            };
+            let names = case_names(plan.judge, plan.files.as_slice());
+            judge_known(alloc, bench, names, plan.junit, link, files, output, errors)
+        }
+        Err(fault) => {
+            say_missing(fault, errors);
+            print_fault(output, fault)
+        }
+    }
+}

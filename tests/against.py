@@ -1,0 +1,178 @@
+#!/usr/bin/env python3
+"""`check --against` and `check --judge`: the server of this program is the same as itself in each case that is not skipped; servers that are silent, slow, close amid a
+frame, send garbage, or send without end get a verdict in bounded time.
+
+    tests/against.py PROGRAM
+
+It needs nothing but Python. The last line is `N passed, M failed`; the status is 1 where one failed.
+"""
+
+import glob
+import os
+import socket
+import subprocess
+import sys
+import tempfile
+import threading
+import time
+
+sys.dont_write_bytecode = True
+import script  # noqa: E402
+
+TOP = os.path.dirname(os.path.dirname(os.path.abspath(__file__)))
+SECONDS = 900
+SETTINGS = script.octets("SETTINGS 00 0 -")
+ACK = script.octets("SETTINGS 01 0 -")
+PONG = script.octets("PING 01 0 x0000000000000000")
+CASE = ";# PING is answered (RFC 9113, 6.7)\nPREFACE\nSETTINGS 00 0 -\nPING 00 0 x0102030405060708\n"
+passed, failed = 0, 0
+
+
+def expect(title, holds, found):
+    global passed, failed
+    if holds:
+        passed += 1
+    else:
+        failed += 1
+        print(f"{title}: found {found}")
+
+
+def check(program, *words):
+    """The output, standard error and status of `check` with these words."""
+    run = subprocess.run(["h2_bench", "check", *words], executable=program, capture_output=True, text=True, timeout=SECONDS)
+    return run.stdout, run.stderr, run.returncode
+
+
+def cases():
+    return sorted(glob.glob(f"{TOP}/cases/**/*.h2", recursive=True))
+
+
+def sums(output):
+    """The numbers of the line at the end, by their words."""
+    line = next(line for line in output.splitlines() if line.startswith("# same "))
+    return {part.split()[0]: int(part.split()[1]) for part in line[2:].split(", ")}
+
+
+class Scripted:
+    """A server that does this with each connection."""
+
+    def __init__(self, play):
+        self.listener = socket.create_server(("127.0.0.1", 0))
+        self.port = self.listener.getsockname()[1]
+        self.play = play
+        threading.Thread(target=self.accept, daemon=True).start()
+
+    def accept(self):
+        while True:
+            try:
+                wire, _ = self.listener.accept()
+            except OSError:
+                return
+            threading.Thread(target=self.serve, args=(wire,), daemon=True).start()
+
+    def serve(self, wire):
+        try:
+            self.play(wire)
+        except OSError:
+            pass
+        wire.close()
+
+    def __enter__(self):
+        return self
+
+    def __exit__(self, *_):
+        self.listener.close()
+
+
+def silent(wire):
+    while wire.recv(65536):
+        pass
+
+
+def slow(wire):
+    for octet in SETTINGS + ACK:
+        wire.sendall(bytes([octet]))
+        time.sleep(0.005)
+    silent(wire)
+
+
+def cut(wire):
+    wire.recv(65536)
+    wire.sendall(SETTINGS + b"\x00\x00\x10\x01\x05\x00\x00\x00\x01\x88")
+
+
+def garbage(wire):
+    wire.sendall(bytes((7 * n + 13) % 251 for n in range(100_000)))
+    silent(wire)
+
+
+def endless(wire):
+    wire.sendall(SETTINGS)
+    while True:
+        wire.sendall(PONG * 1000)
+
+
+def scripted_servers(program, case):
+    """Each server is judged in bounded time, and none passes."""
+    for play in (silent, slow, cut, garbage, endless):
+        with Scripted(play) as server:
+            begun = time.monotonic()
+            output, errors, status = check(program, "--against", str(server.port), case)
+            seconds = time.monotonic() - begun
+            is_same = " same 1," in output
+            expect(f"a server that is {play.__name__} does not pass", not is_same and status in (0, 1), (status, output, errors))
+            expect(f"a server that is {play.__name__} is judged in 40 s", seconds < 40, seconds)
+
+
+def nothing_listens(program, case):
+    with socket.create_server(("127.0.0.1", 0)) as listener:
+        port = listener.getsockname()[1]
+    output, errors, status = check(program, "--against", str(port), case)
+    expect("where nothing listens there is a sentence, and status 1", status == 1 and "nothing listens" in errors, (status, output, errors))
+
+
+def own_server(program):
+    """The server of this program, in all cases."""
+    with socket.create_server(("127.0.0.1", 0)) as listener:
+        port = listener.getsockname()[1]
+    server = subprocess.Popen(["h2_bench", "serve", str(port), "100000", "--streams", "100"], executable=program, stdin=subprocess.DEVNULL, stdout=subprocess.DEVNULL)
+    try:
+        time.sleep(0.5)
+        output, errors, status = check(program, "--against", str(port), *cases())
+    finally:
+        server.kill()
+        server.wait()
+    found = sums(output)
+    wrong = [line for line in output.splitlines() if line.startswith("not ok")]
+    expect("serve is the same as itself", status == 0 and found["allowed"] + found["doubtful"] + found["broken"] == 0 and found["same"] > 300, (found, wrong[:20], errors))
+    print(f"serve: {found}")
+
+
+def recorded(program, folder, case):
+    """The verdict on octets that were recorded."""
+    client, server = f"{folder}/client", f"{folder}/server"
+    octets = script.PREFACE + SETTINGS + script.octets("PING 00 0 x0102030405060708")
+    with open(client, "wb") as file:
+        file.write(octets)
+    for title, sent, same in (("that answers", SETTINGS + ACK + script.octets("PING 01 0 x0102030405060708"), 1), ("that answers with other octets", SETTINGS + ACK + PONG, 0)):
+        with open(server, "wb") as file:
+            file.write(sent)
+        output, errors, status = check(program, "--judge", client, server, case)
+        expect(f"a recorded server {title}", f"# same {same}," in output and status == 1 - same, (status, output, errors))
+
+
+def main(program):
+    with tempfile.TemporaryDirectory() as folder:
+        case = f"{folder}/ping.h2"
+        with open(case, "w", encoding="utf-8") as file:
+            file.write(CASE)
+        recorded(program, folder, case)
+        nothing_listens(program, case)
+        scripted_servers(program, case)
+    own_server(program)
+    print(f"{passed} passed, {failed} failed")
+    return 1 if failed else 0
+
+
+if __name__ == "__main__":
+    sys.exit(main(sys.argv[1]))
