@@ -48,7 +48,7 @@ pub loop-at-smaller : goal.loop-at-smaller
 loop-at-smaller g c = omega (arith, c.loop-at.invariant.within, c.portion-count.ensures.some, c.portion-count.ensures.within, ap length c.octets_from-rest.ensures, length-drop c.loop-at.at c.args.octets.now)
 
 pub overflow_add-at : goal.overflow_add-at
-overflow_add-at g c = omega (arith, c.loop-at.invariant.within, c.portion-count.ensures.within, ap length c.octets_from-rest.ensures, length-drop c.loop-at.at c.args.octets.now, c.type_inv)
+overflow_add-at g c = omega (arith, c.loop-at.invariant.within, c.portion-count.ensures.within, ap length c.octets_from-rest.ensures, length-drop c.loop-at.at c.args.octets.now)
 
 pub portion-count-requires : goal.portion-count-requires
 portion-count-requires g c = omega (arith, c.loop-at-test.true, ap length c.octets_from-rest.ensures, length-drop c.loop-at.at c.args.octets.now)
