@@ -8,9 +8,8 @@ use Rattle.h2_spec.specs.Texts.Debug.{sent_at, state_at}
 use Rattle.h2_spec.specs.Trace.{Event, Run, carried_on, trace}
 use Rattle.h2_spec.proofs.TraceLaws.{trace-append}
 use Rattle.h2_conn.specs.Connection.{awaits_preface, going}
-use Rattle.h2_conn.specs.Follows.{Follows}
 use Rattle.h2_debug.specs.Debugging.{IsKept}
-use Rattle.h2_debug.specs.Places.{AreKept, IsAt, KeptPlace, Placed, Source, at, end, events, frames_at, longer, reasons_at, sent_octets_at, start}
+use Rattle.h2_debug.specs.Places.{AreKept, IsAt, KeptPlace, Placed, Source, at, end, events, longer, start}
 use Rattle.h2_debug.specs.Reasons.{reasons_in}
 
 -- ---- a place in a list of items that more follow

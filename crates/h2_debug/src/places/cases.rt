@@ -284,8 +284,8 @@ fn is_shown(part: Result<Part<'_>, Cause>, opens: bool, is_open: bool) -> bool
     }
 }
 
-/// Whether a frame shows fields of its block: its fragment is decoded. An open block is decoded no more where CONTINUATION is
-/// an error of another cause.
+/// Whether a frame shows fields of its block: its fragment is decoded. After the end of the connection an open block is decoded
+/// no more, and CONTINUATION is an error of a cause that has no case by its fields.
 fn is_decoded<A: Allocator + Copy>(conn: &Conn<'_, A>, frame: FrameRef<'_>) -> bool
     ensures { (cause : Cause) → cause_of conn.now.state (WholeFrame frame.entry.head frame.entry.payload.now) ≡ Some cause → (cause ≡ ContinuationOutsideBlock → ⊥)
         → result ≡ is_some (item_fields conn.now.state (WholeFrame frame.entry.head frame.entry.payload.now)) }

@@ -1,4 +1,3 @@
-use Rattle.std.proofs.Common.{◌≡◌, ◌∙◌, Some, ap, sym}
 use Rattle.h2_debug.proofs.CaseLaws.{no-error-case}
 use Rattle.h2_debug.proofs.debugger.Debugger.cause_case.Goals as goal
 

@@ -1,4 +1,4 @@
-use Rattle.std.proofs.Common.{◌≡◌, ◌∙◌, ◌+◌, ◌≤◌, Some, arith, subst, sym}
+use Rattle.std.proofs.Common.{◌≡◌, ◌+◌, Some, arith, subst, sym}
 use Rattle.std.proofs.lemmas.Result.{IfOk-weaker}
 use Rattle.h2_debug.specs.Debugging.{Debugging}
 use Rattle.h2_debug.specs.Places.{IsAt, cause_at}

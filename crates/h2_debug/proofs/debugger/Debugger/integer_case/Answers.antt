@@ -1,4 +1,4 @@
-use Rattle.std.proofs.Common.{◌≡◌, arith}
+use Rattle.std.proofs.Common.{arith}
 use Rattle.h2_debug.proofs.KeptLaws.{replay-start-before}
 use Rattle.h2_debug.proofs.debugger.Debugger.integer_case.Goals as goal
 

@@ -1,6 +1,6 @@
-use Rattle.std.proofs.Common.{◌≡◌, ◌∙◌, ◌+◌, ◌≤◌, ◌<◌, Some, None, ap, arith, subst, sym}
+use Rattle.std.proofs.Common.{◌≡◌, ◌+◌, Some, None, arith, subst, sym}
 use Rattle.h2_debug.specs.Debugging.{Debugging}
-use Rattle.h2_debug.specs.Places.{IsAt, cause_at, end, ignored_at}
+use Rattle.h2_debug.specs.Places.{IsAt, cause_at, ignored_at}
 use Rattle.h2_debug.proofs.CaseLaws.{reason-case}
 use Rattle.h2_debug.proofs.debugger.Debugger.reason_case_from.Goals as goal
 

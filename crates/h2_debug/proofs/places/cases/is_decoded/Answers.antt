@@ -1,5 +1,5 @@
 use Rattle.std.proofs.Common.{rules, ◌≡◌, ◌∙◌, false, is_some}
-use Rattle.h2_debug.proofs.CaseLaws.{passed-shows, refused-shows, shown-stream}
+use Rattle.h2_debug.proofs.CaseLaws.{passed-shows, shown-stream}
 use Rattle.h2_debug.proofs.places.cases.is_decoded.Goals as goal
 
 pub returns : goal.returns
