@@ -1,5 +1,4 @@
 use Rattle.std.proofs.Common.{Bool, List, ℕ, ap, refl}
-use Rattle.h2_explain.specs.declared.run_explainer.RunExplainer.{RunExplainer}
 use Rattle.h2_serve.specs.ExplainedConns.{whole}
 use Rattle.h2_serve.specs.Numbered.{PrintsPrefixed}
 use Rattle.h2_serve.specs.Passes.{grows-none, prints-none}
