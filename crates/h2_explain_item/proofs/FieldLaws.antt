@@ -63,7 +63,7 @@ split-step : (b : List ℕ) (r : Read Shape) → instr_at b ≡ r → split b �
 unfolding split
 split-step b r e = parse_all-step next_shape shape-uses tt b ∙ ap (λ (x : Read Shape). parse_first tt b (instr_only x) (λ t rest. parse_all next_shape t rest)) e
 
--- the octets behind all whole instructions are those behind all but the first one
+-- the octets after all whole instructions are those after all but the first one
 pub split-whole : (b : List ℕ) (i : Shape) (used : ℕ) → instr_at b ≡ Whole i used → (split b).rest ≡ (split (drop used b)).rest
 unfolding split
 split-whole b i used e = ap (λ p. p.rest) (split-step b (Whole i used) e)

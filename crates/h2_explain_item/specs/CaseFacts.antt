@@ -39,7 +39,7 @@ abbrev pub groups_value : List ℕ → ℕ
 groups_value [] = 0
 groups_value (c ∷ cs) = if nat_lt c 128 then c else c % 128 + 128 * groups_value cs
 
--- whether the groups behind the prefix of an integer write 2^32 or more: no setting allows more
+-- whether the groups after the prefix of an integer write 2^32 or more: no setting allows more
 abbrev pub is_beyond : List ℕ → Bool
 is_beyond octets = nat_le (2 ^ 32) (groups_value (drop 1 octets))
 
@@ -81,7 +81,7 @@ is_beyond_tables octets = is_instruction_beyond (split octets).rest
 
 -- ---- all of them
 
--- of an item: whether it is behind a CONTINUATION of the open block, what its payload holds, what its fields are, the octets of
+-- of an item: whether it is after a CONTINUATION of the open block, what its payload holds, what its fields are, the octets of
 -- its block from an instruction on, and whether the client had ended its side of the stream before it was reset
 abbrev pub facts_by : (continued : Bool) → Option Part → FieldFacts → List ℕ → (after_end : Bool) → CaseFacts
 facts_by continued part fields octets after_end = record {

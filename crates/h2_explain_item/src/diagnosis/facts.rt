@@ -16,7 +16,7 @@ use h2_spec::causes::Cause;
 use h2_spec::streams::{Stream, StreamState};
 use std::alloc::{AllocError, Allocator};
 
-/// What decides, beside what is seen of an item, whether its rule is a special case: whether it is behind a CONTINUATION of the
+/// What decides, beside what is seen of an item, whether its rule is a special case: whether it is after a CONTINUATION of the
 /// open block, what its payload holds, what its fields are, the octets of its block from an instruction on, and whether the
 /// client had ended its side of the stream before it was reset.
 pub fn case_facts(

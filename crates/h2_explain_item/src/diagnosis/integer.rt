@@ -43,7 +43,7 @@ fn groups_value(octets: &[u8]) -> u64
     value
 }
 
-/// Whether the groups behind the prefix of an integer write 2^32 or more: no setting allows more.
+/// Whether the groups after the prefix of an integer write 2^32 or more: no setting allows more.
 fn is_beyond(octets: &[u8]) -> bool
     ensures { result ≡ spec.is_beyond octets.now }
 {
@@ -63,7 +63,7 @@ fn is_value_beyond(octets: &[u8]) -> bool
     }
 }
 
-/// The same of the length of a name, or of the value behind it.
+/// The same of the length of a name, or of the value after it.
 fn is_name_beyond(octets: &[u8]) -> bool
     ensures { result ≡ spec.is_name_beyond octets.now }
 {
