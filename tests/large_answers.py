@@ -1,9 +1,11 @@
 #!/usr/bin/env python3
-"""large_answers.py PROGRAM [WORD]: how much memory large answers make `play` and `serve` take, above that of the same book and one request.
+"""large_answers.py [--explained] PROGRAM [WORD]: how much memory large answers make `play` and `serve` take, above that of the same book and one request.
 
 A client opens its windows and asks for a body of 1 MiB again and again. A row is bounded where this takes at most 32 MiB more than an answer that is one
 octet. Memory is the peak of resident memory that the kernel counts. `serve` is read from as fast as it writes, over 127.0.0.1. It prints a table in Markdown;
 with WORD the rows that have it in their name. The status is 1 where a program doesn't answer all. tests/floods.py calls it.
+
+--explained: only a few requests, of servers that explain and record, each of which has to be bounded. The last line is `N passed, M failed`.
 """
 
 import os
@@ -11,9 +13,11 @@ import socket
 import subprocess
 import sys
 import tempfile
+import time
 
 BODY = 1 << 20
 MOST = 32 * 1024  # KiB
+FEW = 40
 HEADERS, SETTINGS, WINDOW_UPDATE = 1, 4, 8
 END_STREAM, END_HEADERS = 1, 4
 LARGE, SMALL = "2f6c", "2f73"  # /l and /s
@@ -73,12 +77,23 @@ def free_port():
         return listener.getsockname()[1]
 
 
+def is_listening(path, port):
+    """Whether a server has said so within ten seconds, in the file of its output."""
+    for _ in range(1000):
+        with open(path, "rb") as file:
+            if file.readline() == f"listening {port}\n".encode():
+                return True
+        time.sleep(0.01)
+    return False
+
+
 def serve(program, words, octets, wanted):
     """The peak of `serve`, in KiB, once the client has read so many octets, and whether it read them."""
     port = free_port()
-    server = subprocess.Popen([program, "serve", *words, str(port), "1"], stdout=subprocess.PIPE)
+    output = tempfile.NamedTemporaryFile()
+    server = subprocess.Popen([program, "serve", *words, str(port), "1"], stdout=output)
     try:
-        if server.stdout.readline() != f"listening {port}\n".encode():
+        if not is_listening(output.name, port):
             return 0, False
         with socket.create_connection(("127.0.0.1", port), 60) as client:
             client.sendall(octets)
@@ -94,16 +109,42 @@ def serve(program, words, octets, wanted):
         server.wait()
 
 
+def explained(program):
+    """Whether memory is bounded where what is sent is explained, printed and recorded too."""
+    passed, failed = 0, 0
+    with tempfile.TemporaryDirectory() as made:
+        book = write_book(made)
+        for options in (["--explain"], ["--json", "--full"], ["--strict"], ["--record", made]):
+            words = ["--book", book, "--quiet", *options]
+            small, answers_small = serve(program, words, asked(FEW, SMALL), FEW)
+            large, answers_large = serve(program, words, asked(FEW, LARGE), FEW * BODY)
+            if answers_small and answers_large and large - small <= MOST:
+                passed += 1
+            else:
+                failed += 1
+                print(f"serve {' '.join(options)}: {FEW} answers of 1 MiB take {(large - small) / 1024:,.0f} MiB more than small ones, or were not read whole")
+    print(f"{passed} passed, {failed} failed")
+    sys.exit(1 if failed else 0)
+
+
+def write_book(made):
+    """The path of a book with a large and a small answer."""
+    book = f"{made}/book.toml"
+    with open(book, "w", encoding="utf-8") as file:
+        for path, length in (("/l", BODY), ("/s", 1)):
+            file.write(f'[[answer]]\nmethod = "GET"\npath = "{path}"\nstatus = 200\nbody-fill = [{length}, "x"]\n')
+    return book
+
+
 def main():
+    if sys.argv[1] == "--explained":
+        explained(sys.argv[2])
     program, only = sys.argv[1], sys.argv[2] if len(sys.argv) > 2 else ""
     wrong = 0
     print("| Answers of 1 MiB | `play`: memory above small answers | `serve` | At most 32 MiB |")
     print("|---|---|---|---|", flush=True)
     with tempfile.TemporaryDirectory() as made:
-        book = f"{made}/book.toml"
-        with open(book, "w", encoding="utf-8") as file:
-            for path, length in (("/l", BODY), ("/s", 1)):
-                file.write(f'[[answer]]\nmethod = "GET"\npath = "{path}"\nstatus = 200\nbody = "{"x" * length}"\n')
+        book = write_book(made)
         for name, octets, count, options in ROWS:
             if only not in name:
                 continue

@@ -514,6 +514,32 @@ def a_server_that_is_killed_leaves_a_record(program):
         yield "".join(text_of(f"{directory}/connection-1.hex").split()), (START + PING + PING[:9]).hex()
 
 
+def a_record_has_only_what_was_written(program):
+    """A client resets its connection while the server is stopped, so a write fails: the last read is in the record, without what was to be sent for it."""
+    with tempfile.TemporaryDirectory() as directory:
+        with Server(program, 1, "--record", directory) as server:
+            server.line()
+            one = client(server.port, START)
+            read_to(one, ACKNOWLEDGED)
+            server.process.send_signal(signal.SIGSTOP)
+            os.waitpid(server.process.pid, os.WUNTRACED)
+            one.sendall(PING + PING + PING[:9])
+            one.setsockopt(socket.SOL_SOCKET, socket.SO_LINGER, struct.pack("ii", 1, 0))
+            one.close()
+            server.process.send_signal(signal.SIGCONT)
+            yield server.ended()[0].splitlines()[-1], "connection 1 fault 23"
+        wanted = [
+            ";< SETTINGS 01 0 -",
+            "; not all that was sent here was written",
+            "PING 00 0 x0102030405060708",
+            "PING 00 0 x0102030405060708",
+            "RAW 000008060000000000",
+        ]
+        case = f"{directory}/connection-1.h2"
+        yield text_of(case).splitlines()[-5:], wanted
+        yield checked(program, case), [f"ok 1 - {case}: connection 1", "1..1"]
+
+
 def small_files():
     """No file may have more than 400 octets; a write beyond fails."""
     signal.signal(signal.SIGXFSZ, signal.SIG_IGN)
@@ -590,6 +616,7 @@ TESTS = [
     a_book_is_named_from_the_record,
     a_record_is_a_case,
     a_long_body_is_recorded_by_its_sum,
+    a_record_has_only_what_was_written,
     a_server_that_is_killed_leaves_a_record,
     a_full_disk_ends_the_record_only,
     a_directory_that_is_not_there_is_refused,

@@ -10,6 +10,7 @@ name=${1:?a name such as ping-too-often} after=${2:?the cause after which it is 
 code=crates/h2_spec/src/causes.rt words=crates/h2_spec/specs/Causes/CauseWords.antt codes=crates/h2_spec/specs/Causes/Cause.antt
 places=crates/h2_spec/proofs/causes/place_of/Answers.antt example=examples/causes/$name.h2
 law=crates/h2_spec_laws/specs/Conformance.antt laws=crates/h2_spec_laws/proofs/ConformanceLaws.antt
+special=crates/h2_explain_item/proofs/SpecialLaws.antt
 
 variant_of() { sed -E 's/(^|-)([a-z])/\U\2/g' <<<"$1"; }
 variant=$(variant_of "$name") before=$(variant_of "$after")
@@ -42,12 +43,13 @@ sed -i "s/^row_of $before = \(.*\) name = codes \"[^\"]*\";\(.*\) sentence = cod
 sed -i "/^all_causes =\$/,/\[\]/s/\b$before ∷/& $variant ∷/" "$words"
 sed -i "s/\b$before ↦ refl/& | $variant ↦ refl/" "$places"
 sed -i "s/\bcause\.$before ↦ refl/& | cause.$variant ↦ refl/" "$laws"
+sed -E -i "s/\bcause\.$before ↦ [^|]*\| /&@&/; :again; s/(@[^|]*)\bcause\.$before\b/\1cause.$variant/; t again; s/@//" "$special"
 sed -i "s/^is_of_stream $before = true\$/&\nis_of_stream $variant = true/" "$law"
 
 printf ';# %s: say in a sentence what the client does (RFC 9113, 0)\nPREFACE\nSETTINGS 00 0 -\n' "$name" >"$example"
 
 cat <<TEXT
-Written: $code, $words, $codes, $places, $law, $laws, $example.
+Written: $code, $words, $codes, $places, $law, $laws, $special, $example.
 Each has a sentence to replace (grep -rn '$name:' crates examples), and the code, the scope and the row of $after to compare with the RFC.
 Then, in this order:
   the definition that answers cause.$variant, by this name (crates/h2_spec/specs), and its laws in crates/h2_spec_laws

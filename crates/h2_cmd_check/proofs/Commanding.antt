@@ -13,6 +13,7 @@ use Rattle.h2_spec.specs.declared.causes.Cause.{Cause}
 use Rattle.h2_spec.specs.declared.connection.Phase.{Phase}
 use Rattle.h2_spec.specs.declared.connection.Phase.TheVariants.{Preface, Settings, Running, Ended}
 use Rattle.h2_spec.specs.declared.ignored.Ignored.{Ignored}
+use Rattle.h2_spec.specs.declared.special_cases.SpecialCase.{SpecialCase}
 use Rattle.h2_explain_text.specs.Why.{error_why, ignored_why, why_lines}
 use Rattle.h2_cmd_check.specs.Cases.{Start, closes, debugger_at, sight_above}
 use Rattle.h2_cmd_check.specs.Commands.{answered, fault_in, is_memory_fault, is_refusal}
@@ -26,14 +27,14 @@ use Rattle.h2_cmd_check.proofs.Going.{closes_is}
 
 -- ---- what is replied
 
-no_refusal : (phase : Phase) (cause : Option Cause) (ignored : Option Ignored) → false ≡ is_refusal (why_lines phase cause ignored None)
+no_refusal : (phase : Phase) (cause : Option Cause) (ignored : Option Ignored) (case : Option SpecialCase) → false ≡ is_refusal (why_lines phase cause ignored case)
 unfolding error_why ignored_why
-no_refusal (Ended code) (Some cause) ignored = refl
-no_refusal Preface (Some cause) ignored = refl
-no_refusal Settings (Some cause) ignored = refl
-no_refusal Running (Some cause) ignored = refl
-no_refusal phase None (Some reason) = refl
-no_refusal phase None None = refl
+no_refusal (Ended code) (Some cause) ignored case = refl
+no_refusal Preface (Some cause) ignored case = refl
+no_refusal Settings (Some cause) ignored case = refl
+no_refusal Running (Some cause) ignored case = refl
+no_refusal phase None (Some reason) case = refl
+no_refusal phase None None case = refl
 
 -- a reply is a fault where its text is the line of one
 refusal_is : (d : Debugging) (reply : Reply) → is_some (fault_in reply) ≡ is_refusal (reply_text d reply)
@@ -42,7 +43,7 @@ refusal_is d (code.At position) = refl
 refusal_is d code.Done = refl
 refusal_is d (code.Refused fault) = refl
 refusal_is d code.Shown = refl
-refusal_is d code.Explained = no_refusal (at d.run d.position).core.phase (cause_at d.run d.position) (ignored_at d.run d.position)
+refusal_is d (code.Explained case) = no_refusal (at d.run d.position).core.phase (cause_at d.run d.position) (ignored_at d.run d.position) case
 
 -- only one reply is the line of refused memory
 number_is : (n m : ℕ) → n < 256 → m < 256 → fault_line n ≡ fault_line m → n ≡ m
@@ -55,7 +56,7 @@ memory_is d (code.Refused n) few e = eq-eqb n 0 (number_is n 0 few (omega arith)
 memory_is d (code.At position) few e = absurd (true≢false (sym (refusal_is d (code.At position) ∙ ap is_refusal e ∙ sym (refusal_is d (code.Refused 0)))))
 memory_is d code.Done few e = absurd (true≢false (sym (refusal_is d code.Done ∙ ap is_refusal e ∙ sym (refusal_is d (code.Refused 0)))))
 memory_is d code.Shown few e = absurd (true≢false (sym (refusal_is d code.Shown ∙ ap is_refusal e ∙ sym (refusal_is d (code.Refused 0)))))
-memory_is d code.Explained few e = absurd (true≢false (sym (refusal_is d code.Explained ∙ ap is_refusal e ∙ sym (refusal_is d (code.Refused 0)))))
+memory_is d (code.Explained case) few e = absurd (true≢false (sym (refusal_is d (code.Explained case) ∙ ap is_refusal e ∙ sym (refusal_is d (code.Refused 0)))))
 
 -- a line was given to a debugger, and memory was not refused
 pub line_given : (d after : Debugging) (text : List ℕ) (command : Option Command) (reply : Reply) (fault : Option ℕ) → command ≡ command_of text → Obeys d command (reply_text after reply) after

@@ -51,7 +51,7 @@ fault_in (code.Refused fault) = Some fault
 fault_in (code.At position) = None
 fault_in code.Done = None
 fault_in code.Shown = None
-fault_in code.Explained = None
+fault_in (code.Explained case) = None
 
 -- memory was refused
 abbrev pub is_memory_fault : Option ℕ → Bool

@@ -28,7 +28,7 @@ fn fault_in(reply: Reply) -> Option<u8>
 {
     match reply {
         Reply::Refused(fault) => Some(fault),
-        Reply::At(_) | Reply::Done | Reply::Shown | Reply::Explained => None,
+        Reply::At(_) | Reply::Done | Reply::Shown | Reply::Explained(_) => None,
     }
 }
 

@@ -273,6 +273,16 @@ replay-start-within target d le =
     cond_both (nat_le d.position target && nat_le (nearest_kept target d) d.position) d.position (nearest_kept target d) (λ (n : ℕ). n ≤ target)
     (λ _. le) (λ _. let low : min target d.reached / 64 * 64 ≤ min target d.reached = div-mul-le_self (min target d.reached) 64 in omega (arith, low))
 
+first : (a b : Bool) → (a && b) ≡ true → a ≡ true
+first true b e = refl
+first false b e = absurd (true≢false (sym e))
+
+-- no move starts after the position that it leads to
+pub replay-start-before : (target : ℕ) (d : Debugging) → replay_start target d ≤ target
+replay-start-before target d =
+    cond_both (nat_le d.position target && nat_le (nearest_kept target d) d.position) d.position (nearest_kept target d) (λ (n : ℕ). n ≤ target)
+    (λ near. leb-true d.position target (first _ _ near)) (λ _. let low : min target d.reached / 64 * 64 ≤ min target d.reached = div-mul-le_self (min target d.reached) 64 in omega (arith, low))
+
 -- a leg of 16,384 positions that were reached leads past the place where it starts, and no further
 pub leg-ahead : (p target s : ℕ) (d : Debugging) → s ≡ replay_start target d → target ≡ p + 16384 → d.position ≤ p → p + 16384 ≤ d.reached → (p < s) × (s ≤ p + 16384)
 leg-ahead p target s d from is le within = (omega (arith, from, past), omega (arith, from, is, replay-start-within target d (omega (arith, is, le))))

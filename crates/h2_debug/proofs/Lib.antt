@@ -2,6 +2,7 @@ pub mod BreakLaws
 pub mod KeptLaws
 pub mod Longer
 pub mod Obeying
+pub mod CaseLaws
 pub mod PlaceLaws
 pub mod Ahead
 pub mod Appending

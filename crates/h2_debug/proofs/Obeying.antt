@@ -1,15 +1,17 @@
 -- Moves of a debugger, as the answers to commands.
 use Rattle.std.proofs.Common.{◌≡◌, ◌∙◌, ◌+◌, ◌-◌, ◌<◌, ◌==◌, ℕ, zero, suc, Bool, true, false, true≢false, Result, Ok, Err, IfErr, IfOk, OnErr, OnOk, ap, eq-eqb, eqb-true, inl, inr, refl, sym, arith}
-use Rattle.std.specs.Prelude.{◌&&◌, nat_lt, min, Some}
+use Rattle.std.specs.Prelude.{◌&&◌, nat_lt, min, Option, Some}
+use Rattle.h2_spec.specs.declared.special_cases.SpecialCase.{SpecialCase}
 use Rattle.std.proofs.lemmas.Bool.{cond_both, lt-ltb, ltb-true, ne_eqb}
 use Rattle.h2_spec.specs.Texts.Debug.{stop}
 use Rattle.h2_debug.specs.Debugging.{Debugging, moved, moved_counting}
 use Rattle.h2_debug.specs.Faults.{end_fault, start_fault}
-use Rattle.h2_debug.specs.Places.{end, events}
+use Rattle.h2_debug.specs.Cases.{can_be_special, case_at}
+use Rattle.h2_debug.specs.Places.{cause_at, end, events, ignored_at}
 use Rattle.h2_debug.specs.declared.fault.DebugFault.{DebugFault}
 use Rattle.h2_debug.specs.declared.fault.DebugFault.TheVariants.{AtStart, NoMemory}
-use Rattle.h2_debug.specs.Commands.{Step, Back, Run}
-use Rattle.h2_debug.specs.Replies.{Answer, Obeys, arrived, moved_reply, refused, reply_text}
+use Rattle.h2_debug.specs.Commands.{Step, Back, Run, Why}
+use Rattle.h2_debug.specs.Replies.{Answer, Obeys, arrived, moved_reply, refused, reply_text, why_reply}
 
 -- a test and what it decides
 both : (a b : Bool) → (a && b) ≡ true → (a ≡ true) × (b ≡ true)
@@ -60,3 +62,8 @@ run-on d after (Err f) ok more fault same = by (d.position == end d.run) refl
     by : (b : Bool) → (d.position == end d.run) ≡ b → Obeys d (Some Run) (reply_text after (moved_reply (Err f))) after
     by true e = inl (rw (fault, e) (refl, same))
     by false e = inr (rw (fault, e) (refl, refl, same))
+
+pub told : (d after : Debugging) (r : Result (Option SpecialCase) DebugFault) → IfOk r (λ case. case ≡ case_at d.run d.position)
+    → OnErr r (can_be_special (cause_at d.run d.position) (ignored_at d.run d.position) ≡ true) → IfErr r (λ fault. fault ≡ NoMemory) → after ≡ d → Obeys d (Some Why) (reply_text after (why_reply r)) after
+told d after (Ok case) ok memory fault same = inl (rw (same, ok) (refl, refl))
+told d after (Err f) ok memory fault same = inr (rw fault (memory, refl, same))

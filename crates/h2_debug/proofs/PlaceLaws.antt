@@ -2,9 +2,9 @@
 use Rattle.std.proofs.Common.{◌≡◌, ◌∙◌, ◌⊎◌, inl, inr, ℕ, zero, suc, ◌+◌, ◌<◌, ◌≤◌, List, [], ◌∷◌, length, drop, refl, sym, ap, subst, arith, length-drop, lt-ltb, le-ltb, Bool, true, false, cond, Some, None, ◌==◌}
 use Rattle.std.proofs.lemmas.Bool.{cases_lt, ne_eqb}
 use Rattle.std.proofs.lemmas.List.{append-nil, drop-drop}
-use Rattle.std.specs.Prelude.{nat_lt}
+use Rattle.std.specs.Prelude.{nat_lt, if◌then◌else◌}
 use Rattle.h2_spec.specs.Texts.Debug.{state_at, sent_at}
-use Rattle.h2_spec.specs.Frames.Frame.{Frame, frames_octets, head_at, Next, NoItem, Got}
+use Rattle.h2_spec.specs.Frames.Frame.{Frame, Item, frames_octets, head_at, Next, NoItem, Got}
 use Rattle.h2_spec.specs.Opening.{opening_octets}
 use Rattle.h2_spec.specs.Frames.Parse.{Front, Stop, One, Parsed, parse_all, parse_first}
 use Rattle.h2_spec.specs.State.{State}
@@ -20,6 +20,7 @@ use Rattle.h2_conn.specs.Follows.{Follows}
 use Rattle.h2_conn.proofs.Items.{comes-past}
 use Rattle.h2_conn.proofs.FollowsLaws.{follows-refl, follows-then}
 use Rattle.h2_debug.proofs.BreakLaws.{comes-head}
+use Rattle.h2_debug.specs.Cases.{head_after, head_in, item_after, item_in}
 use Rattle.h2_debug.specs.Items.{is_item}
 use Rattle.h2_debug.specs.Places.{Source, Placed, EndAlike, IsAt, TakesItem, HasNoItem, Advances, start, end, events, at, frames_at, reasons_at}
 
@@ -209,6 +210,67 @@ place-more r p x =
     let s : State = at r p.position in
     let state : p.connection.state ≡ s = ap (λ (d : Connection). d.state) x.goes in
     rw state (item-follows s (next_item s (drop p.used r.octets)) (drop p.used r.octets) p.position (events r) refl x.later x.within)
+
+-- a connection at a place can take an item
+pub place-ready : (r : Source) (p : Placed) → IsAt r p → p.connection ≡ going p.connection.state []
+place-ready r p x = x.goes ∙ ap (λ (s : State). going s []) (sym (ap (λ (c : Connection). c.state) x.goes))
+
+-- ---- the item that follows
+
+item-in : (n : ℕ) (es more : List Event) (e : Event) → drop n es ≡ e ∷ more → item_in es n ≡ Some e.item
+item-in zero [] more e h = cc
+item-in zero (x ∷ xs) more e h = let same : x ≡ e = cc in rw same refl
+item-in (suc n) [] more e h = cc
+item-in (suc n) (x ∷ xs) more e h = item-in n xs more e h
+
+-- the item that the octets after a place begin with
+pub record HasItem (r : Source) (p : Placed) : Type 0 where
+  pub item : Item
+  pub used : ℕ
+  pub next : next_item (at r p.position) (drop p.used r.octets) ≡ Got item used
+  pub after : item_after r p.position ≡ Some item
+  pub reasons : reasons_at r (p.position + 1) ≡ reasons_of (at r p.position) item
+
+item-next : (r : Source) (p : Placed) (n : Next) → IsAt r p → p.position < end r → next_item (at r p.position) (drop p.used r.octets) ≡ n → HasItem r p
+unfolding next_event
+item-next r p NoItem x more h =
+    let empty : drop p.position (events r) ≡ [] = x.later ∙ events-stop (at r p.position) (drop p.used r.octets) (ap (event_on (at r p.position)) h) in
+    let last = none-last p.position (events r) x.within empty in
+    absurd (omega (arith, last, more))
+item-next r p (Got item used) x more h =
+    let s : State = at r p.position in
+    let one = x.later ∙ events-one s (step s item).state (drop p.used r.octets) _ used (ap (event_on s) h) in
+    let next : p.position + 1 ≡ suc p.position = omega arith in
+    record {
+      item = item;
+      used = used;
+      next = h;
+      after = item-in p.position (events r) _ _ one;
+      reasons = ap (reasons_at r) next ∙ next-reasons (start r) p.position (events r) _ _ one;
+    }
+
+pub place-item : (r : Source) (p : Placed) → IsAt r p → p.position < end r → HasItem r p
+place-item r p x more = item-next r p (next_item (at r p.position) (drop p.used r.octets)) x more refl
+
+-- an item was taken, or there was none
+pub advances-one : (r : Source) (before after : Placed) (b : Bool) → Advances r before after b → b ≡ true → IsAt r after × (after.position ≡ before.position + 1)
+advances-one r before after true x is = (x.place, x.next)
+advances-one r before after false x is = cc
+
+pub advances-none : (r : Source) (before after : Placed) (b : Bool) → Advances r before after b → b ≡ false → (after ≡ before) × (before.position ≡ end r)
+advances-none r before after true x is = cc
+advances-none r before after false x is = (x.same, x.last)
+
+-- where one follows, it was taken
+pub advances-more : (r : Source) (before after : Placed) (b : Bool) → Advances r before after b → before.position < end r → IsAt r after × (after.position ≡ before.position + 1)
+advances-more r before after b x more = let y = place-took r before after b x more in (y.place, y.next)
+
+-- the head of the item that was taken
+pub head-seen : (r : Source) (before after : Placed) (b : Bool) → Advances r before after b → before.position < end r
+    → head_after r before.position ≡ (if after.position == 1 then None else head_at (drop before.used r.octets))
+head-seen r before after b x more =
+    let y = place-took r before after b x more in
+    ap head_in (item-in before.position (events r) _ y.event y.first) ∙ y.item.head_is
 
 -- ---- items are counted
 

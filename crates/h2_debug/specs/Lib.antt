@@ -6,6 +6,7 @@ pub mod Items
 pub mod Loaded
 pub mod Places
 pub mod Reasons
+pub mod Cases
 pub mod Replies
 pub mod Stops
 pub mod Words

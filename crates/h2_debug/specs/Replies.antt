@@ -7,6 +7,8 @@ use Rattle.h2_debug.specs.Debugging.{Debugging, moved_counting, moved}
 use Rattle.h2_debug.specs.Faults.{fault_number}
 use Rattle.h2_debug.specs.Places.{at, cause_at, end, events, ignored_at, sent_octets_at}
 use Rattle.h2_debug.specs.declared.fault.DebugFault.{DebugFault}
+use Rattle.h2_spec.specs.declared.special_cases.SpecialCase.{SpecialCase}
+use Rattle.h2_debug.specs.Cases.{can_be_special, case_at}
 use Rattle.h2_debug.specs.Commands.{Command, Step, Back, Go, Run, BreakOn, Clear, Show, Why}
 use Rattle.h2_explain_text.specs.Why.{why_lines}
 use Rattle.h2_debug.specs.declared.commands.reply.Reply.{Reply}
@@ -32,9 +34,9 @@ place_text position sent state = joined (codes "at " ∷ decimal position ∷ co
 abbrev pub shown_text : Debugging → List ℕ
 shown_text d = place_text d.position (sent_octets_at d.run d.position) (show (view (at d.run d.position)))
 
--- why the item at the position of a debugger was an error, or was ignored
-abbrev pub why_text : Debugging → List ℕ
-why_text d = why_lines (at d.run d.position).core.phase (cause_at d.run d.position) (ignored_at d.run d.position) None
+-- why the item at the position of a debugger was an error, or was ignored, and which special case that is
+abbrev pub why_text : Debugging → Option SpecialCase → List ℕ
+why_text d case = why_lines (at d.run d.position).core.phase (cause_at d.run d.position) (ignored_at d.run d.position) case
 
 -- a text, and the debugger after it
 pub record Answer : Type 0 where
@@ -65,9 +67,10 @@ answer d (Some Run) =
 answer d (Some (BreakOn b)) = done (record d { breaks = d.breaks ++ b ∷ [] })
 answer d (Some Clear) = done (record d { breaks = [] })
 answer d (Some Show) = record { text = shown_text d; after = d }
-answer d (Some Why) = record { text = why_text d; after = d }
+answer d (Some Why) = record { text = why_text d (case_at d.run d.position); after = d }
 
--- whether a command takes memory: a move that is not refused and a breakpoint; no text does
+-- whether a command takes memory: a move that is not refused, a breakpoint, and the rule of an item that can be a special case;
+-- no other text does
 abbrev pub takes_memory : Debugging → Option Command → Bool
 takes_memory d None = false
 takes_memory d (Some (Step n)) = nat_lt 0 n && not (d.position == end d.run)
@@ -77,7 +80,7 @@ takes_memory d (Some Run) = not (d.position == end d.run)
 takes_memory d (Some (BreakOn b)) = true
 takes_memory d (Some Clear) = false
 takes_memory d (Some Show) = false
-takes_memory d (Some Why) = false
+takes_memory d (Some Why) = can_be_special (cause_at d.run d.position) (ignored_at d.run d.position)
 
 -- the answer, or memory was refused and the debugger is as it was
 abbrev pub Obeys : Debugging → Option Command → List ℕ → Debugging → Type 0
@@ -90,9 +93,13 @@ reply_text d (code.At position) = at_line position
 reply_text d code.Done = codes "ok\n"
 reply_text d (code.Refused fault) = fault_line fault
 reply_text d code.Shown = shown_text d
-reply_text d code.Explained = why_text d
+reply_text d (code.Explained case) = why_text d case
 
--- the reply to a move, and to a breakpoint
+-- the reply to `why`, to a move, and to a breakpoint
+abbrev pub why_reply : Result (Option SpecialCase) DebugFault → Reply
+why_reply (Ok case) = code.Explained case
+why_reply (Err fault) = code.Refused (fault_number fault)
+
 abbrev pub moved_reply : Result ℕ DebugFault → Reply
 moved_reply (Ok position) = code.At position
 moved_reply (Err fault) = code.Refused (fault_number fault)

@@ -12,6 +12,9 @@ ghost use Rattle.h2_spec.specs.Texts.View.{view};
 ghost use Rattle.std.specs.String.{string_bytes};
 ghost use Rattle.h2_spec.specs.State.{is_allowed};
 ghost use Rattle.h2_debug.specs.Breakpoints.{break_of};
+ghost use Rattle.h2_spec.specs.declared.causes.Cause.TheVariants.{IntegerTooLong};
+ghost use Rattle.h2_explain_item.specs.Special.{has_cases, has_reason_cases};
+ghost use Rattle.h2_debug.specs.Cases.{can_be_special, case_at};
 ghost use Rattle.h2_debug.specs.Debugging as spec;
 ghost use Rattle.h2_debug.specs.Debugging.{farthest_or, fed, moved, moved_by, moved_counting, replay_start};
 ghost use Rattle.h2_debug.specs.Faults.{IsRefused, end_fault, load_fault, start_fault};
@@ -21,6 +24,9 @@ ghost use Rattle.h2_debug.specs.declared.fault.DebugFault.TheVariants.{NoMemory,
 
 use crate::breakpoints::Break;
 use crate::fault::DebugFault;
+use crate::places::cases::{
+    advance_to, advance_until, block_octets, case_ahead, is_ended_by, next_stream,
+};
 use crate::places::forward::{
     LEG, SPACING, forward_to, forward_to_stop, keep_and_advance, keep_if_due,
 };
@@ -29,10 +35,14 @@ use crate::places::place::Place;
 use crate::places::source::Source;
 use h2_conn::view::View;
 use h2_conn::{Conn, ConnFault};
+use h2_explain_item::diagnosis::special::{
+    case_of_integer, has_cases, has_reason_cases, special_reason,
+};
 use h2_request_book::book::Book;
 use h2_spec::causes::Cause;
 use h2_spec::connection::Config;
 use h2_spec::ignored::Ignored;
+use h2_spec::special_cases::SpecialCase;
 use std::alloc::{AllocError, Allocator};
 use std::marker::Model;
 use std::mem;
@@ -597,6 +607,159 @@ impl<'b, A: Allocator + Copy> Debugger<'b, A> {
         ensures { result ≡ ignored_at self.now.run self.now.position }
     {
         self.present.reasons().ignored
+    }
+
+    /// The special case of the error at the present position, an integer that is too long; all items up to it are taken from
+    /// this place on.
+    fn integer_case_from(&self, mut place: Place<'b, A>) -> Result<Option<SpecialCase>, AllocError>
+        requires at { IsAt self.now.run place }
+        requires start { place.position ≡ 0 }
+        requires cause { cause_at self.now.run self.now.position ≡ Some IntegerTooLong }
+        ensures { IfOk result (λ case. case ≡ case_at self.now.run self.now.position) }
+    {
+        let position = self.present.position();
+        let source = Source {
+            book: self.book,
+            config: self.config,
+            octets: self.octets.as_slice(),
+        };
+        let octets = block_octets(*self.octets.allocator(), &source, &mut place, position)?;
+        Ok(case_of_integer(octets.as_slice()))
+    }
+
+    /// The same. It ends the connection.
+    fn integer_case(&mut self) -> Result<Option<SpecialCase>, AllocError>
+        requires { cause_at self.old.run self.old.position ≡ Some IntegerTooLong }
+        ensures case { IfOk result (λ case. case ≡ case_at self.old.run self.old.position) }
+        ensures same { self.new ≡ self.old }
+    {
+        let place = self.start_for(0)?;
+        self.integer_case_from(place)
+    }
+
+    /// The special case of the error with this cause that the item after a position is; the items up to it are taken from this
+    /// place on.
+    fn error_case_from(
+        &self,
+        mut place: Place<'b, A>,
+        before: usize,
+        cause: Cause,
+    ) -> Result<Option<SpecialCase>, AllocError>
+        requires at { IsAt self.now.run place }
+        requires ahead { place.position ≤ before - 1 }
+        requires last { self.now.position ≡ before + 1 }
+        requires cause { cause_at self.now.run self.now.position ≡ Some cause }
+        requires other { cause ≡ IntegerTooLong → ⊥ }
+        ensures { IfOk result (λ case. case ≡ case_at self.now.run self.now.position) }
+    {
+        let source = Source {
+            book: self.book,
+            config: self.config,
+            octets: self.octets.as_slice(),
+        };
+        let continued = advance_until(&source, &mut place, before)?;
+        let octets = source.octets_from(place.used());
+        case_ahead(
+            *self.octets.allocator(),
+            place.conn(),
+            octets,
+            cause,
+            continued,
+        )
+    }
+
+    /// The special case of the error with this cause that the item at the present position is.
+    fn error_case(&mut self, cause: Cause) -> Result<Option<SpecialCase>, AllocError>
+        requires cause { cause_at self.old.run self.old.position ≡ Some cause }
+        requires other { cause ≡ IntegerTooLong → ⊥ }
+        ensures case { IfOk result (λ case. case ≡ case_at self.old.run self.old.position) }
+        ensures same { self.new ≡ self.old }
+    {
+        let before = self.pos().saturating_sub(1);
+        let place = self.start_for(before.saturating_sub(1))?;
+        self.error_case_from(place, before, cause)
+    }
+
+    /// The special case of an error with this cause, if it is one; no memory is taken where it can't be.
+    fn cause_case(&mut self, cause: Cause) -> Result<Option<SpecialCase>, AllocError>
+        requires { cause_at self.old.run self.old.position ≡ Some cause }
+        ensures case { IfOk result (λ case. case ≡ case_at self.old.run self.old.position) }
+        ensures memory { OnErr result (has_cases cause ≡ true) }
+        ensures same { self.new ≡ self.old }
+    {
+        if !has_cases(cause) {
+            return Ok(None);
+        }
+        match cause {
+            Cause::IntegerTooLong => self.integer_case(),
+            _ => self.error_case(cause),
+        }
+    }
+
+    /// The special case of the item after a position, which is ignored for this reason: the items up to it are taken from one
+    /// place on for its stream, and from the start on for how the client's side of that ended.
+    fn reason_case_from(
+        &self,
+        mut last: Place<'b, A>,
+        mut first: Place<'b, A>,
+        before: usize,
+        reason: Ignored,
+    ) -> Result<Option<SpecialCase>, AllocError>
+        requires last_at { IsAt self.now.run last }
+        requires ahead { last.position ≤ before }
+        requires first_at { IsAt self.now.run first }
+        requires start { first.position ≡ 0 }
+        requires last { self.now.position ≡ before + 1 }
+        requires cause { cause_at self.now.run self.now.position ≡ None }
+        requires reason { ignored_at self.now.run self.now.position ≡ Some reason }
+        ensures { IfOk result (λ case. case ≡ case_at self.now.run self.now.position) }
+    {
+        let source = Source {
+            book: self.book,
+            config: self.config,
+            octets: self.octets.as_slice(),
+        };
+        advance_to(&source, &mut last, before)?;
+        let stream = next_stream(&source, &mut last)?;
+        let ended = is_ended_by(&source, &mut first, stream, before)?;
+        Ok(special_reason(reason, ended))
+    }
+
+    /// The special case of the item at the present position, which is ignored for this reason; no memory is taken where it
+    /// can't be one.
+    fn reason_case(&mut self, reason: Ignored) -> Result<Option<SpecialCase>, AllocError>
+        requires cause { cause_at self.old.run self.old.position ≡ None }
+        requires reason { ignored_at self.old.run self.old.position ≡ Some reason }
+        ensures case { IfOk result (λ case. case ≡ case_at self.old.run self.old.position) }
+        ensures memory { OnErr result (has_reason_cases reason ≡ true) }
+        ensures same { self.new ≡ self.old }
+    {
+        if !has_reason_cases(reason) {
+            return Ok(None);
+        }
+        let before = self.pos().saturating_sub(1);
+        let last = self.start_for(before)?;
+        let first = self.start_for(0)?;
+        self.reason_case_from(last, first, before, reason)
+    }
+
+    /// Which special case the error of the item that leads to the present position is, or why it was ignored, if it is one:
+    /// `explain` names the same.
+    ///
+    /// `NoMemory` leaves the debugger as it was, and comes only where the cause or the reason has special cases. Then the items
+    /// from a kept place on are taken once more, at most 65; all of them for an integer that is too long, and for a frame that is
+    /// ignored on a stream that was reset.
+    pub fn special_case(&mut self) -> Result<Option<SpecialCase>, DebugFault>
+        ensures case { IfOk result (λ case. case ≡ case_at self.old.run self.old.position) }
+        ensures memory { OnErr result (can_be_special (cause_at self.old.run self.old.position) (ignored_at self.old.run self.old.position) ≡ true) }
+        ensures fault { IfErr result (λ fault. fault ≡ NoMemory) }
+        ensures same { self.new ≡ self.old }
+    {
+        match (self.cause(), self.ignored()) {
+            (Some(cause), _) => Ok(self.cause_case(cause)?),
+            (None, Some(reason)) => Ok(self.reason_case(reason)?),
+            (None, None) => Ok(None),
+        }
     }
 
     /// The present position: how many items came before it. It takes no memory.

@@ -310,10 +310,11 @@ explaining-cut c piece e known known' goes given = λ s0 b0 text x begins.
     let r : Parsed State Event = whole s0 b0 in
     let same : c.state ≡ r.state = ap (λ (d : Connection). d.state) x.after in
     gains-map (IsCutShort e c.state (e.held.items ++ piece)) _
-    (λ more cut.
-    let one = cut [] in
-    let here = subst (λ (b : List ℕ). AreExplained e.form true c.state b e.items e.offset one.0 more) (append-nil (e.held.items ++ piece) ∙ ap (λ (b : List ℕ). b ++ piece) (left-held s0 b0 c e x goes)) one.1 in
-    begins piece true one.0 more (subst (λ (s : State). AreExplained e.form true s (r.rest ++ piece) e.items e.offset one.0 more) same here))
+    (λ more cut later.
+    let one = cut later in
+    let here = subst (λ (b : List ℕ). AreExplained e.form true c.state b e.items e.offset one.0 more) (append_assoc e.held.items piece later ∙ ap (λ (b : List ℕ). b ++ (piece ++ later)) (left-held s0 b0 c e x goes)) one.1 in
+    let two = begins (piece ++ later) true one.0 more (subst (λ (s : State). AreExplained e.form true s (r.rest ++ (piece ++ later)) e.items e.offset one.0 more) same here) in
+    (two.0, subst (λ (b : List ℕ). AreExplained e.form true s0 b 0 0 two.0 (text ++ more)) (sym (append_assoc b0 piece later)) two.1))
     known known' given
 
 -- ---- after the end of the connection

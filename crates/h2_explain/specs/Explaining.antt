@@ -7,6 +7,7 @@ use Rattle.h2_conn.specs.Connection.{Connection, going}
 use Rattle.h2_conn.specs.First.{TakesFirst}
 use Rattle.h2_explain_step.specs.Explained.{ExplainsItem}
 use Rattle.h2_explain.specs.Explains.{AreExplained, Gains, IsExplanation, IsItemText, IsRestText, IsSummary}
+use Rattle.h2_explain_step.specs.declared.explainer.ItemExplainer.{ItemExplainer}
 use Rattle.h2_explain.specs.Verdicts.{AreTallied, Tallied, TalliesItem, no_tally}
 use Rattle.h2_explain.specs.declared.run_explainer.RunExplainer.{RunExplainer}
 use Rattle.h2_explain_item.specs.declared.item.Explained.{Explained}
@@ -158,11 +159,15 @@ SaysOf c e piece e' known known' =
     (s : State) (b : List ℕ) (text : List ℕ) → IsExplaining s b c e → IsBeginning s b e text
     → Gains (λ (more : List ℕ). IsBeginning s (b ++ piece) e' (text ++ more)) known known'
 
--- or for some first items, where it is cut short
+-- or for some first items, where it is cut short; whatever octets come later
 abbrev pub SaysSome : {A : Type 0} → Connection → RunExplainer A → List ℕ → Option (List ℕ) → Option (List ℕ) → Type 0
 SaysSome c e piece known known' =
     (s : State) (b : List ℕ) (text : List ℕ) → IsExplaining s b c e → IsBeginning s b e text
-    → Gains (λ (more : List ℕ). IsExplanation e.form true s (b ++ piece) (text ++ more)) known known'
+    → Gains (λ (more : List ℕ). (later : List ℕ) → IsExplanation e.form true s ((b ++ piece) ++ later) (text ++ more)) known known'
+
+-- a read began: what was explained is the same
+abbrev pub BeginsRead : {A : Type 0} → RunExplainer A → RunExplainer A → Type 0
+BeginsRead {A} e e' = (read : ItemExplainer A) × (e' ≡ record e { explainer = read })
 
 -- the end was explained, or not where memory was refused
 abbrev pub EndsAs : {A : Type 0} → (cut : Bool) → Connection → RunExplainer A → Option (List ℕ) → Option (List ℕ) → Type 0

@@ -1,9 +1,11 @@
 //! What a connection does with the octets of a client, item by item: what each is, what was sent for it, what it
 //! changed, and why it is an error or is ignored.
-//! The values are those of h2_explain_item, h2_explain_item and h2_explain_item; h2_explain_text shows them as text, h2_explain_json as JSON.
+//! The values are those of h2_explain_item; h2_explain_text shows them as text, h2_explain_json as JSON.
 #![tactic(auto)]
 
 mod end;
+mod item_outbox;
+mod portion;
 mod recorder;
 mod run;
 mod run_explainer;
@@ -23,6 +25,7 @@ pub use h2_explain_step::explainer::ItemExplainer;
 pub use h2_explain_step::taking::{moment_at, stream_of_next};
 pub use h2_explain_text::account::Account;
 pub use h2_explain_text::waits::{AnswerWait, RequestWait, Wait};
+pub use item_outbox::ItemOutbox;
 pub use recorder::{NoRecord, Recorder};
 pub use run::{ExplainFault, Form, Summary, explain};
 pub use run_explainer::RunExplainer;

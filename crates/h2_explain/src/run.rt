@@ -7,6 +7,7 @@ ghost use Rattle.h2_conn.specs.Connection.{going};
 ghost use Rattle.h2_explain.specs.Explaining.{IsNew};
 ghost use Rattle.h2_explain.specs.Explains.{Gains, IsExplanation, IsSummary, not_written};
 
+use crate::item_outbox::ItemOutbox;
 use crate::recorder::NoRecord;
 use crate::run_explainer::RunExplainer;
 use crate::verdict::ClientVerdict;
@@ -72,7 +73,7 @@ fn explain_all<A: Allocator + Copy, O: Output>(
     ensures flag { O.has_failed output.new ≡ not_written result }
     ensures name { O.name output.new ≡ O.name output.old }
 {
-    let mut sent = Vec::new(alloc);
+    let mut sent = ItemOutbox::new(alloc);
     match explanation.take_piece(alloc, conn, octets, false, &mut sent, output, &mut NoRecord) {
         Ok(()) => explanation.conclude(alloc, conn, output),
         Err(fault) => Err(fault),

@@ -10,12 +10,14 @@ ghost use Rattle.h2_spec.specs.State.{ended_code};
 ghost use Rattle.h2_conn.specs.Connection.{going, halted};
 ghost use Rattle.h2_conn.specs.First.{TakesIfAny};
 ghost use Rattle.h2_conn.specs.Runs.{Fed, Halted, Halts, Ran};
-ghost use Rattle.h2_explain.specs.Explaining.{EndsAs, ExplainsAll, GoesOn, Handles, HasGained, HasRoom, IsCutShort, IsEndText, IsNew, IsPieceCutShort, IsSummed, PassesBy, SaysOf, SaysSome, StopsAt, TakesIfThere};
+ghost use Rattle.h2_explain.specs.Explaining.{BeginsRead, EndsAs, ExplainsAll, GoesOn, Handles, HasGained, HasRoom, IsCutShort, IsEndText, IsNew, IsPieceCutShort, IsSummed, PassesBy, SaysOf, SaysSome, StopsAt, TakesIfThere};
 ghost use Rattle.h2_explain.specs.Explains.{Gains, IsItemText, IsShownText, IsWritten, not_written};
 ghost use Rattle.h2_explain.specs.Verdicts.{TalliesItem, verdict_at};
 ghost use Rattle.h2_explain.specs.declared.run.ExplainFault.TheVariants as faults;
 
 use crate::end::{End, rest_of};
+use crate::item_outbox::ItemOutbox;
+use crate::portion::portion_of;
 use crate::recorder::Recorder;
 use crate::run::{ExplainFault, Form, Summary};
 use crate::shown::{shows_item, shows_opening};
@@ -29,6 +31,7 @@ use h2_explain_text::account::Account;
 use h2_explain_text::lines::ItemLines;
 use h2_explain_text::paint::Paint;
 use h2_explain_words::spelled::BlockReader;
+use h2_frame::Outgoing;
 use h2_io::Output;
 use h2_spec::octets::{first_octets, octets_from};
 use std::alloc::{AllocError, Allocator, Global};
@@ -161,14 +164,14 @@ fn write_item<A: Allocator + Copy, O: Output>(
 }
 
 /// Where what is sent next begins in `out`: at its end where it is kept, else at its front.
-fn start_of<A: Allocator>(out: &mut Vec<u8, A>, keeps: bool) -> usize
-    ensures end { result ≡ length out.new.items }
-    ensures kept { keeps ≡ true → out.new.items ≡ out.old.items }
+fn start_of<A: Allocator>(out: &mut ItemOutbox<'_, A>, keeps: bool) -> usize
+    ensures end { result ≡ length out.new }
+    ensures kept { keeps ≡ true → out.new ≡ out.old }
 {
     if !keeps {
-        out.clear();
+        out.keep_first(0);
     }
-    out.len()
+    out.begin()
 }
 
 /// The octets without this many at their front.
@@ -258,13 +261,13 @@ impl<A: Allocator + Copy> RunExplainer<A> {
 
     /// Takes the item that octets begin with, if there is one, and explains it; says how many of the octets it has. What
     /// is sent for it is appended to `out`; where that is not kept, `out` is emptied before.
-    fn take_item<O: Output, R: Recorder>(
+    fn take_item<'b, O: Output, R: Recorder>(
         &mut self,
         alloc: A,
-        conn: &mut Conn<'_, A>,
+        conn: &mut Conn<'b, A>,
         octets: &[u8],
         keeps: bool,
-        out: &mut Vec<u8, A>,
+        out: &mut ItemOutbox<'b, A>,
         output: &mut O,
         recorder: &mut R,
     ) -> Result<Option<usize>, ExplainFault>
@@ -272,8 +275,8 @@ impl<A: Allocator + Copy> RunExplainer<A> {
         requires few { (self.old.items ≤ self.old.offset) × (self.old.offset + length octets.now < 2 ^ 63) }
         requires writer { O.has_failed output.old ≡ false }
         ensures ok { IfOk result (λ used. TakesIfThere self.old conn.old.state octets.now (O.written output.old) self.new conn.new (O.written output.new) used) }
-        ensures sent { keeps ≡ true → IfOk result (λ used. TakesIfAny conn.old.state octets.now out.old.items conn.new.state out.new.items used) }
-        ensures stopped { keeps ≡ true → OnErr result (StopsAt conn.old.state octets.now out.old.items conn.new.state out.new.items) }
+        ensures sent { keeps ≡ true → IfOk result (λ used. TakesIfAny conn.old.state octets.now out.old conn.new.state out.new used) }
+        ensures stopped { keeps ≡ true → OnErr result (StopsAt conn.old.state octets.now out.old conn.new.state out.new) }
         ensures cut { O.has_failed output.new ≡ false → OnErr result (Gains (λ text. text ≡ []) (O.written output.old) (O.written output.new)) }
         ensures ready { conn.new ≡ going conn.new.state [] }
         ensures flag { O.has_failed output.new ≡ not_written result }
@@ -287,6 +290,9 @@ impl<A: Allocator + Copy> RunExplainer<A> {
             Ok(None) => return Ok(None),
             Err(_) => return Err(ExplainFault::NoMemory),
         };
+        let Some(sent) = out.since(start) else {
+            return Err(ExplainFault::NoMemory);
+        };
         let used = taken.used;
         let own = first_octets(octets, used);
         let item = Explained {
@@ -299,7 +305,7 @@ impl<A: Allocator + Copy> RunExplainer<A> {
             part: part_in(taken.item, own),
             cause: taken.cause,
             ignored: taken.ignored,
-            sent: octets_from(out.as_slice(), start),
+            sent,
             before,
             after: moment_at(conn, stream),
         };
@@ -324,13 +330,13 @@ impl<A: Allocator + Copy> RunExplainer<A> {
 
     /// Takes and explains each item that octets begin with; says how many of the octets they have. What is sent for them
     /// is appended to `out`; where that is not kept, `out` has what was sent for the last.
-    fn take_items<O: Output, R: Recorder>(
+    fn take_items<'b, O: Output, R: Recorder>(
         &mut self,
         alloc: A,
-        conn: &mut Conn<'_, A>,
+        conn: &mut Conn<'b, A>,
         octets: &[u8],
         keeps: bool,
-        out: &mut Vec<u8, A>,
+        out: &mut ItemOutbox<'b, A>,
         output: &mut O,
         recorder: &mut R,
     ) -> Result<usize, ExplainFault>
@@ -340,8 +346,8 @@ impl<A: Allocator + Copy> RunExplainer<A> {
         ensures ok { IfOk result (λ used. ExplainsAll self.old conn.old.state octets.now (O.written output.old) self.new conn.new.state (drop used octets.now) (O.written output.new)) }
         ensures within { IfOk result (λ used. used ≤ length octets.now) }
         ensures held { OnOk result ((self.new.held ≡ self.old.held) × (self.new.late ≡ self.old.late)) }
-        ensures sent { keeps ≡ true → IfOk result (λ used. (n : ℕ) × Ran conn.old.state octets.now out.old.items conn.new.state (drop used octets.now) out.new.items n) }
-        ensures stopped { keeps ≡ true → OnErr result (Halted conn.old.state octets.now out.old.items conn.new.state out.new.items) }
+        ensures sent { keeps ≡ true → IfOk result (λ used. (n : ℕ) × Ran conn.old.state octets.now out.old conn.new.state (drop used octets.now) out.new n) }
+        ensures stopped { keeps ≡ true → OnErr result (Halted conn.old.state octets.now out.old conn.new.state out.new) }
         ensures cut { O.has_failed output.new ≡ false → OnErr result (Gains (IsCutShort self.old conn.old.state octets.now) (O.written output.old) (O.written output.new)) }
         ensures ready { conn.new ≡ going conn.new.state [] }
         ensures flag { O.has_failed output.new ≡ not_written result }
@@ -368,13 +374,13 @@ impl<A: Allocator + Copy> RunExplainer<A> {
     }
 
     /// Takes and explains each item of a piece, where no octets are held.
-    fn take_in_hand<O: Output, R: Recorder>(
+    fn take_in_hand<'b, O: Output, R: Recorder>(
         &mut self,
         alloc: A,
-        conn: &mut Conn<'_, A>,
+        conn: &mut Conn<'b, A>,
         piece: &[u8],
         keeps: bool,
-        out: &mut Vec<u8, A>,
+        out: &mut ItemOutbox<'b, A>,
         output: &mut O,
         recorder: &mut R,
     ) -> Result<(), ExplainFault>
@@ -383,8 +389,8 @@ impl<A: Allocator + Copy> RunExplainer<A> {
         requires room { HasRoom self.old (length piece.now) }
         requires writer { O.has_failed output.old ≡ false }
         ensures ok { OnOk result (Handles self.old conn.old.state (self.old.held.items ++ piece.now) (O.written output.old) self.new conn.new.state (O.written output.new)) }
-        ensures fed { keeps ≡ true → OnOk result (Fed (going conn.old.state self.old.held.items) piece.now out.old.items (going conn.new.state self.new.held.items) out.new.items) }
-        ensures halted { keeps ≡ true → OnErr result (Halts (going conn.old.state self.old.held.items) piece.now out.old.items (halted conn.new.state) out.new.items) }
+        ensures fed { keeps ≡ true → OnOk result (Fed (going conn.old.state self.old.held.items) piece.now out.old (going conn.new.state self.new.held.items) out.new) }
+        ensures halted { keeps ≡ true → OnErr result (Halts (going conn.old.state self.old.held.items) piece.now out.old (halted conn.new.state) out.new) }
         ensures cut { O.has_failed output.new ≡ false → OnErr result (Gains (IsPieceCutShort self.old conn.old.state piece.now) (O.written output.old) (O.written output.new)) }
         ensures ready { conn.new ≡ going conn.new.state [] }
         ensures flag { O.has_failed output.new ≡ not_written result }
@@ -406,13 +412,13 @@ impl<A: Allocator + Copy> RunExplainer<A> {
     }
 
     /// Takes and explains each item of the octets that are held and a piece after them.
-    fn complete<O: Output, R: Recorder>(
+    fn complete<'b, O: Output, R: Recorder>(
         &mut self,
         alloc: A,
-        conn: &mut Conn<'_, A>,
+        conn: &mut Conn<'b, A>,
         piece: &[u8],
         keeps: bool,
-        out: &mut Vec<u8, A>,
+        out: &mut ItemOutbox<'b, A>,
         output: &mut O,
         recorder: &mut R,
     ) -> Result<(), ExplainFault>
@@ -420,8 +426,8 @@ impl<A: Allocator + Copy> RunExplainer<A> {
         requires room { HasRoom self.old (length piece.now) }
         requires writer { O.has_failed output.old ≡ false }
         ensures ok { OnOk result (Handles self.old conn.old.state (self.old.held.items ++ piece.now) (O.written output.old) self.new conn.new.state (O.written output.new)) }
-        ensures fed { keeps ≡ true → OnOk result (Fed (going conn.old.state self.old.held.items) piece.now out.old.items (going conn.new.state self.new.held.items) out.new.items) }
-        ensures halted { keeps ≡ true → OnErr result (Halts (going conn.old.state self.old.held.items) piece.now out.old.items (halted conn.new.state) out.new.items) }
+        ensures fed { keeps ≡ true → OnOk result (Fed (going conn.old.state self.old.held.items) piece.now out.old (going conn.new.state self.new.held.items) out.new) }
+        ensures halted { keeps ≡ true → OnErr result (Halts (going conn.old.state self.old.held.items) piece.now out.old (halted conn.new.state) out.new) }
         ensures cut { O.has_failed output.new ≡ false → OnErr result (Gains (IsPieceCutShort self.old conn.old.state piece.now) (O.written output.old) (O.written output.new)) }
         ensures ready { conn.new ≡ going conn.new.state [] }
         ensures flag { O.has_failed output.new ≡ not_written result }
@@ -455,13 +461,13 @@ impl<A: Allocator + Copy> RunExplainer<A> {
 
     /// Takes and explains all items that there are with a piece after the octets that are held. Where what is sent is not
     /// kept, `out` has what was sent for the last item.
-    pub(crate) fn take_piece<O: Output, R: Recorder>(
+    pub(crate) fn take_piece<'b, O: Output, R: Recorder>(
         &mut self,
         alloc: A,
-        conn: &mut Conn<'_, A>,
+        conn: &mut Conn<'b, A>,
         piece: &[u8],
         keeps: bool,
-        out: &mut Vec<u8, A>,
+        out: &mut ItemOutbox<'b, A>,
         output: &mut O,
         recorder: &mut R,
     ) -> Result<(), ExplainFault>
@@ -471,8 +477,8 @@ impl<A: Allocator + Copy> RunExplainer<A> {
         ensures goes { OnOk result (GoesOn conn.old self.old piece.now conn.new self.new) }
         ensures gains { OnOk result (SaysOf conn.old self.old piece.now self.new (O.written output.old) (O.written output.new)) }
         ensures cut { O.has_failed output.new ≡ false → OnErr result (SaysSome conn.old self.old piece.now (O.written output.old) (O.written output.new)) }
-        ensures fed { keeps ≡ true → OnOk result (Fed (going conn.old.state self.old.held.items) piece.now out.old.items (going conn.new.state self.new.held.items) out.new.items) }
-        ensures halted { keeps ≡ true → OnErr result (Halts (going conn.old.state self.old.held.items) piece.now out.old.items (halted conn.new.state) out.new.items) }
+        ensures fed { keeps ≡ true → OnOk result (Fed (going conn.old.state self.old.held.items) piece.now out.old (going conn.new.state self.new.held.items) out.new) }
+        ensures halted { keeps ≡ true → OnErr result (Halts (going conn.old.state self.old.held.items) piece.now out.old (halted conn.new.state) out.new) }
         ensures room { OnOk result (HasGained self.old (length piece.now) self.new) }
         ensures form { OnOk result (self.new.form ≡ self.old.form) }
         ensures ready { conn.new ≡ going conn.new.state [] }
@@ -490,6 +496,22 @@ impl<A: Allocator + Copy> RunExplainer<A> {
         }
     }
 
+    /// Begins a read: its octets were sent before the client got what the server sends for them.
+    pub fn begin_read(&mut self, conn: &Conn<'_, A>)
+        ensures { BeginsRead self.old self.new }
+    {
+        self.explainer.granted.begin(conn.counts().recv);
+    }
+
+    /// How many of these octets to feed at once, so that they complete at most one item: at least one.
+    pub fn portion(&self, conn: &Conn<'_, A>, octets: &[u8]) -> usize
+        requires { 0 < length octets.now }
+        ensures some { 0 < result }
+        ensures within { result ≤ length octets.now }
+    {
+        portion_of(conn.counts().phase, self.held.as_slice(), octets)
+    }
+
     /// Takes and explains all items that there are with these octets after those that are held. What is sent for them is
     /// appended to `out`, each item is handed to `recorder` as soon as it is taken, and its text is written before the next
     /// one is taken. The rest of the octets is held; after the end of the connection all octets are only counted.
@@ -501,12 +523,12 @@ impl<A: Allocator + Copy> RunExplainer<A> {
     /// `NoMemory` where memory is refused, `NotWritten` where a write failed: some first items were explained, and the
     /// connection has taken these or one more, each of them whole; `out` has gained what was sent for those that it has
     /// taken. The explanation can't go on then.
-    pub fn feed<O: Output, R: Recorder>(
+    pub fn feed<'b, O: Output, R: Recorder>(
         &mut self,
         alloc: A,
-        conn: &mut Conn<'_, A>,
+        conn: &mut Conn<'b, A>,
         piece: &[u8],
-        out: &mut Vec<u8, A>,
+        out: &mut ItemOutbox<'b, A>,
         output: &mut O,
         recorder: &mut R,
     ) -> Result<(), ExplainFault>
@@ -516,15 +538,14 @@ impl<A: Allocator + Copy> RunExplainer<A> {
         ensures goes { OnOk result (GoesOn conn.old self.old piece.now conn.new self.new) }
         ensures gains { OnOk result (SaysOf conn.old self.old piece.now self.new (O.written output.old) (O.written output.new)) }
         ensures cut { O.has_failed output.new ≡ false → OnErr result (SaysSome conn.old self.old piece.now (O.written output.old) (O.written output.new)) }
-        ensures fed { OnOk result (Fed (going conn.old.state self.old.held.items) piece.now out.old.items (going conn.new.state self.new.held.items) out.new.items) }
-        ensures halted { OnErr result (Halts (going conn.old.state self.old.held.items) piece.now out.old.items (halted conn.new.state) out.new.items) }
+        ensures fed { OnOk result (Fed (going conn.old.state self.old.held.items) piece.now out.old (going conn.new.state self.new.held.items) out.new) }
+        ensures halted { OnErr result (Halts (going conn.old.state self.old.held.items) piece.now out.old (halted conn.new.state) out.new) }
         ensures room { OnOk result (HasGained self.old (length piece.now) self.new) }
         ensures form { OnOk result (self.new.form ≡ self.old.form) }
         ensures ready { conn.new ≡ going conn.new.state [] }
         ensures flag { O.has_failed output.new ≡ not_written result }
         ensures name { O.name output.new ≡ O.name output.old }
     {
-        self.explainer.granted.begin(conn.counts().recv);
         self.take_piece(alloc, conn, piece, true, out, output, recorder)
     }
 

@@ -1,2 +1,4 @@
 pub mod ChangeLaws
 pub mod SettingLaws
+pub mod FieldLaws
+pub mod SpecialLaws

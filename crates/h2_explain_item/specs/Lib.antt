@@ -4,6 +4,8 @@ pub mod Granted
 pub mod Notes
 pub mod Changes
 pub mod Counts
+pub mod FieldFacts
+pub mod CaseFacts
 pub mod Special
 pub mod FrameFacts
 pub mod RunFacts

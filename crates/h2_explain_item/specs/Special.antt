@@ -10,6 +10,7 @@ use Rattle.h2_spec.specs.declared.ignored.Ignored.{Ignored}
 use Rattle.h2_spec.specs.declared.ignored.Ignored.TheVariants.{DataOnReset, TableOnlyBlock, WindowUpdateOnPeerReset}
 use Rattle.h2_spec.specs.declared.special_cases.SpecialCase.{SpecialCase}
 use Rattle.h2_spec.specs.declared.special_cases.SpecialCase.TheVariants.{LimitNotAcknowledged, BehindContinuation, UnknownTypeInBlock, EmptyName, ConnectPseudoFields, EmptyPathOfOtherScheme, ContentLengthsDiffer, ContentLengthTooLong, UnfollowedWindow, EvenStream, DataAfterEnd, BlockAfterEnd, FirstUnknownType, PriorityLengthOnIdle, FrameTooLargeOnIdle, EmptyPath, TeOfTrailersAlone, WindowValueThenLawful, ContinuationOnEndedStream, IntegerBeyondAllTables, WindowUpdateAfterEnd}
+use Rattle.h2_spec.specs.declared.streams.Stream.{Stream}
 use Rattle.h2_spec.specs.declared.streams.StreamState.{StreamState}
 use Rattle.h2_spec.specs.declared.streams.StreamState.TheVariants.{Idle, Skipped, BothOpen, HalfRemote, HalfLocal, Ended, PeerReset, WeReset}
 use Rattle.h2_spec.specs.Causes.CauseWords.{row_of}
@@ -19,6 +20,7 @@ use Rattle.h2_spec.specs.Causes.Rules.{Row}
 use Rattle.h2_spec.specs.Causes.SpecialCases.{special_row}
 use Rattle.h2_explain_item.specs.Item.{head_in}
 use Rattle.h2_explain_item.specs.declared.item.Explained.{Explained}
+use Rattle.h2_explain_item.specs.declared.diagnosis.field_facts.FieldFacts.{FieldFacts}
 use Rattle.h2_explain_item.specs.declared.diagnosis.special.CaseFacts.{CaseFacts}
 use Rattle.h2_explain_item.specs.declared.diagnosis.special.Seen.{Seen}
 
@@ -103,27 +105,36 @@ abbrev pub interrupted_case : (unknown continued : Bool) → Option SpecialCase
 interrupted_case true continued = Some UnknownTypeInBlock
 interrupted_case false continued = case_if continued BehindContinuation
 
+-- whether no pseudo-field of a request is missing, and the path is empty (8.3.1)
+abbrev pub is_path_alone_empty : FieldFacts → Bool
+is_path_alone_empty f = f.method && f.scheme && f.empty_path
+
 -- pseudo-fields that lack (8.3.1, 8.5)
-abbrev pub lacking_case : (connect empty_path other_scheme : Bool) → Option SpecialCase
-lacking_case true empty_path other_scheme = Some ConnectPseudoFields
-lacking_case false empty_path true = case_if empty_path EmptyPathOfOtherScheme
-lacking_case false empty_path false = case_if empty_path EmptyPath
+abbrev pub lacking_case : FieldFacts → Option SpecialCase
+lacking_case f =
+    if f.connect then Some ConnectPseudoFields
+    else if f.other_scheme then case_if (is_path_alone_empty f) EmptyPathOfOtherScheme
+    else case_if (is_path_alone_empty f) EmptyPath
 
--- a content-length that is not taken (8.1.1)
-abbrev pub length_case : (differ long : Bool) → Option SpecialCase
-length_case true long = Some ContentLengthsDiffer
-length_case false long = case_if long ContentLengthTooLong
+-- a content-length that is not taken (8.1.1): where all are numbers of at most 18 digits, two differ; where all are numbers,
+-- one has more
+abbrev pub length_case : FieldFacts → Option SpecialCase
+length_case f = if f.short_lengths then Some ContentLengthsDiffer else case_if f.numeric_lengths ContentLengthTooLong
 
--- what an item shows of whether its rule is a special case
-abbrev pub seen_of : Explained → Seen
-seen_of x = record {
-  unknown_type = is_unknown_frame (head_in x.what);
-  even_stream = x.before.stream.id % 2 == 0;
-  half_local = is_half_local x.before.stream.kind;
-  on_idle = may_be_on_idle (head_in x.what) && is_idle x.before.stream.kind;
-  closed_to_client = is_closed_to_client x.before.stream.kind;
-  acked = x.before.counts.acked;
+-- what an item shows of whether its rule is a special case: the head of its frame, its stream before it, and whether the
+-- client had acknowledged the server's SETTINGS
+abbrev pub seen_by : Option Head → Stream → Bool → Seen
+seen_by head st acked = record {
+  unknown_type = is_unknown_frame head;
+  even_stream = st.id % 2 == 0;
+  half_local = is_half_local st.kind;
+  on_idle = may_be_on_idle head && is_idle st.kind;
+  closed_to_client = is_closed_to_client st.kind;
+  acked = acked;
 }
+
+abbrev pub seen_of : Explained → Seen
+seen_of x = seen_by (head_in x.what) x.before.stream x.before.counts.acked
 
 -- the special case of a cause, if it is one
 abbrev pub case_of_cause : Cause → Seen → CaseFacts → Option SpecialCase
@@ -133,12 +144,12 @@ case_of_cause RstStreamOnIdle s f = case_if s.even_stream EvenStream
 case_of_cause WindowUpdateOnIdle s f = case_if s.even_stream EvenStream
 case_of_cause StreamWindowOverflow s f = case_if s.half_local UnfollowedWindow
 case_of_cause TooManyStreams s f = if s.acked then None else Some LimitNotAcknowledged
-case_of_cause BadName s f = case_if f.empty_name EmptyName
-case_of_cause TrailersBadName s f = case_if f.empty_name EmptyName
-case_of_cause LackingPseudoField s f = lacking_case f.connect f.empty_path f.other_scheme
-case_of_cause BadTe s f = case_if f.trailers_alone TeOfTrailersAlone
-case_of_cause TrailersBadTe s f = case_if f.trailers_alone TeOfTrailersAlone
-case_of_cause BadContentLength s f = length_case f.lengths_differ f.length_is_long
+case_of_cause BadName s f = case_if f.fields.empty_names EmptyName
+case_of_cause TrailersBadName s f = case_if f.fields.empty_names EmptyName
+case_of_cause LackingPseudoField s f = lacking_case f.fields
+case_of_cause BadTe s f = case_if f.fields.trailers_alone TeOfTrailersAlone
+case_of_cause TrailersBadTe s f = case_if f.fields.trailers_alone TeOfTrailersAlone
+case_of_cause BadContentLength s f = length_case f.fields
 case_of_cause FirstNotSettings s f = case_if s.unknown_type FirstUnknownType
 case_of_cause PriorityLength s f = case_if s.on_idle PriorityLengthOnIdle
 case_of_cause StreamFrameTooLarge s f = case_if s.on_idle FrameTooLargeOnIdle
@@ -151,11 +162,11 @@ abbrev pub special_cause : Cause → Explained → CaseFacts → Option SpecialC
 special_cause cause x f = case_of_cause cause (seen_of x) f
 
 -- the special case of a reason to ignore a frame, if it is one
-abbrev pub special_reason : Ignored → CaseFacts → Option SpecialCase
-special_reason DataOnReset f = case_if f.after_end DataAfterEnd
-special_reason TableOnlyBlock f = case_if f.after_end BlockAfterEnd
-special_reason WindowUpdateOnPeerReset f = case_if f.after_end WindowUpdateAfterEnd
-special_reason _ f = None
+abbrev pub special_reason : Ignored → (after_end : Bool) → Option SpecialCase
+special_reason DataOnReset after_end = case_if after_end DataAfterEnd
+special_reason TableOnlyBlock after_end = case_if after_end BlockAfterEnd
+special_reason WindowUpdateOnPeerReset after_end = case_if after_end WindowUpdateAfterEnd
+special_reason _ after_end = None
 
 -- the special case of an item's error, if it has one
 abbrev pub error_case : Option Cause → Explained → CaseFacts → Option SpecialCase
@@ -168,7 +179,7 @@ case_of_error x f = error_case x.cause x f
 -- the special case of why an item is ignored, if it has one
 abbrev pub ignored_case : Option Ignored → CaseFacts → Option SpecialCase
 ignored_case None f = None
-ignored_case (Some reason) f = special_reason reason f
+ignored_case (Some reason) f = special_reason reason f.after_end
 
 abbrev pub case_of_reason : Explained → CaseFacts → Option SpecialCase
 case_of_reason x f = ignored_case x.ignored f
@@ -178,9 +189,34 @@ abbrev pub case_by : Option Cause → Option Ignored → Seen → CaseFacts → 
 case_by (Some cause) ignored s f = case_of_cause cause s f
 case_by None ignored s f = ignored_case ignored f
 
--- one that an error with this cause, or a frame that is ignored for this reason, can be; none where it is no special case
-abbrev pub IsCaseOf : Option Cause → Option Ignored → Option SpecialCase → Type 0
-IsCaseOf cause ignored case = (s : Seen) × (f : CaseFacts) × (case ≡ case_by cause ignored s f)
+-- the causes that can be special cases
+abbrev pub has_cases : Cause → Bool
+has_cases BlockInterrupted = true
+has_cases DataOnIdle = true
+has_cases RstStreamOnIdle = true
+has_cases WindowUpdateOnIdle = true
+has_cases StreamWindowOverflow = true
+has_cases TooManyStreams = true
+has_cases BadName = true
+has_cases TrailersBadName = true
+has_cases LackingPseudoField = true
+has_cases BadTe = true
+has_cases TrailersBadTe = true
+has_cases BadContentLength = true
+has_cases FirstNotSettings = true
+has_cases PriorityLength = true
+has_cases StreamFrameTooLarge = true
+has_cases InitialWindowSizeValue = true
+has_cases ContinuationOutsideBlock = true
+has_cases IntegerTooLong = true
+has_cases _ = false
+
+-- the reasons that can be
+abbrev pub has_reason_cases : Ignored → Bool
+has_reason_cases DataOnReset = true
+has_reason_cases TableOnlyBlock = true
+has_reason_cases WindowUpdateOnPeerReset = true
+has_reason_cases _ = false
 
 -- the row of the special case, or this one
 abbrev pub row_or : Row → Option SpecialCase → Row

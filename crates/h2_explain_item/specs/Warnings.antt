@@ -192,7 +192,7 @@ duty_of_error (Some cause) x f = (rule_of_cause cause (special_cause cause x f))
 
 abbrev pub duty_of_reason : Option Ignored → CaseFacts → ClientDuty
 duty_of_reason None f = client_duty.Nothing
-duty_of_reason (Some reason) f = (rule_of_reason reason (special_reason reason f)).client
+duty_of_reason (Some reason) f = (rule_of_reason reason (special_reason reason f.after_end)).client
 
 -- whether a frame is ignored whose increment is 0
 abbrev pub is_zero_increment : Option Ignored → Bool

@@ -3,6 +3,7 @@
 pub mod accepted;
 pub mod error_context;
 pub mod facts;
+pub mod field_facts;
 pub mod fields;
 pub mod frame_facts;
 pub mod integer;

@@ -35,7 +35,7 @@ pub struct Notes<A: Allocator = Global> {
 }
 
 /// Whether the client has ended its side of a stream in this state (RFC 9113, 5.1).
-fn has_client_ended(kind: StreamState) -> bool
+pub fn has_client_ended(kind: StreamState) -> bool
     ensures { result ≡ has_client_ended kind }
 {
     matches!(kind, StreamState::HalfRemote | StreamState::Ended)

@@ -1,12 +1,16 @@
 -- The lines of an item of which nothing is said: those of the opening alone.
 use Rattle.std.proofs.Common.{◌≡◌, ◌∙◌, ℕ, Bool, true, false, List, [], if◌then◌else◌, ap, refl, sym}
 use Rattle.h2_explain_text.specs.Lines.{Words, is_silent, lines_of, lines_unless, shown_words}
+use Rattle.h2_explain_item.specs.declared.diagnosis.field_facts.FieldFacts.{FieldFacts}
 use Rattle.h2_explain_item.specs.declared.diagnosis.special.CaseFacts.{CaseFacts}
 use Rattle.h2_explain_item.specs.declared.item.Explained.{Explained}
 
 -- nothing decides a special case
+abbrev no_fields : FieldFacts
+no_fields = record { empty_names = true; method = false; connect = false; scheme = false; other_scheme = false; empty_path = false; trailers_alone = true; short_lengths = true; numeric_lengths = true }
+
 abbrev pub no_facts : CaseFacts
-no_facts = record { continued = false; empty_name = false; connect = false; empty_path = false; other_scheme = false; trailers_alone = false; lengths_differ = false; length_is_long = false; lawful_window = false; beyond_tables = false; after_end = false }
+no_facts = record { continued = false; fields = no_fields; lawful_window = false; beyond_tables = false; after_end = false }
 
 abbrev no_lines : List ℕ
 no_lines = []

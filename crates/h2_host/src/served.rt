@@ -6,6 +6,8 @@ ghost use Rattle.std.specs.Prelude.{◌≤◌, length};
 use crate::devices::stopwatch::Stopwatch;
 use crate::items::number_in;
 use h2_io::{IntoWrite, Number, Text, texts};
+use h2_spec::octets::first_octets;
+use memchr::memchr;
 use std::alloc::Global;
 use std::io;
 use std::io::Write;
@@ -29,7 +31,7 @@ fn reason(number: usize) -> Option<&'static str> {
 fn first_line(text: &[u8]) -> &[u8]
     ensures within { length result.now ≤ length text.now }
 {
-    match text.iter().position(|octet| *octet == b'\n') {
+    match memchr(b'\n', text) {
         Some(end) => match text.get(..end.saturating_add(1)) {
             Some(line) => line,
             None => text,
@@ -84,16 +86,14 @@ impl Seen {
         self.line.clear();
     }
 
-    /// Looks at octets of one line.
+    /// Looks at the next octets of a line, which has a line feed only at its end.
     fn look(&mut self, octets: &[u8]) {
-        for octet in octets {
-            self.is_fresh = *octet == b'\n';
-            if self.is_fresh {
-                self.end();
-            } else if self.line.len() < LOOKED_AT {
-                // Without memory for it nothing is said.
-                let _ = self.line.push(*octet);
-            }
+        let space = LOOKED_AT.saturating_sub(self.line.len());
+        // Without memory for them nothing is said.
+        let _ = self.line.extend_from_slice(first_octets(octets, space));
+        self.is_fresh = octets.ends_with(b"\n".as_slice());
+        if self.is_fresh {
+            self.end();
         }
     }
 }
@@ -167,8 +167,11 @@ impl<'w, 't, 'c, W: Write, E: Write, C: Clock> ServerOutput<'w, 't, 'c, W, E, C>
 
 impl<W: Write, E: Write, C: Clock> Write for ServerOutput<'_, '_, '_, W, E, C> {
     fn write(&mut self, octets: &[u8]) -> io::Result<usize> {
+        if octets.is_empty() {
+            return Ok(0);
+        }
         let line = first_line(octets);
-        let rest = if self.seen.is_fresh && !line.is_empty() {
+        let rest = if self.seen.is_fresh {
             self.write_time(line)?
         } else {
             line

@@ -137,7 +137,7 @@ impl LineFile {
     /// A file that was not there before, which its owner alone can read.
     fn create(rt: &HostRuntime, path: &str) -> io::Result<LineFile> {
         let mut options = OpenOptions::new();
-        options.write(true).create_new(true).mode(0o600);
+        options.append(true).create_new(true).mode(0o600);
         Ok(LineFile {
             file: options.open(rt, path)?,
             length: 0,
@@ -160,6 +160,13 @@ impl LineFile {
             }
         }
     }
+
+    /// Drops the lines after the first few octets.
+    fn cut(&mut self, length: u64) -> io::Result<()> {
+        self.file.set_len(length)?;
+        self.length = length;
+        Ok(())
+    }
 }
 
 /// The two files of a connection.
@@ -167,8 +174,12 @@ impl LineFile {
 struct Record {
     hex: LineFile,
     case: LineFile,
-    /// The octets that came and are in no item yet.
-    pending: Vec<u8>,
+    /// The octets that were in no item when the last read began, and those of the read.
+    read: Vec<u8>,
+    /// How many of them are in an item.
+    taken: usize,
+    /// How long the case was then; at first, without what is sent before anything is read.
+    case_before: u64,
 }
 
 impl Record {
@@ -182,7 +193,9 @@ impl Record {
         Ok(Record {
             hex: LineFile::create(rt, hex.as_str())?,
             case: LineFile::create(rt, case.as_str())?,
-            pending: Vec::new(rt.alloc()),
+            read: Vec::new(rt.alloc()),
+            taken: 0,
+            case_before: 0,
         })
     }
 
@@ -191,7 +204,12 @@ impl Record {
         let mut line = hex::encode(rt.alloc(), octets)?;
         line.push_str("\n")?;
         self.hex.add(line.as_str().as_bytes())?;
-        self.pending.extend_from_slice(octets)?;
+        let left = self.read.len().saturating_sub(self.taken);
+        self.read.rotate_left(self.taken.min(self.read.len()));
+        self.read.truncate(left);
+        self.read.extend_from_slice(octets)?;
+        self.taken = 0;
+        self.case_before = self.case.length;
         Ok(())
     }
 
@@ -212,20 +230,35 @@ impl Record {
         lines.extend_from_slice(item.as_str().as_bytes())?;
         push_told(rt.alloc(), sent, &mut lines)?;
         self.case.add(lines.as_slice())?;
-        let used = octets.len().min(self.pending.len());
-        let left = self.pending.len() - used;
-        self.pending.rotate_left(used);
-        self.pending.truncate(left);
+        self.taken = self.taken.saturating_add(octets.len());
         Ok(())
+    }
+
+    /// Drops what was sent for the last read, since not all of it was written, and the items of that read.
+    fn drop_items(&mut self) -> io::Result<()> {
+        self.taken = 0;
+        self.case.cut(self.case_before)?;
+        self.case.add(b"; not all that was sent here was written\n")
     }
 
     /// Writes the octets that are in no item.
     fn add_rest(&mut self, rt: &HostRuntime) -> io::Result<()> {
-        if self.pending.is_empty() {
+        let Some(rest) = self.read.get(self.taken..) else {
+            return Ok(());
+        };
+        if rest.is_empty() {
             return Ok(());
         }
-        let lines = disassemble(rt.alloc(), self.pending.as_slice())?;
+        let lines = disassemble(rt.alloc(), rest)?;
         self.case.add(lines.as_str().as_bytes())
+    }
+
+    /// Writes the end of the connection.
+    fn end(&mut self, rt: &HostRuntime, is_written: bool) -> io::Result<()> {
+        if !is_written {
+            self.drop_items()?;
+        }
+        self.add_rest(rt)
     }
 }
 
@@ -300,6 +333,7 @@ impl<'r, 't, 'c> Recordings<'r, 't, 'c> {
         let title = format!(in rt.alloc(); ";# connection {number}\n")?;
         let mut lines = title.as_str().as_bytes().to_vec(rt.alloc())?;
         lines.extend_from_slice(self.words.as_str().as_bytes())?;
+        record.case_before = lines.len() as u64;
         push_told(rt.alloc(), opening, &mut lines)?;
         record.case.add(lines.as_slice())?;
         Ok(record)
@@ -357,10 +391,10 @@ impl Keeper for Recordings<'_, '_, '_> {
         }
     }
 
-    fn end(&mut self) {
+    fn end(&mut self, is_written: bool) {
         let rt = self.runtime;
         if let Some(record) = &mut self.record {
-            let written = record.add_rest(rt);
+            let written = record.end(rt, is_written);
             self.check(written);
         }
         self.record = None;

@@ -102,6 +102,10 @@ taken-no_item c kept none over =
       },
     )
 
+-- of no octets nothing is sent
+pub fed-none : (c : Connection) (out : List ℕ) → HasNoItem c → Fed c [] out c out
+fed-none c out none = subst (λ (o : List ℕ). Fed c [] o c o) (append-nil out) (fed-behind out c c [] [] [] none)
+
 -- ---- exchanges, one after another
 
 -- nothing was read, and some of the pending output was written
@@ -116,8 +120,7 @@ exchanges-write {read} {read'} {known} {known'} {lengths} {lengths'} {out} {out'
   written_is = w.known_is;
   lengths_is = l ∙ sym (grown-nil lengths);
   feeds =
-      let pending : Fed c [] out c out = subst (λ (o : List ℕ). Fed c [] o c o) (append-nil out) (fed-behind out c c [] [] [] none) in
-      subst (λ (o : List ℕ). Fed c [] out c o) (sym w.whole) pending;
+      subst (λ (o : List ℕ). Fed c [] out c o) (sym w.whole) (fed-none c out none);
 }
 
 pub exchanges-then : (refused : Bool) {a b c : DriveState} {ls ls' : List ℕ} → Exchanges false a b ls

@@ -1,5 +1,6 @@
 -- Runs over octets that are fed in two pieces; out of memory, the second piece is not handled to its end.
 use Rattle.std.proofs.Common.{◌≡◌, ◌∙◌, ℕ, zero, suc, ◌+◌, ◌≤◌, List, [], ◌∷◌, ◌++◌, length, take, drop, arith, length-append, length-drop, refl, sym, ap, append_assoc}
+use Rattle.std.proofs.lemmas.List.{take-append-le}
 use Rattle.h2_spec.specs.Texts.Debug.{state_at}
 use Rattle.h2_spec.specs.Frames.Frame.{Next, NoItem, Got, frames_octets}
 use Rattle.h2_spec.specs.Frames.Parse.{Front, Stop, One, Parsed, parse_all, parse_first}
@@ -126,4 +127,25 @@ fed-halts c c' c'' q q' out out' out'' x y =
         sent-append es (take y.items fs),
         x.1.sent,
       ) (append_assoc out (sent_octets es) (sent_octets (take y.items fs)));
+    }
+
+-- ---- more octets than were handled
+
+state-before : (s : State) (es more : List Event) (n : ℕ) → n ≤ length es → state_at s (es ++ more) n ≡ state_at s es n
+state-before s es more zero h = refl
+state-before s [] more (suc n) h = absurd (omega (arith, h))
+state-before s (e ∷ es) more (suc n) h = state-before e.state es more n (omega (arith, h))
+
+-- what was handled before memory was refused are first items of more octets too
+pub halts-more : (c c' : Connection) (q q' out out' : List ℕ) → Halts c q out c' out' → Halts c (q ++ q') out c' out'
+halts-more c c' q q' out out' x =
+    let es : List Event = (fed c q).events in
+    let last : Connection = going (fed c q).state (fed c q).rest in
+    let fs : List Event = (fed last q').events in
+    let sum : (fed c (q ++ q')).events ≡ es ++ fs = ap (λ (r : Run). r.events) (both c last q q' refl) in
+    record {
+      items = x.items;
+      within = rw sum (omega (arith, x.within, length-append es fs));
+      after = x.after ∙ ap halted (sym (rw sum (state-before c.state es fs x.items x.within)));
+      sent = x.sent ∙ ap (λ (l : List Event). out ++ sent_octets l) (sym (rw sum (take-append-le x.items es fs x.within)));
     }

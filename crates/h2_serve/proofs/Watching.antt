@@ -13,7 +13,7 @@ use Rattle.std.specs.Io.KnownBytes.{Appends}
 use Rattle.h2_explain.specs.Explains.{IsExplanation, not_written}
 use Rattle.h2_explain.specs.declared.run.ExplainFault.{ExplainFault}
 use Rattle.h2_explain.specs.Explaining as explaining
-use Rattle.h2_explain.specs.Explaining.{EndsAs, HasGained, IsBeginning, IsExplaining, IsNew, IsSummed, SaysOf, SaysSome}
+use Rattle.h2_explain.specs.Explaining.{BeginsRead, EndsAs, HasGained, IsBeginning, IsExplaining, IsNew, IsSummed, SaysOf, SaysSome}
 use Rattle.h2_explain.specs.declared.run.Form.{Form}
 use Rattle.h2_explain.specs.declared.run_explainer.RunExplainer.{RunExplainer}
 use Rattle.h2_explain.specs.declared.run.Summary.{Summary}
@@ -25,13 +25,19 @@ use Rattle.h2_serve.specs.Faults.{failed_by}
 use Rattle.h2_serve.specs.Serves.{Grew}
 use Rattle.h2_serve.specs.Numbered.{Grows, PrintsPrefixed, fresh_after, gathered_text, prefix_of, prefixed}
 use Rattle.h2_serve.specs.ExplainedConns.{Concludes, GoesOn, IsWatched, IsExplained, Shows, whole}
-use Rattle.h2_serve.specs.Passes.{grew-more, not-before, prints-then}
+use Rattle.h2_serve.specs.Passes.{goes-none, grew-more, not-before, prints-then}
 
 -- whatever comes, what was said so far is an explanation that is cut short
 pub cut-now : {A : Type 0} (form : Form) (s : State) (b octets text : List ℕ) (c : Connection) (e : RunExplainer A)
-    → IsExplained false form s b c e text → IsExplanation form true s (b ++ octets) (text ++ [])
-cut-now form s b octets text c e said =
-    subst (λ (f : Form). IsExplanation f true s (b ++ octets) (text ++ [])) said.0 (said.2 octets true [] [] refl)
+    → IsExplained false form s b c e text → (later : List ℕ) → IsExplanation form true s ((b ++ octets) ++ later) (text ++ [])
+cut-now form s b octets text c e said later =
+    subst (λ (o : List ℕ). IsExplanation form true s o (text ++ [])) (sym (append_assoc b octets later))
+    (subst (λ (f : Form). IsExplanation f true s (b ++ (octets ++ later)) (text ++ [])) said.0 (said.2 (octets ++ later) true [] [] refl))
+
+-- the same of these octets alone
+cut-here : {A : Type 0} (form : Form) (s : State) (b text : List ℕ) (c : Connection) (e : RunExplainer A)
+    → IsExplained false form s b c e text → IsExplanation form true s b (text ++ [])
+cut-here form s b text c e said = subst (λ (o : List ℕ). IsExplanation form true s o (text ++ [])) (append-nil b ∙ append-nil b) (cut-now form s b [] text c e said [])
 
 -- ---- the start
 
@@ -53,6 +59,32 @@ said-new form c e is new = (
 )
 
 -- ---- a piece
+
+-- whatever is known of a read, the octets are those that were explained
+explained-read : {A : Type 0} (form : Form) (s : State) (b text : List ℕ) (c : Connection) (e e' : RunExplainer A) (begins : BeginsRead e e')
+    → IsExplained false form s b c e text → IsExplained false form s b c (record e { explainer = begins.0 }) text
+explained-read form s b text c e e' begins said =
+    let x = said.1 in (
+      said.0,
+      record { after = x.after; stops = x.stops; items_are = x.items_are; offset_is = x.offset_is; held_is = x.held_is; left_is = x.left_is; tallied = x.tallied },
+      said.2,
+    )
+
+-- a read began, and nothing was said
+pub goes-read : {A : Type 0} (P : List ℕ → Type 0) (c : Connection) (e e' : RunExplainer A) → BeginsRead e e' → P [] → GoesOn false c e P [] c e'
+goes-read P c e e' begins p = λ form s b text said.
+    let none = goes-none P c e p form s b text said in (
+      none.0,
+      subst (λ (x : RunExplainer A). IsExplained false form s (b ++ []) c x (text ++ none.0)) (sym begins.1)
+          (explained-read form s (b ++ []) (text ++ none.0) c e e' begins none.1),
+      none.2,
+    )
+
+-- and it goes on being watched
+pub watched-read : {A : Type 0} (failed : Bool) (c : Connection) (e e' : RunExplainer A) (came : ℕ) → BeginsRead e e'
+    → IsWatched failed c e came → IsWatched failed c e' came
+watched-read true c e e' came begins watched = tt
+watched-read false c e e' came begins watched = subst (λ (x : RunExplainer A). IsWatched false c x came) (sym begins.1) watched
 
 -- a text that was empty gained this
 gained-is : (begun items more : List ℕ) → begun ≡ [] → Some items ≡ Some (begun ++ more) → items ≡ more
@@ -76,7 +108,7 @@ pub cut-said : {A : Type 0} (P : List ℕ → Type 0) (c c' : Connection) (e e' 
 cut-said P c c' e e' piece begun items printed empty whole says p = λ form s b text said.
     let gained = says s b text said.1 said.2 begun refl in (
       gained.0,
-      subst (λ (f : Form). IsExplanation f true s (b ++ piece) (text ++ gained.0)) said.0 gained.2,
+      λ later. subst (λ (f : Form). IsExplanation f true s ((b ++ piece) ++ later) (text ++ gained.0)) said.0 (gained.2 later),
       subst P (whole ∙ gained-is begun items gained.0 empty gained.1) p,
     )
 
@@ -120,6 +152,18 @@ pub ends-as : {A : Type 0} (P : List ℕ → Type 0) (failed : Bool) (x : Conclu
     → failed ≡ false → Concludes false x c e P → Concludes failed x c e P
 ends-as P failed x c e is ends = subst (λ (f : Bool). Concludes f x c e P) (sym is) ends
 
+-- memory was refused before: what was said is all
+pub ends-cut : {A : Type 0} (P : List ℕ → Type 0) (c : Connection) (e : RunExplainer A) → P [] → Concludes true (record { is_cut = true; summary = None }) c e P
+ends-cut P c e p = λ form s b text said. (
+  [],
+  (
+    subst (λ (o : List ℕ). IsExplanation form true s o (text ++ [])) (append-nil b)
+        (subst (λ (t : List ℕ). IsExplanation form true s (b ++ []) t) (sym (append-nil text)) (said [])),
+    tt,
+  ),
+  p,
+)
+
 -- where memory for the text of the end was refused, the end was not explained
 failed-cuts : {A : Type 0} (r : Result A ExplainFault) (failed : Bool) → failed ≡ not_written r → failed ≡ true → is_err r ≡ true
 failed-cuts (Ok x) failed is e = absurd (false≢true (sym is ∙ e))
@@ -133,7 +177,7 @@ gathered P x c e begun items cut true empty cuts ends summed p = λ form s b tex
   [],
   (
     subst (λ (f : Bool). IsExplanation form f s b (text ++ [])) (sym (cuts refl))
-        (subst (λ (o : List ℕ). IsExplanation form true s o (text ++ [])) (append-nil b) (cut-now form s b [] text c e said)),
+        (cut-here form s b text c e said),
     summed s b said.1,
   ),
   p,

@@ -37,10 +37,10 @@ IsWatched false c e came =
     (c ≡ going c.state []) × (e.items ≤ e.offset) × (total e ≡ came) × (came < 2 ^ 63) × HasNoItem (going c.state e.held.items)
 
 -- what was said in this form of the octets that came: of all items, and it goes on; or, memory being refused, of some
--- first items
+-- first items, whatever octets come later
 abbrev pub IsExplained : {A : Type 0} → (refused : Bool) → Form → State → List ℕ → Connection → RunExplainer A → List ℕ → Type 0
 IsExplained false form s b c e text = (e.form ≡ form) × IsExplaining s b c e × IsBeginning s b e text
-IsExplained true form s b c e text = IsExplanation form true s b text
+IsExplained true form s b c e text = (later : List ℕ) → IsExplanation form true s (b ++ later) text
 
 -- these octets came: whatever came and was said before, what is said now goes on with it, and P holds of it
 abbrev pub GoesOn : {A : Type 0} → (refused : Bool) → Connection → RunExplainer A → (P : List ℕ → Type 0) → List ℕ → Connection → RunExplainer A → Type 0

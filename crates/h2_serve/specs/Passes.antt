@@ -5,6 +5,7 @@ use Rattle.std.proofs.lemmas.List.{append-nil}
 use Rattle.std.proofs.KnownBytes.{Appends-trans}
 use Rattle.std.specs.Io.KnownBytes.{Appends}
 use Rattle.h2_conn.specs.Connection.{Connection}
+use Rattle.h2_explain.specs.Explains.{IsExplanation}
 use Rattle.h2_explain.specs.declared.run_explainer.RunExplainer.{RunExplainer}
 use Rattle.h2_serve.specs.Faults.{failed_by}
 use Rattle.h2_serve.specs.Serves.{Gains, Grew}
@@ -107,3 +108,16 @@ goes-more refused P Q R c c' c'' e e' e'' a b join one two = λ form s o text sa
           (subst (λ (t : List ℕ). IsExplained refused form s ((o ++ a) ++ b) c'' e'' t) (append_assoc text first.0 second.0) second.1),
       join first.0 second.0 first.2 second.2,
     )
+
+-- memory was refused: what is said holds for more octets too
+pub goes-cut : {A : Type 0} (P : List ℕ → Type 0) (c c' : Connection) (e e' : RunExplainer A) (a b : List ℕ)
+    → GoesOn true c e P a c' e' → GoesOn true c e P (a ++ b) c' e'
+goes-cut P c c' e e' a b one = λ form s o text said.
+    let first = one form s o text said in (
+      first.0,
+      λ later. subst (λ (t : List ℕ). IsExplanation form true s t (text ++ first.0)) (joined o a b later) (first.1 (b ++ later)),
+      first.2,
+    )
+  where
+    joined : (o a b later : List ℕ) → (o ++ a) ++ (b ++ later) ≡ (o ++ (a ++ b)) ++ later
+    joined o a b later = append_assoc o a (b ++ later) ∙ ap (λ (t : List ℕ). o ++ t) (sym (append_assoc a b later)) ∙ sym (append_assoc o (a ++ b) later)

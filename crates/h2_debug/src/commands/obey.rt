@@ -1,8 +1,8 @@
 //! What a command does to a debugger, and the reply to it. Definition: `specs/Replies.antt`.
 
 ghost use Rattle.std.specs.Prelude.{◌≡◌, option_map, Some};
-ghost use Rattle.h2_debug.specs.Commands.{Back, BreakOn, Run, Step};
-ghost use Rattle.h2_debug.specs.Replies.{Obeys, moved_reply, reply_text, set_reply};
+ghost use Rattle.h2_debug.specs.Commands.{Back, BreakOn, Run, Step, Why};
+ghost use Rattle.h2_debug.specs.Replies.{Obeys, moved_reply, reply_text, set_reply, why_reply};
 ghost use Rattle.h2_debug.specs.Words.{asked_by};
 ghost use Rattle.h2_debug.specs.Breakpoints.{break_of};
 
@@ -11,6 +11,7 @@ use crate::commands::command::Command;
 use crate::commands::reply::Reply;
 use crate::debugger::Debugger;
 use crate::fault::DebugFault;
+use h2_spec::special_cases::SpecialCase;
 use std::alloc::Global;
 
 /// The number of the fault of a line that is no command.
@@ -64,6 +65,23 @@ fn break_on(debugger: &mut Debugger<'_, Global>, stop: Break) -> Reply
     set(debugger.break_on(stop))
 }
 
+/// The reply to `why`.
+fn explained(answer: Result<Option<SpecialCase>, DebugFault>) -> Reply
+    ensures { result ≡ why_reply answer }
+{
+    match answer {
+        Ok(case) => Reply::Explained(case),
+        Err(fault) => Reply::Refused(fault.number()),
+    }
+}
+
+/// Says why the present item was an error, or was ignored.
+fn why(debugger: &mut Debugger<'_, Global>) -> Reply
+    ensures { Obeys debugger.old (Some Why) (reply_text debugger.new result) debugger.new }
+{
+    explained(debugger.special_case())
+}
+
 /// Does what a line asks for.
 pub fn obey(debugger: &mut Debugger<'_, Global>, command: Option<Command>) -> Reply
     ensures { Obeys debugger.old (option_map asked_by command) (reply_text debugger.new result) debugger.new }
@@ -80,6 +98,6 @@ pub fn obey(debugger: &mut Debugger<'_, Global>, command: Option<Command>) -> Re
             Reply::Done
         }
         Some(Command::Show) => Reply::Shown,
-        Some(Command::Why) => Reply::Explained,
+        Some(Command::Why) => why(debugger),
     }
 }

@@ -8,6 +8,7 @@ use crate::debugger::Debugger;
 use h2_conn_view::hex_text::OctetsText;
 use h2_explain_text::why::WhyText;
 use h2_io::{DeviceFault, Number, Output, Text, texts};
+use h2_spec::special_cases::SpecialCase;
 use std::alloc::Global;
 
 /// What is printed for a command.
@@ -21,8 +22,8 @@ pub enum Reply {
     Refused(u8),
     /// The debugger's position, what its item sent, and the state.
     Shown,
-    /// Why the item at the debugger's position was an error, or was ignored.
-    Explained,
+    /// Why the item at the debugger's position was an error, or was ignored, and which special case that is.
+    Explained(Option<SpecialCase>),
 }
 
 /// A word, a number and a line feed.
@@ -71,15 +72,15 @@ impl Text for PlaceText<'_, '_> {
     }
 }
 
-/// Why the item at the position of a debugger was an error, or was ignored.
-fn why_of(debugger: &Debugger<'_, Global>) -> WhyText
-    ensures { why_lines result.phase result.cause result.ignored result.case ≡ why_text debugger.now }
+/// Why the item at the position of a debugger was an error, or was ignored, and which special case that is.
+fn why_of(debugger: &Debugger<'_, Global>, case: Option<SpecialCase>) -> WhyText
+    ensures { why_lines result.phase result.cause result.ignored result.case ≡ why_text debugger.now case }
 {
     WhyText {
         phase: debugger.conn().counts().phase,
         cause: debugger.cause(),
         ignored: debugger.ignored(),
-        case: None,
+        case,
     }
 }
 
@@ -105,7 +106,7 @@ impl Text for ReplyText<'_, '_> {
             Reply::Done => "ok\n".write_to(output),
             Reply::Refused(fault) => FaultLine(fault).write_to(output),
             Reply::Shown => PlaceText(self.debugger).write_to(output),
-            Reply::Explained => why_of(self.debugger).write_to(output),
+            Reply::Explained(case) => why_of(self.debugger, case).write_to(output),
         }
     }
 }

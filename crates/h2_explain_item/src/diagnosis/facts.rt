@@ -1,56 +1,91 @@
-//! What an error or an ignored frame is besides its cause: the facts that decide its special case, and the other faults
-//! of its block. No definition speaks of them.
+//! What an error or an ignored frame is besides its cause: the facts that decide its special case (`specs/CaseFacts.antt`),
+//! and the other faults of its block, of which no definition speaks.
+
+ghost use Rattle.std.specs.Prelude.{◌≡◌};
+ghost use Rattle.std.specs.Option.{option_map};
+ghost use Rattle.h2_frame.specs.Parts.{part_seen, settings_in};
+ghost use Rattle.h2_explain_item.specs.CaseFacts.{ends_lawful, facts_by, has_lawful_window, lawful_with};
 
 use crate::diagnosis::error_context::ErrorContext;
-use crate::diagnosis::fields::{
-    BlockFields, are_empty_names, are_trailers_alone, do_lengths_differ, family_of,
-    has_other_scheme, holds, is_connect, is_length_long, is_path_alone_empty,
-};
+use crate::diagnosis::field_facts::{FieldFacts, field_facts};
+use crate::diagnosis::fields::{BlockFields, family_of, holds};
 use crate::diagnosis::integer::is_beyond_tables;
 use crate::diagnosis::special::CaseFacts;
-use crate::item::Explained;
-use h2_frame::Part;
+use h2_frame::{Part, SettingsPart};
 use h2_spec::causes::Cause;
 use h2_spec::streams::{Stream, StreamState};
 use std::alloc::{AllocError, Allocator};
 
-// The fields of a block say nothing of an item that is ignored, and a client may send many of these after a long block.
-/// What decides whether the rule of an item is a special case.
-pub fn facts_of<A: Allocator + Copy>(context: ErrorContext<'_, '_, A>) -> CaseFacts {
-    let fields = context.reader.fields();
-    let fields = if context.item.cause.is_some() {
-        fields
-    } else {
-        &fields[..0]
-    };
+/// What decides, beside what is seen of an item, whether its rule is a special case: whether it is behind a CONTINUATION of the
+/// open block, what its payload holds, what its fields are, the octets of its block from an instruction on, and whether the
+/// client had ended its side of the stream before it was reset.
+pub fn case_facts(
+    continued: bool,
+    part: Option<Part<'_>>,
+    fields: FieldFacts,
+    octets: &[u8],
+    after_end: bool,
+) -> CaseFacts
+    ensures { result ≡ facts_by continued (option_map part_seen part.entry) fields octets.now after_end }
+{
     CaseFacts {
-        continued: context.item.number > context.notes.block.saturating_add(1),
-        empty_name: are_empty_names(fields),
-        connect: is_connect(fields),
-        empty_path: is_path_alone_empty(fields),
-        other_scheme: has_other_scheme(fields),
-        trailers_alone: are_trailers_alone(fields),
-        lengths_differ: do_lengths_differ(fields),
-        length_is_long: is_length_long(fields),
-        lawful_window: has_lawful_window(context.item),
-        beyond_tables: is_beyond_tables(context.reader.rest()),
-        after_end: context.after_end,
+        continued,
+        fields,
+        lawful_window: has_lawful_window(part),
+        beyond_tables: is_beyond_tables(octets),
+        after_end,
+    }
+}
+
+// The fields of a block say nothing of an item that is ignored, and a client may send many of these after a long block.
+/// The same of an item that is explained.
+pub fn facts_of<A: Allocator + Copy>(context: ErrorContext<'_, '_, A>) -> CaseFacts {
+    let fields = if context.item.cause.is_some() {
+        field_facts(context.reader.fields())
+    } else {
+        FieldFacts::none()
+    };
+    let continued = context.item.number > context.notes.block.saturating_add(1);
+    case_facts(
+        continued,
+        context.item.part,
+        fields,
+        context.reader.rest(),
+        context.after_end,
+    )
+}
+
+/// The same after one setting more.
+fn lawful_with(lawful: bool, number: u16, value: u32) -> bool
+    ensures { result ≡ lawful_with lawful (number, value) }
+{
+    if number == 4 {
+        value <= 2_147_483_647
+    } else {
+        lawful
     }
 }
 
 /// Whether the last SETTINGS_INITIAL_WINDOW_SIZE of a frame is one that it may be (RFC 9113, 6.5.2).
-fn has_lawful_window(item: &Explained<'_>) -> bool {
-    let Some(Part::Settings(settings)) = item.part else {
-        return false;
-    };
-    let mut is_lawful = false;
+fn ends_lawful(settings: SettingsPart<'_>) -> bool
+    ensures { result ≡ ends_lawful (settings_in settings.entry) }
+{
+    let mut lawful = false;
     for place in 0..settings.count() {
-        match settings.pair(place) {
-            Some((4, value)) => is_lawful = value <= 2_147_483_647,
-            _ => {}
-        }
+        let (number, value) = settings.pair_at(place);
+        lawful = lawful_with(lawful, number, value);
     }
-    is_lawful
+    lawful
+}
+
+/// The same of a payload.
+fn has_lawful_window(part: Option<Part<'_>>) -> bool
+    ensures { result ≡ has_lawful_window (option_map part_seen part.entry) }
+{
+    match part {
+        Some(Part::Settings(settings)) => ends_lawful(settings),
+        _ => false,
+    }
 }
 
 /// The block that an item ends, as far as its faults depend on it.

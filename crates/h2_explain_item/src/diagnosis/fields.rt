@@ -1,8 +1,9 @@
 //! What is wrong with the fields of a block, looked up in the fields themselves (RFC 9113, 8.1 to 8.5): the first field
-//! at fault for a sentence, the facts that decide special cases, and all the faults of a block. The rules of one field are
-//! h2_hpack_validity's.
+//! at fault for a sentence, and all the faults of a block. The rules of one field are h2_hpack_validity's.
 
 ghost use Rattle.std.specs.Prelude.{◌≡◌};
+ghost use Rattle.std.specs.List.{list_any};
+ghost use Rattle.h2_explain_item.specs.FieldFacts.{is_no_digit, is_number};
 
 use h2_explain_words::spelled::SpelledField;
 use h2_hpack_validity::mark::KnownName;
@@ -143,11 +144,6 @@ fn is_lacking<A: Allocator>(fields: &[SpelledField<A>]) -> bool {
     !has(b":method", fields) || !scheme || !path || has_empty_path(fields)
 }
 
-/// Whether no pseudo-field of a request is missing, and :path is empty (RFC 9113, 8.3.1).
-pub fn is_path_alone_empty<A: Allocator>(fields: &[SpelledField<A>]) -> bool {
-    has(b":method", fields) && has(b":scheme", fields) && has_empty_path(fields)
-}
-
 /// Whether the scheme is there, and is neither http nor https.
 pub fn has_other_scheme<A: Allocator>(fields: &[SpelledField<A>]) -> bool {
     match value_of(b":scheme", fields) {
@@ -159,14 +155,29 @@ pub fn has_other_scheme<A: Allocator>(fields: &[SpelledField<A>]) -> bool {
     }
 }
 
-/// Whether a value is of digits alone, one at least.
-pub fn is_number(value: &[u8]) -> bool {
+/// Whether an octet is no digit.
+fn is_no_digit(octet: u8) -> bool
+    ensures { result ≡ is_no_digit octet }
+{
+    !(b'0' <= octet && octet <= b'9')
+}
+
+/// Whether an octet of a value is no digit.
+fn has_no_digit(value: &[u8]) -> bool
+    ensures { result ≡ list_any is_no_digit value.now }
+{
+    let mut found = false;
     for octet in value {
-        if !(b'0'..=b'9').contains(octet) {
-            return false;
-        }
+        found |= is_no_digit(*octet);
     }
-    !value.is_empty()
+    found
+}
+
+/// Whether a value is of digits alone, one at least.
+pub fn is_number(value: &[u8]) -> bool
+    ensures { result ≡ is_number value.now }
+{
+    !value.is_empty() && !has_no_digit(value)
 }
 
 /// What the content-lengths of a block are.
@@ -195,19 +206,6 @@ fn lengths_of<A: Allocator>(fields: &[SpelledField<A>]) -> Lengths {
         }
     }
     lengths
-}
-
-/// Whether all content-lengths are numbers, and one has more than 18 digits.
-pub fn is_length_long<A: Allocator>(fields: &[SpelledField<A>]) -> bool {
-    matches!(lengths_of(fields), Lengths::Long)
-}
-
-/// Whether two content-lengths are different numbers, of at most 18 digits each.
-pub fn do_lengths_differ<A: Allocator>(fields: &[SpelledField<A>]) -> bool {
-    match lengths_of(fields) {
-        Lengths::Numbers => has_other_length(fields),
-        Lengths::NoNumber | Lengths::Long => false,
-    }
 }
 
 /// Whether a content-length is another number than the first.
@@ -266,37 +264,6 @@ fn first_with<A: Allocator>(
         Some(place) => fields.get(place),
         None => None,
     }
-}
-
-/// Whether each name that is refused is empty.
-pub fn are_empty_names<A: Allocator>(fields: &[SpelledField<A>]) -> bool {
-    for field in fields {
-        if is_wrong(FieldFault::Name, field) && !field.name.is_empty() {
-            return false;
-        }
-    }
-    true
-}
-
-/// Whether a list has no member but `trailers`, in any case of its letters (RFC 9110, 5.6.1 and 10.1.4).
-fn is_trailers_alone(list: &[u8]) -> bool {
-    for member in list.split(|octet| *octet == b',') {
-        let member = member.trim_ascii();
-        if !member.is_empty() && !member.eq_ignore_ascii_case(b"trailers") {
-            return false;
-        }
-    }
-    true
-}
-
-/// Whether each te that is refused has no member but `trailers`.
-pub fn are_trailers_alone<A: Allocator>(fields: &[SpelledField<A>]) -> bool {
-    for field in fields {
-        if is_wrong(FieldFault::Te, field) && !is_trailers_alone(field.value.as_slice()) {
-            return false;
-        }
-    }
-    true
 }
 
 /// Whether a content-length is not taken: no number of 1 to 18 digits, or two that differ (RFC 9113, 8.1.1).

@@ -1,17 +1,20 @@
 //! Which special case an error or an ignored frame is, and its rule. Definitions: `specs/Special.antt`.
 
-ghost use Rattle.std.specs.Prelude.{◌≡◌, ◌%◌, ◌==◌, ◌&&◌};
-ghost use Rattle.h2_explain_item.specs.Item.{head_in};
-ghost use Rattle.h2_explain_item.specs.Special.{case_by, case_if, case_of_cause, case_of_error, case_of_reason, interrupted_case, is_allowed_on_idle, is_closed_to_client, is_half_local, is_idle, is_unknown, is_unknown_frame, lacking_case, may_be_on_idle, length_case, rule_of_cause, rule_of_reason, seen_of, special_reason};
+ghost use Rattle.std.specs.Prelude.{◌≡◌, Bool, false, None};
+ghost use Rattle.h2_spec.specs.declared.causes.Cause.TheVariants.{IntegerTooLong};
+ghost use Rattle.h2_explain_item.specs.CaseFacts.{is_beyond_tables};
+ghost use Rattle.h2_explain_item.specs.Special.{case_if, case_of_cause, case_of_error, case_of_reason, has_cases, has_reason_cases, interrupted_case, is_allowed_on_idle, is_closed_to_client, is_half_local, is_idle, is_unknown, is_unknown_frame, lacking_case, may_be_on_idle, length_case, rule_of_cause, rule_of_reason, seen_by, seen_of, special_reason};
 ghost use Rattle.h2_spec.specs.Causes.Rules.{row_shown};
 
+use crate::diagnosis::field_facts::FieldFacts;
+use crate::diagnosis::integer::is_beyond_tables;
 use crate::item::Explained;
 use h2_spec::causes::Cause;
-use h2_spec::frames::FrameType;
+use h2_spec::frames::{FrameType, Head};
 use h2_spec::ignored::Ignored;
 use h2_spec::rules::Row;
 use h2_spec::special_cases::SpecialCase;
-use h2_spec::streams::StreamState;
+use h2_spec::streams::{Stream, StreamState};
 
 /// What an item and the connection before it show of whether its rule is a special case.
 #[derive(Clone, Copy)]
@@ -30,39 +33,13 @@ pub struct Seen {
     pub acked: bool,
 }
 
-impl Seen {
-    /// Nothing of it is so, but that they are acknowledged.
-    pub fn none() -> Seen {
-        Seen {
-            unknown_type: false,
-            even_stream: false,
-            half_local: false,
-            on_idle: false,
-            closed_to_client: false,
-            acked: true,
-        }
-    }
-}
-
 /// What decides, beside what is seen of the item, whether its rule is a special case.
 #[derive(Clone, Copy)]
 pub struct CaseFacts {
     /// Whether a CONTINUATION has arrived in the open field block.
     pub continued: bool,
-    /// Whether each name that is refused is empty.
-    pub empty_name: bool,
-    /// Whether the method is CONNECT.
-    pub connect: bool,
-    /// Whether :path is empty, and no pseudo-field is missing.
-    pub empty_path: bool,
-    /// Whether the scheme is neither http nor https.
-    pub other_scheme: bool,
-    /// Whether each te that is refused has no member but trailers.
-    pub trailers_alone: bool,
-    /// Whether two content-lengths are different numbers.
-    pub lengths_differ: bool,
-    /// Whether a content-length is a number of more than 18 digits.
-    pub length_is_long: bool,
+    /// What the fields of its block are.
+    pub fields: FieldFacts,
     /// Whether the last SETTINGS_INITIAL_WINDOW_SIZE of the frame is lawful.
     pub lawful_window: bool,
     /// Whether the integer that is too long is 2^32 or more.
@@ -76,13 +53,7 @@ impl CaseFacts {
     pub fn none() -> CaseFacts {
         CaseFacts {
             continued: false,
-            empty_name: false,
-            connect: false,
-            empty_path: false,
-            other_scheme: false,
-            trailers_alone: false,
-            lengths_differ: false,
-            length_is_long: false,
+            fields: FieldFacts::none(),
             lawful_window: false,
             beyond_tables: false,
             after_end: false,
@@ -138,10 +109,10 @@ fn is_unknown(kind: FrameType) -> bool
 }
 
 /// Whether an item is a frame of a type that is not known.
-fn is_unknown_frame(item: &Explained<'_>) -> bool
-    ensures { result ≡ is_unknown_frame (head_in item.now.what) }
+fn is_unknown_frame(head: Option<Head>) -> bool
+    ensures { result ≡ is_unknown_frame head }
 {
-    match item.head() {
+    match head {
         Some(head) => is_unknown(head.frame_type()),
         None => false,
     }
@@ -159,20 +130,13 @@ fn is_allowed_on_idle(kind: FrameType) -> bool
 }
 
 /// Whether an item is a frame of such a type.
-fn may_be_on_idle(item: &Explained<'_>) -> bool
-    ensures { result ≡ may_be_on_idle (head_in item.now.what) }
+fn may_be_on_idle(head: Option<Head>) -> bool
+    ensures { result ≡ may_be_on_idle head }
 {
-    match item.head() {
+    match head {
         Some(head) => is_allowed_on_idle(head.frame_type()),
         None => false,
     }
-}
-
-/// Whether an item is on an even stream (RFC 9113, 5.1.1).
-fn is_even(item: &Explained<'_>) -> bool
-    ensures { result ≡ (item.now.before.stream.id % 2 == 0) }
-{
-    item.before.stream.id % 2 == 0
 }
 
 /// An interrupted field block (RFC 9113, 5.5, 6.2 and 6.10).
@@ -187,45 +151,64 @@ fn interrupted_case(unknown: bool, continued: bool) -> Option<SpecialCase>
 }
 
 /// Pseudo-fields that lack (RFC 9113, 8.3.1 and 8.5).
-fn lacking_case(connect: bool, empty_path: bool, other_scheme: bool) -> Option<SpecialCase>
-    ensures { result ≡ lacking_case connect empty_path other_scheme }
+fn lacking_case(fields: FieldFacts) -> Option<SpecialCase>
+    ensures { result ≡ lacking_case fields }
 {
-    if connect {
+    let empty_path = fields.method && fields.scheme && fields.empty_path;
+    if fields.connect {
         Some(SpecialCase::ConnectPseudoFields)
-    } else if other_scheme {
+    } else if fields.other_scheme {
         case_if(empty_path, SpecialCase::EmptyPathOfOtherScheme)
     } else {
         case_if(empty_path, SpecialCase::EmptyPath)
     }
 }
 
-/// A content-length that is not taken (RFC 9113, 8.1.1).
-fn length_case(differ: bool, long: bool) -> Option<SpecialCase>
-    ensures { result ≡ length_case differ long }
+/// A content-length that is not taken (RFC 9113, 8.1.1): where all are short numbers, two differ.
+fn length_case(fields: FieldFacts) -> Option<SpecialCase>
+    ensures { result ≡ length_case fields }
 {
-    if differ {
+    if fields.short_lengths {
         Some(SpecialCase::ContentLengthsDiffer)
     } else {
-        case_if(long, SpecialCase::ContentLengthTooLong)
+        case_if(fields.numeric_lengths, SpecialCase::ContentLengthTooLong)
     }
 }
 
-/// What an item shows of whether its rule is a special case.
-pub fn seen_of(item: &Explained<'_>) -> Seen
-    ensures { result ≡ seen_of item.now }
+/// What an item shows of whether its rule is a special case: the head of its frame, if it is one, its stream before it, and
+/// whether the client had acknowledged the server's SETTINGS.
+pub fn seen_by(head: Option<Head>, stream: &Stream, acked: bool) -> Seen
+    ensures { result ≡ seen_by head stream.now acked }
 {
     Seen {
-        unknown_type: is_unknown_frame(item),
-        even_stream: is_even(item),
-        half_local: is_half_local(item.before.stream.kind),
-        on_idle: may_be_on_idle(item) && is_idle(item.before.stream.kind),
-        closed_to_client: is_closed_to_client(item.before.stream.kind),
-        acked: item.before.counts.acked,
+        unknown_type: is_unknown_frame(head),
+        even_stream: stream.id % 2 == 0,
+        half_local: is_half_local(stream.kind),
+        on_idle: may_be_on_idle(head) && is_idle(stream.kind),
+        closed_to_client: is_closed_to_client(stream.kind),
+        acked,
     }
+}
+
+/// The same of an item that was taken.
+fn seen_of(item: &Explained<'_>) -> Seen
+    ensures { result ≡ seen_of item.now }
+{
+    seen_by(item.head(), &item.before.stream, item.before.counts.acked)
+}
+
+/// The special case of an integer that is too long, by the octets of its block from an instruction on.
+pub fn case_of_integer(octets: &[u8]) -> Option<SpecialCase>
+    ensures { (s : Seen) (f : CaseFacts) → f.beyond_tables ≡ is_beyond_tables octets.now → result ≡ case_of_cause IntegerTooLong s f }
+{
+    case_if(
+        is_beyond_tables(octets),
+        SpecialCase::IntegerBeyondAllTables,
+    )
 }
 
 /// The special case of a cause, if it is one.
-fn case_of_cause(cause: Cause, seen: Seen, facts: CaseFacts) -> Option<SpecialCase>
+pub fn case_of_cause(cause: Cause, seen: Seen, facts: CaseFacts) -> Option<SpecialCase>
     ensures { result ≡ case_of_cause cause seen facts }
 {
     match cause {
@@ -236,15 +219,13 @@ fn case_of_cause(cause: Cause, seen: Seen, facts: CaseFacts) -> Option<SpecialCa
         Cause::StreamWindowOverflow => case_if(seen.half_local, SpecialCase::UnfollowedWindow),
         Cause::TooManyStreams => case_if(!seen.acked, SpecialCase::LimitNotAcknowledged),
         Cause::BadName | Cause::TrailersBadName => {
-            case_if(facts.empty_name, SpecialCase::EmptyName)
+            case_if(facts.fields.empty_names, SpecialCase::EmptyName)
         }
-        Cause::LackingPseudoField => {
-            lacking_case(facts.connect, facts.empty_path, facts.other_scheme)
-        }
+        Cause::LackingPseudoField => lacking_case(facts.fields),
         Cause::BadTe | Cause::TrailersBadTe => {
-            case_if(facts.trailers_alone, SpecialCase::TeOfTrailersAlone)
+            case_if(facts.fields.trailers_alone, SpecialCase::TeOfTrailersAlone)
         }
-        Cause::BadContentLength => length_case(facts.lengths_differ, facts.length_is_long),
+        Cause::BadContentLength => length_case(facts.fields),
         Cause::FirstNotSettings => case_if(seen.unknown_type, SpecialCase::FirstUnknownType),
         Cause::PriorityLength => case_if(seen.on_idle, SpecialCase::PriorityLengthOnIdle),
         Cause::StreamFrameTooLarge => case_if(seen.on_idle, SpecialCase::FrameTooLargeOnIdle),
@@ -262,33 +243,55 @@ fn case_of_cause(cause: Cause, seen: Seen, facts: CaseFacts) -> Option<SpecialCa
     }
 }
 
-/// The special case of a reason to ignore a frame, if it is one.
-fn special_reason(reason: Ignored, facts: CaseFacts) -> Option<SpecialCase>
-    ensures { result ≡ special_reason reason facts }
+/// The special case of a reason to ignore a frame, if it is one: where the client had ended its side of the stream before it
+/// was reset.
+pub fn special_reason(reason: Ignored, after_end: bool) -> Option<SpecialCase>
+    ensures { result ≡ special_reason reason after_end }
 {
     match reason {
-        Ignored::DataOnReset => case_if(facts.after_end, SpecialCase::DataAfterEnd),
-        Ignored::TableOnlyBlock => case_if(facts.after_end, SpecialCase::BlockAfterEnd),
-        Ignored::WindowUpdateOnPeerReset => {
-            case_if(facts.after_end, SpecialCase::WindowUpdateAfterEnd)
-        }
+        Ignored::DataOnReset => case_if(after_end, SpecialCase::DataAfterEnd),
+        Ignored::TableOnlyBlock => case_if(after_end, SpecialCase::BlockAfterEnd),
+        Ignored::WindowUpdateOnPeerReset => case_if(after_end, SpecialCase::WindowUpdateAfterEnd),
         _ => None,
     }
 }
 
-/// The special case of an error with this cause, else of a frame that is ignored for this reason, if it is one.
-pub fn case_by(
-    cause: Option<Cause>,
-    ignored: Option<Ignored>,
-    seen: Seen,
-    facts: CaseFacts,
-) -> Option<SpecialCase>
-    ensures { result ≡ case_by cause ignored seen facts }
+/// Whether an error with this cause can be a special case.
+pub fn has_cases(cause: Cause) -> bool
+    ensures is { result ≡ has_cases cause }
+    ensures none { result ≡ false → (s : Seen) (f : CaseFacts) → case_of_cause cause s f ≡ None }
 {
-    match (cause, ignored) {
-        (Some(cause), _) => case_of_cause(cause, seen, facts),
-        (None, Some(reason)) => special_reason(reason, facts),
-        (None, None) => None,
+    match cause {
+        Cause::BlockInterrupted
+        | Cause::DataOnIdle
+        | Cause::RstStreamOnIdle
+        | Cause::WindowUpdateOnIdle
+        | Cause::StreamWindowOverflow
+        | Cause::TooManyStreams
+        | Cause::BadName
+        | Cause::TrailersBadName
+        | Cause::LackingPseudoField
+        | Cause::BadTe
+        | Cause::TrailersBadTe
+        | Cause::BadContentLength
+        | Cause::FirstNotSettings
+        | Cause::PriorityLength
+        | Cause::StreamFrameTooLarge
+        | Cause::InitialWindowSizeValue
+        | Cause::ContinuationOutsideBlock
+        | Cause::IntegerTooLong => true,
+        _ => false,
+    }
+}
+
+/// Whether a frame that is ignored for this reason can be a special case.
+pub fn has_reason_cases(reason: Ignored) -> bool
+    ensures is { result ≡ has_reason_cases reason }
+    ensures none { result ≡ false → (after_end : Bool) → special_reason reason after_end ≡ None }
+{
+    match reason {
+        Ignored::DataOnReset | Ignored::TableOnlyBlock | Ignored::WindowUpdateOnPeerReset => true,
+        _ => false,
     }
 }
 
@@ -307,7 +310,7 @@ pub fn case_of_reason(item: &Explained<'_>, facts: CaseFacts) -> Option<SpecialC
     ensures { result ≡ case_of_reason item.now facts }
 {
     match item.ignored {
-        Some(reason) => special_reason(reason, facts),
+        Some(reason) => special_reason(reason, facts.after_end),
         None => None,
     }
 }

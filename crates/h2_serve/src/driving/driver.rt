@@ -1,20 +1,52 @@
 //! A connection driven over a wire: what is read is fed to it, and the frames that it sends are written before the next
 //! read. Definitions: `specs/Drives.antt`.
 
-ghost use Rattle.std.specs.Prelude.{◌≡◌, ◌<◌, ◌≤◌, [], take, length, false, option_map};
+ghost use Rattle.std.specs.Prelude.{◌≡◌, ◌<◌, ◌≤◌, [], take, length, false, option_map, OnOk, OnErr, is_err};
 ghost use Rattle.h2_spec.specs.Causes.Errors.{code_number};
 ghost use Rattle.h2_spec.specs.State.{ended_code};
+ghost use Rattle.h2_conn.specs.Runs.{Fed, Halts};
 ghost use Rattle.h2_serve.specs.Drives.{Drives, EndsAs, HasNoItem, HasRead, TakesTurn, TurnEndsAs, drive_state, is_out_of_memory, is_wire_fault};
 
 use crate::driving::drive_fault::{DriveEnd, DriveFault};
 use crate::driving::driven::Driven;
 use crate::driving::outgoing::Pending;
 use crate::driving::wire::Wire;
-use h2_spec::octets::octets_up_to;
+use h2_spec::octets::{octets_from, octets_up_to};
+use std::alloc::AllocError;
 
 /// The most octets of one read: two windows of 65,535 octets, so that a client is seen that sends DATA before it may (RFC
 /// 9113, 6.9).
 const READ_SIZE: usize = 131_072;
+
+/// Takes the octets of a read, portion by portion; what is sent for them is appended to `out`.
+///
+/// `AllocError` where memory is refused: the items before it are taken whole, `out` has gained what is sent for them,
+/// and from then on nothing is taken.
+fn take_read<O: Pending, D: Driven<O>>(
+    driven: &mut D,
+    octets: &[u8],
+    out: &mut O,
+) -> Result<(), AllocError>
+    requires ready { D.is_ready driven.old }
+    requires no_item { HasNoItem (D.connection driven.old) }
+    requires going { (D.connection driven.old).failed ≡ false }
+    ensures ready { D.is_ready driven.new }
+    ensures ok { OnOk result (Fed (D.connection driven.old) octets.now (O.pending out.old) (D.connection driven.new) (O.pending out.new)) }
+    ensures no_memory { OnErr result (Halts (D.connection driven.old) octets.now (O.pending out.old) (D.connection driven.new) (O.pending out.new)) }
+    ensures passes { D.passes (is_err result) driven.old octets.now driven.new }
+{
+    driven.begin_read(octets);
+    let mut at = 0usize;
+    while at < octets.len() {
+        let rest = octets_from(octets, at);
+        let count = driven.portion(rest);
+        match driven.take_octets(octets_up_to(rest, count), out) {
+            Ok(()) => at += count,
+            Err(fault) => return Err(fault),
+        }
+    }
+    Ok(())
+}
 
 /// Reads once, feeds what was read to the connection, and writes the frames that it sends for that. Returns how many
 /// octets were read; 0 is the end of the input. What was in `buffer` does not matter.
@@ -48,7 +80,7 @@ fn take_turn<O: Pending, D: Driven<O>, S: Wire>(
     if count == 0 {
         return Ok(0);
     }
-    match driven.take_octets(octets_up_to(buffer, count), out) {
+    match take_read(driven, octets_up_to(buffer, count), out) {
         Ok(()) => {}
         Err(_) => return Err(DriveFault::NoMemory),
     }

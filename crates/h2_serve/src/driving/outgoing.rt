@@ -5,9 +5,11 @@ ghost use Rattle.std.specs.Prelude.{◌≡◌, ℕ, ◌<◌, ◌≤◌, List, []
 ghost use Rattle.h2_serve.specs.Wires.{Writes};
 
 use crate::driving::wire::{Wire, WireFault};
-use h2_frame::Outbox;
+use h2_explain::ItemOutbox;
+use h2_frame::{Outbox, Outgoing};
 use h2_spec::octets::octets_from;
 use std::alloc::Allocator;
+use std::mem;
 
 /// Octets that are to be sent, and can be written to a wire. A contract sees them in order.
 pub trait Pending {
@@ -45,6 +47,19 @@ impl<A: Allocator> Pending for Outbox<'_, A> {
     #[inline(always)]
     fn write_all<S: Wire>(&mut self, wire: &mut S) -> Result<(), WireFault> {
         write_outbox(wire, self)
+    }
+}
+
+/// As an outbox.
+impl<A: Allocator + Copy> Pending for ItemOutbox<'_, A> {
+    ghost pending = { λ o. o };
+
+    fn write_all<S: Wire>(&mut self, wire: &mut S) -> Result<(), WireFault> {
+        let alloc = *self.memory();
+        let mut outbox = mem::replace(self, ItemOutbox::new(alloc)).into_outbox();
+        let written = write_outbox(wire, &mut outbox);
+        *self = ItemOutbox::of(outbox);
+        written
     }
 }
 

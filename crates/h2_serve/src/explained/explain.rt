@@ -22,7 +22,7 @@ use crate::port::{Listener, Port};
 use crate::server::{TURNS, listen, open, print};
 use crate::{DriveEnd, DriveFault, Wire, drive_with};
 use h2_conn::Conn;
-use h2_explain::{ClientVerdict, Form, RunExplainer, Summary};
+use h2_explain::{ClientVerdict, Form, ItemOutbox, RunExplainer, Summary};
 use h2_io::Output;
 use h2_request_book::book::Book;
 use h2_spec::connection::Config;
@@ -43,12 +43,12 @@ pub struct ClientEnd {
 /// # Errors
 ///
 /// `NoMemory` where memory is refused at the start: nothing was read, written or printed.
-pub fn explain_over<O: Output, K: Keeper, S: Wire>(
+pub fn explain_over<'b, O: Output, K: Keeper, S: Wire>(
     alloc: Global,
     form: Form,
-    conn: Conn<'_, Global>,
+    conn: Conn<'b, Global>,
     number: u32,
-    out: &mut Vec<u8>,
+    out: &mut ItemOutbox<'b, Global>,
     wire: &mut S,
     turns: u32,
     keeper: &mut K,
@@ -57,8 +57,8 @@ pub fn explain_over<O: Output, K: Keeper, S: Wire>(
     requires new { conn ≡ going conn.state [] }
     requires open { S.has_failed wire.old ≡ false }
     requires writer { O.has_failed output.old ≡ false }
-    ensures drives { IfOk result (λ shown. IsDriven turns conn.entry.state out.old.items
-        (seen (S.octets_read wire.old) (S.octets_written wire.old) (S.read_lengths wire.old) (S.has_failed wire.old)) out.new.items
+    ensures drives { IfOk result (λ shown. IsDriven turns conn.entry.state out.old
+        (seen (S.octets_read wire.old) (S.octets_written wire.old) (S.read_lengths wire.old) (S.has_failed wire.old)) out.new
         (seen (S.octets_read wire.new) (S.octets_written wire.new) (S.read_lengths wire.new) (S.has_failed wire.new)) shown.end) }
     ensures shows { IfOk result (λ shown. IfOk shown.conclusion (λ x.
         HasRead (Shows form number x conn.entry.state (O.written output.old) (O.written output.new))
@@ -149,6 +149,17 @@ fn print_end<O: Output>(
     }
 }
 
+/// Whether all that was sent for the last read was written.
+fn is_written(shown: &Result<ClientEnd, ServeFault>) -> bool {
+    match shown {
+        Ok(shown) => !matches!(
+            shown.end,
+            Err(DriveFault::NoMemory) | Err(DriveFault::Write)
+        ),
+        Err(_) => false,
+    }
+}
+
 /// Accepts a client, prints that its connection is open, drives it to its end, explains it, closes its wire, and prints
 /// its line.
 fn explain_next<L: Listener, O: Output, K: Keeper>(
@@ -179,16 +190,16 @@ fn explain_next<L: Listener, O: Output, K: Keeper>(
         Ok(()) => {}
         Err(fault) => return Err(fault),
     }
-    let mut out = Vec::new(alloc);
+    let mut out = ItemOutbox::new(alloc);
     let conn = match open(book, config, &mut out) {
         Ok(conn) => conn,
         Err(fault) => return Err(fault),
     };
-    keeper.begin(number, out.as_slice());
+    keeper.begin(number, out.since(0).unwrap_or_default());
     let shown = explain_over(
         alloc, form, conn, number, &mut out, &mut wire, TURNS, keeper, output,
     );
-    keeper.end();
+    keeper.end(is_written(&shown));
     match shown {
         Ok(shown) => {
             listener.close(wire);

@@ -8,14 +8,14 @@ ghost use Rattle.h2_serve.specs.Numbered.{Grows, PrintsPrefixed, prefixed};
 ghost use Rattle.h2_serve.specs.Serves.{Grew};
 ghost use Rattle.h2_serve.specs.ExplainedConns.{Concludes, GoesOn, IsWatched, whole};
 ghost use Rattle.std.proofs.Common.{refl, ◌∙◌};
-ghost use Rattle.h2_serve.specs.Passes.{goes-more, goes-none, grows-more, grows-none, prints-none, prints-then};
+ghost use Rattle.h2_serve.specs.Passes.{goes-cut, goes-more, goes-none, grows-more, grows-none, prints-none, prints-then};
 
 use crate::Driven;
 use crate::explained::keeper::Keeper;
 use crate::explained::numbered::Printer;
 use crate::fault::ServeFault;
 use h2_conn::Conn;
-use h2_explain::{RunExplainer, Summary};
+use h2_explain::{ItemOutbox, RunExplainer, Summary};
 use h2_io::{Gathered, Output};
 use std::alloc::{AllocError, Global};
 
@@ -45,7 +45,7 @@ pub(crate) struct ExplainedConn<'b, 'o, O, K> {
     pub(crate) failed: bool,
 }
 
-impl<O: Output, K: Keeper> Driven<Vec<u8>> for ExplainedConn<'_, '_, O, K> {
+impl<'b, O: Output, K: Keeper> Driven<ItemOutbox<'b, Global>> for ExplainedConn<'b, '_, O, K> {
     ghost connection = { λ w. whole w.failed w.conn.state w.explanation.held.items };
 
     ghost is_ready = { λ w. IsWatched w.failed w.conn w.explanation w.came
@@ -60,8 +60,20 @@ impl<O: Output, K: Keeper> Driven<Vec<u8>> for ExplainedConn<'_, '_, O, K> {
         octets x.conn x.explanation
         × Grows w.printer.fault x.printer.fault (O.written w.printer.output.now) (O.written x.printer.output.now) };
 
-    fn take_octets(&mut self, piece: &[u8], out: &mut Vec<u8>) -> Result<(), AllocError> {
-        self.keeper.keep_read(piece);
+    fn begin_read(&mut self, octets: &[u8]) {
+        self.keeper.keep_read(octets);
+        self.explanation.begin_read(&self.conn);
+    }
+
+    fn portion(&self, octets: &[u8]) -> usize {
+        self.explanation.portion(&self.conn, octets)
+    }
+
+    fn take_octets(
+        &mut self,
+        piece: &[u8],
+        out: &mut ItemOutbox<'b, Global>,
+    ) -> Result<(), AllocError> {
         let came = self.came.saturating_add(piece.len());
         if came >= MOST {
             self.failed = true;
@@ -114,6 +126,10 @@ impl<O: Output, K: Keeper> Driven<Vec<u8>> for ExplainedConn<'_, '_, O, K> {
           goes-more refused _ _ _ _ _ _ _ _ _ a b (λ s t p q. prints-then _ _ _ _ _ _ _ _ _ _ _ _ _ s t one.1 one.2 p q) one.4 two.4,
           grows-more _ _ _ _ _ _ one.5 two.5,
         ) };
+
+    ghost passes_cut = { λ w x a b first going.
+        let one = first going in
+        (one.0, one.1, one.2, one.3, goes-cut _ _ _ _ _ a b one.4, one.5) };
 }
 
 impl<'b, 'o, O: Output, K: Keeper> ExplainedConn<'b, 'o, O, K> {

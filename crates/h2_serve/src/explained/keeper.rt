@@ -11,8 +11,8 @@ pub trait Keeper: Recorder {
     /// A read has got these octets.
     fn keep_read(&mut self, octets: &[u8]);
 
-    /// The connection has ended.
-    fn end(&mut self);
+    /// The connection has ended. Where not all `is_written`, some of what was sent for the last read was not.
+    fn end(&mut self, is_written: bool);
 }
 
 /// Keeps nothing.
@@ -28,5 +28,5 @@ impl Keeper for NoKeeper {
 
     fn keep_read(&mut self, _octets: &[u8]) {}
 
-    fn end(&mut self) {}
+    fn end(&mut self, _is_written: bool) {}
 }

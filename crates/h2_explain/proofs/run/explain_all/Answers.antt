@@ -1,10 +1,11 @@
-use Rattle.std.proofs.Common.{List, ℕ, [], is_err, subst, sym}
+use Rattle.std.proofs.Common.{List, ℕ, [], ◌++◌, is_err, subst, sym, true}
+use Rattle.std.proofs.lemmas.List.{append-nil}
 use Rattle.std.proofs.lemmas.Result.{IfOk-weaker}
 use Rattle.h2_conn.specs.Connection.{Connection}
 use Rattle.h2_explain.specs.Explaining.{IsBeginning, IsExplaining}
 use Rattle.h2_explain.specs.Explains.{Gains, IsExplanation}
 use Rattle.h2_explain.specs.declared.run.Form.{Form}
-use Rattle.h2_explain.proofs.Steps.{all-run, gains-then, new-begins, new-explains}
+use Rattle.h2_explain.proofs.Steps.{all-run, gains-map, gains-then, new-begins, new-explains}
 use Rattle.h2_explain.proofs.run.explain_all.Goals as goal
 
 pub returns-in-Ok-clause-summary : goal.returns-in-Ok-clause-summary
@@ -36,5 +37,9 @@ pub returns-clause-gains : goal.returns-clause-gains
 returns-clause-gains g c = λ well.
     let s = c.args.conn.now.state in
     let e = c.args.explanation.now in
+    let b = c.args.octets.now in
     let start = subst (λ (d : Connection). IsExplaining s [] d e) (sym c.requires.new) (new-explains e.form s e c.requires.fresh) in
-    c.in-Err.ensures.cut well s [] [] start (new-begins e.form s e c.requires.fresh)
+    gains-map (λ (more : List ℕ). (later : List ℕ) → IsExplanation e.form true s (b ++ later) more) (λ (text : List ℕ). IsExplanation e.form true s b text)
+    (λ t h. subst (λ (o : List ℕ). IsExplanation e.form true s o t) (append-nil b) (h []))
+    (g.O.Output.written c.args.output.now) (g.O.Output.written c.take_piece.new.output)
+    (c.in-Err.ensures.cut well s [] [] start (new-begins e.form s e c.requires.fresh))

@@ -6,13 +6,13 @@ use Rattle.h2_explain.specs.Explaining.{IsCutShort}
 use Rattle.h2_explain.proofs.run_explainer.RunExplainer.complete.Goals as goal
 
 pub returns-in-Err-clause-halted : goal.returns-in-Err-clause-halted
-returns-in-Err-clause-halted g c = λ e. halts-at-once c.args.conn.now.state c.args.self.now.held.items c.args.piece.now c.args.out.now.items
+returns-in-Err-clause-halted g c = λ e. halts-at-once c.args.conn.now.state c.args.self.now.held.items c.args.piece.now c.args.out.now
 
 pub returns-in-Err-take_items-clause-halted : goal.returns-in-Err-take_items-clause-halted
 returns-in-Err-take_items-clause-halted g c = λ e.
     let items = rw c.replace-octets.ensures.value at c.in-Ok.ensures.items in
     let all : c.as_slice.result.now ≡ c.args.self.now.held.items ++ c.args.piece.now = c.as_slice.ensures.value ∙ items in
-    halted-halts c.args.conn.now.state c.take_items.new.conn.state c.args.self.now.held.items c.args.piece.now c.args.out.now.items c.take_items.new.out.items (rw all at c.in-Err-take_items.ensures.stopped e)
+    halted-halts c.args.conn.now.state c.take_items.new.conn.state c.args.self.now.held.items c.args.piece.now c.args.out.now c.take_items.new.out (rw all at c.in-Err-take_items.ensures.stopped e)
 
 pub returns-in-Err-take_items-clause-cut : goal.returns-in-Err-take_items-clause-cut
 returns-in-Err-take_items-clause-cut g c = λ well.
@@ -43,7 +43,7 @@ returns-then-is_ended-clause-fed g c = λ keeps.
     let all : c.as_slice.result.now ≡ b = c.as_slice.ensures.value ∙ items in
     let over : is_ended c.take_items.new.conn.state.core.phase ≡ true = rw c.counts.ensures at (sym c.is_ended.ensures ∙ c.if-is_ended.true) in
     let empty : c.take_items.new.self.held.items ≡ [] = rw (c.in-Ok-take_items.ensures.held.0, c.replace-octets.ensures.after) c.new.ensures.items in
-    fed-all c.args.conn.now.state c.take_items.new.conn.state c.args.self.now.held.items c.args.piece.now c.args.out.now.items c.take_items.new.out.items rest c.take_items.new.self.held.items
+    fed-all c.args.conn.now.state c.take_items.new.conn.state c.args.self.now.held.items c.args.piece.now c.args.out.now c.take_items.new.out rest c.take_items.new.self.held.items
     (rw all at c.in-Ok-take_items.ensures.sent keeps) (empty ∙ sym (left-ended c.take_items.new.conn.state.core.phase rest over))
 
 pub returns-else-is_ended-clause-ok : goal.returns-else-is_ended-clause-ok
@@ -68,7 +68,7 @@ returns-else-is_ended-clause-fed g c = λ keeps.
     let all : c.as_slice.result.now ≡ b = c.as_slice.ensures.value ∙ items in
     let left : c.without_front-rest.result.items ≡ rest = c.without_front-rest.ensures ∙ ap (λ (l : List ℕ). drop c.in-Ok-take_items.used l) items in
     let goes : is_ended c.take_items.new.conn.state.core.phase ≡ false = rw c.counts.ensures at (sym c.is_ended.ensures ∙ c.if-is_ended.false) in
-    fed-all c.args.conn.now.state c.take_items.new.conn.state c.args.self.now.held.items c.args.piece.now c.args.out.now.items c.take_items.new.out.items rest c.without_front-rest.result.items
+    fed-all c.args.conn.now.state c.take_items.new.conn.state c.args.self.now.held.items c.args.piece.now c.args.out.now c.take_items.new.out rest c.without_front-rest.result.items
     (rw all at c.in-Ok-take_items.ensures.sent keeps) (left ∙ sym (left-going c.take_items.new.conn.state.core.phase rest goes))
 
 pub returns-in-Err-clause-cut : goal.returns-in-Err-clause-cut

@@ -7,7 +7,7 @@ use Rattle.h2_explain.proofs.run_explainer.RunExplainer.take_in_hand.Goals as go
 
 pub returns-in-Err-clause-halted : goal.returns-in-Err-clause-halted
 returns-in-Err-clause-halted g c = λ keeps.
-    rw c.requires.empty (halted-halts c.args.conn.now.state c.take_items.new.conn.state [] c.args.piece.now c.args.out.now.items c.take_items.new.out.items (c.in-Err.ensures.stopped keeps))
+    rw c.requires.empty (halted-halts c.args.conn.now.state c.take_items.new.conn.state [] c.args.piece.now c.args.out.now c.take_items.new.out (c.in-Err.ensures.stopped keeps))
 
 pub returns-in-Err-clause-cut : goal.returns-in-Err-clause-cut
 returns-in-Err-clause-cut g c = λ well. rw c.requires.empty (c.in-Err.ensures.cut well)
@@ -17,7 +17,7 @@ returns-then-is_ended-clause-fed g c = λ keeps.
     let rest : List ℕ = drop c.in-Ok.used c.args.piece.now in
     let over : is_ended c.take_items.new.conn.state.core.phase ≡ true = rw c.counts.ensures at (sym c.is_ended.ensures ∙ c.if-is_ended.true) in
     let empty : c.take_items.new.self.held.items ≡ [] = rw c.in-Ok.ensures.held.0 c.requires.empty in
-    fed-all c.args.conn.now.state c.take_items.new.conn.state c.args.self.now.held.items c.args.piece.now c.args.out.now.items c.take_items.new.out.items rest c.take_items.new.self.held.items
+    fed-all c.args.conn.now.state c.take_items.new.conn.state c.args.self.now.held.items c.args.piece.now c.args.out.now c.take_items.new.out rest c.take_items.new.self.held.items
     (rw c.requires.empty (c.in-Ok.ensures.sent keeps)) (empty ∙ sym (left-ended c.take_items.new.conn.state.core.phase rest over))
 
 pub returns-in-Ok-extend_from_slice-clause-fed : goal.returns-in-Ok-extend_from_slice-clause-fed
@@ -26,14 +26,14 @@ returns-in-Ok-extend_from_slice-clause-fed g c = λ keeps.
     let goes : is_ended c.take_items.new.conn.state.core.phase ≡ false = rw c.counts.ensures at (sym c.is_ended.ensures ∙ c.if-is_ended.false) in
     let empty : c.take_items.new.self.held.items ≡ [] = rw c.in-Ok.ensures.held.0 c.requires.empty in
     let left : c.take_items.new.self.held.items ++ c.octets_from-rest.result.now ≡ rest = rw empty c.octets_from-rest.ensures in
-    fed-all c.args.conn.now.state c.take_items.new.conn.state c.args.self.now.held.items c.args.piece.now c.args.out.now.items c.take_items.new.out.items rest c.extend_from_slice.new.self.items
+    fed-all c.args.conn.now.state c.take_items.new.conn.state c.args.self.now.held.items c.args.piece.now c.args.out.now c.take_items.new.out rest c.extend_from_slice.new.self.items
     (rw c.requires.empty (c.in-Ok.ensures.sent keeps)) (c.in-Ok-extend_from_slice.ensures.items ∙ left ∙ sym (left-going c.take_items.new.conn.state.core.phase rest goes))
 
 pub returns-in-Err-extend_from_slice-clause-halted : goal.returns-in-Err-extend_from_slice-clause-halted
 returns-in-Err-extend_from_slice-clause-halted g c = λ keeps.
     let ran = c.in-Ok.ensures.sent keeps in
-    rw c.requires.empty (halted-halts c.args.conn.now.state c.take_items.new.conn.state [] c.args.piece.now c.args.out.now.items c.take_items.new.out.items
-    (ran-halted c.args.conn.now.state c.take_items.new.conn.state c.args.piece.now c.args.out.now.items (drop c.in-Ok.used c.args.piece.now) c.take_items.new.out.items ran.0 ran.1))
+    rw c.requires.empty (halted-halts c.args.conn.now.state c.take_items.new.conn.state [] c.args.piece.now c.args.out.now c.take_items.new.out
+    (ran-halted c.args.conn.now.state c.take_items.new.conn.state c.args.piece.now c.args.out.now (drop c.in-Ok.used c.args.piece.now) c.take_items.new.out ran.0 ran.1))
 
 pub returns-in-Err-extend_from_slice-clause-cut : goal.returns-in-Err-extend_from_slice-clause-cut
 returns-in-Err-extend_from_slice-clause-cut g c = λ well.

@@ -1,4 +1,4 @@
-use Rattle.std.proofs.Common.{◌≡◌, ◌∙◌, ◌+◌, ℕ, List, [], Result, ap, ap₂, arith, drop, inl, inr, refl, subst}
+use Rattle.std.proofs.Common.{◌≡◌, ◌∙◌, ◌+◌, ℕ, List, [], Result, ap, arith, drop, inl, inr, refl, subst}
 use Rattle.h2_spec.specs.State.{State}
 use Rattle.h2_conn.specs.Connection.{Connection, going}
 use Rattle.h2_explain.proofs.Steps.{gains-none}
@@ -19,16 +19,16 @@ pub returns-clause-ok : goal.returns-clause-ok
 returns-clause-ok g c =
     let e = c.args.self.now in
     let k = c.in-Ok-Some.taken in
-    let x : Explained = record { number = e.items + 1; offset = e.offset; octets = c.first_octets-own.result; ahead = c.args.octets; used = k.used; what = k.item; part = c.part_in.result; part_is = c.item-1.given.0; cause = k.cause; ignored = k.ignored; sent = c.octets_from.result; before = c.moment_at-before.result; after = c.moment_at.result } in
+    let x : Explained = record { number = e.items + 1; offset = e.offset; octets = c.first_octets-own.result; ahead = c.args.octets; used = k.used; what = k.item; part = c.part_in.result; part_is = c.item-1.given.0; cause = k.cause; ignored = k.ignored; sent = c.in-Some.sent; before = c.moment_at-before.result; after = c.moment_at.result } in
     let first = rw c.in-Ok-Some.field-0-is at c.in-Ok-Some.ensures.ok in
     let taken = rw c.in-Ok-Some.field-0-is at c.in-Ok-Some.ensures.report in
-    let sent = c.octets_from.ensures ∙ ap₂ (λ (n : ℕ) (l : List ℕ). drop n l) c.start_of-start.ensures.end c.as_slice.ensures.value in
+    let sent = c.in-Some.ensures ∙ ap (λ (n : ℕ). drop n c.take_and_report.new.out) c.start_of-start.ensures.end in
     let well = c.write_item.ensures.flag ∙ ap (λ (r : Result (Unit {0}) ExplainFault). not_written r) c.in-Ok.is in
     let before = c.moment_at-before.ensures ∙ ap (moment_of c.args.conn.now.state) c.stream_of_next-stream.ensures in
     let after = c.moment_at.ensures ∙ ap (moment_of c.take_and_report.new.self.state) c.stream_of_next-stream.ensures in
     record {
       item = x;
-      explains = item-explained c.args.conn.now.state c.args.octets.now c.start_of-start.new.out.items c.take_and_report.new.out.items (e.items + 1) e.offset c.take_and_report.new.self x c.take_and_report.ensures.ready first taken
+      explains = item-explained c.args.conn.now.state c.args.octets.now c.start_of-start.new.out c.take_and_report.new.out (e.items + 1) e.offset c.take_and_report.new.self x c.take_and_report.ensures.ready first taken
           refl refl c.first_octets-own.ensures refl sent before after;
       used_is = refl;
       written = subst (λ (r : Result (Unit {0}) ExplainFault). Gains (IsWritten (λ (t : List ℕ). IsItemText e.form x t) r) (g.O.Output.written c.args.output.now) (g.O.Output.written c.write_item.new.output)) c.in-Ok.is (c.write_item.ensures.gains well);

@@ -15,7 +15,7 @@ loop-used-init g c = record {
   on = on-start c.args.self.now c.args.conn.now.state c.args.octets.now _ c.requires.few.0;
   held = refl;
   late = refl;
-  leads = λ e. (0, leads-refl c.args.conn.now.state c.args.octets.now c.args.out.now.items);
+  leads = λ e. (0, leads-refl c.args.conn.now.state c.args.octets.now c.args.out.now);
 }
 
 pub loop-used-preserved : goal.loop-used-preserved
@@ -62,7 +62,7 @@ pub returns-in-Err-clause-stopped : goal.returns-in-Err-clause-stopped
 returns-in-Err-clause-stopped g c = λ e.
     let one = c.loop-used.invariant.leads e in
     let stops = rw c.octets_from-rest.ensures at c.in-Err.ensures.stopped e in
-    leads-stopped c.args.conn.now.state c.loop-used.conn.state c.take_item.new.conn.state one.0 c.args.octets.now (drop c.loop-used.at c.args.octets.now) c.args.out.now.items c.loop-used.out.items c.take_item.new.out.items one.1 stops
+    leads-stopped c.args.conn.now.state c.loop-used.conn.state c.take_item.new.conn.state one.0 c.args.octets.now (drop c.loop-used.at c.args.octets.now) c.args.out.now c.loop-used.out c.take_item.new.out one.1 stops
 
 pub returns-in-Err-clause-cut : goal.returns-in-Err-clause-cut
 returns-in-Err-clause-cut g c = λ well.

@@ -13,7 +13,7 @@ invariant-loop-used g l = record {
   on : ExplainsOn l.fn.self l.fn.conn.state l.octets (g.O.Output.written l.fn.output) l.self l.conn.state (drop l.at l.octets) (g.O.Output.written l.output);
   held : l.self.held ≡ l.fn.self.held;
   late : l.self.late ≡ l.fn.self.late;
-  leads : l.keeps ≡ true → (n : ℕ) × Leads l.fn.conn.state l.octets l.fn.out.items n l.conn.state (drop l.at l.octets) l.out.items;
+  leads : l.keeps ≡ true → (n : ℕ) × Leads l.fn.conn.state l.octets l.fn.out n l.conn.state (drop l.at l.octets) l.out;
 }
 
 abbrev pub decreases-loop-used : goal.decreases-loop-used

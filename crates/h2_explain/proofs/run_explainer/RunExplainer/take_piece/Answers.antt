@@ -17,7 +17,7 @@ returns-then-is_ended-clause-gains g c =
 pub returns-then-is_ended-clause-fed : goal.returns-then-is_ended-clause-fed
 returns-then-is_ended-clause-fed g c = λ keeps.
     let over : is_ended c.args.conn.now.state.core.phase ≡ true = rw c.counts.ensures at (sym c.is_ended.ensures ∙ c.if-is_ended.true) in
-    rw c.pass_by.ensures.held_is (late-feeds c.args.conn.now.state c.args.self.now.held.items c.args.piece.now c.args.out.now.items over)
+    rw c.pass_by.ensures.held_is (late-feeds c.args.conn.now.state c.args.self.now.held.items c.args.piece.now c.args.out.now over)
 
 pub returns-then-is_ended-clause-room : goal.returns-then-is_ended-clause-room
 returns-then-is_ended-clause-room g c =

@@ -45,7 +45,7 @@ returns-in-Ok-write_all-clause-turn g c =
         read_is = c.in-Ok-write_all.ensures.read.0 ∙ c.in-Ok.ensures.octets ∙ ap (λ xs. grown (g.S.Wire.octets_read c.args.wire.now) xs) (sym c.octets_up_to.ensures);
         written_is = w.known_is ∙ ap (λ known. grown known w.octets) c.in-Ok.ensures.written;
         lengths_is = c.in-Ok-write_all.ensures.read.1 ∙ c.in-Ok.ensures.lengths;
-        feeds = rw w.whole c.in-Ok-take_octets.ensures.ok;
+        feeds = rw w.whole c.in-Ok-take_read.ensures.ok;
       };
       reads = refl;
     }
@@ -54,7 +54,7 @@ pub returns-in-Ok-write_all-clause-passes : goal.returns-in-Ok-write_all-clause-
 returns-in-Ok-write_all-clause-passes g c = (
   c.octets_up_to.result.now,
   c.in-Ok-write_all.ensures.read.0 ∙ c.in-Ok.ensures.octets ∙ ap (λ xs. grown (g.S.Wire.octets_read c.args.wire.now) xs) (sym c.octets_up_to.ensures),
-  c.in-Ok-take_octets.ensures.passes,
+  c.in-Ok-take_read.ensures.passes,
 )
 
 pub returns-in-Err-write_all-clause-turn : goal.returns-in-Err-write_all-clause-turn
@@ -69,7 +69,7 @@ returns-in-Err-write_all-clause-turn g c =
         read_is = c.in-Err-write_all.ensures.read.0 ∙ c.in-Ok.ensures.octets ∙ ap (λ xs. grown (g.S.Wire.octets_read c.args.wire.now) xs) (sym c.octets_up_to.ensures);
         written_is = w.known_is ∙ ap (λ known. grown known w.octets) c.in-Ok.ensures.written;
         lengths_is = c.in-Err-write_all.ensures.read.1 ∙ c.in-Ok.ensures.lengths;
-        feeds = rw w.whole c.in-Ok-take_octets.ensures.ok;
+        feeds = rw w.whole c.in-Ok-take_read.ensures.ok;
       };
       reads = search rules;
     }
@@ -78,14 +78,14 @@ pub returns-in-Err-write_all-clause-passes : goal.returns-in-Err-write_all-claus
 returns-in-Err-write_all-clause-passes g c = (
   c.octets_up_to.result.now,
   c.in-Err-write_all.ensures.read.0 ∙ c.in-Ok.ensures.octets ∙ ap (λ xs. grown (g.S.Wire.octets_read c.args.wire.now) xs) (sym c.octets_up_to.ensures),
-  c.in-Ok-take_octets.ensures.passes,
+  c.in-Ok-take_read.ensures.passes,
 )
 
-pub returns-in-Err-take_octets-clause-passes : goal.returns-in-Err-take_octets-clause-passes
-returns-in-Err-take_octets-clause-passes g c = (
+pub returns-in-Err-take_read-clause-passes : goal.returns-in-Err-take_read-clause-passes
+returns-in-Err-take_read-clause-passes g c = (
   c.octets_up_to.result.now,
   c.in-Ok.ensures.octets ∙ ap (λ xs. grown (g.S.Wire.octets_read c.args.wire.now) xs) (sym c.octets_up_to.ensures),
-  c.in-Err-take_octets.ensures.passes,
+  c.in-Err-take_read.ensures.passes,
 )
 
 pub returns-in-Err-clause-passes : goal.returns-in-Err-clause-passes

@@ -1,0 +1,14 @@
+use Rattle.std.proofs.Common.{◌≡◌, ◌≤◌, ◌-◌}
+use Rattle.h2_debug.specs.Cases.{block_octets}
+use Rattle.h2_debug.specs.Places.{IsAt}
+use Rattle.h2_debug.proofs.places.cases.block_octets.Given as goal
+
+abbrev pub invariant-loop-place : goal.invariant-loop-place
+invariant-loop-place g l = record {
+  at : IsAt l.source l.place;
+  ahead : l.place.position ≤ l.target;
+  octets : l.block.items ≡ block_octets l.source l.place.position;
+}
+
+abbrev pub decreases-loop-place : goal.decreases-loop-place
+decreases-loop-place g l = l.target - l.place.position
