@@ -10,5 +10,5 @@ loop-place-preserved g c =
       at = c.in_ok-head.ensures.at;
       ahead = omega (arith, next, c.position.ensures, c.loop-place-test.true);
       ended = ended-step c.args.source.now c.args.stream c.loop-place.place c.advance_seeing.new.place c.loop-place.ended _ c.loop-place.invariant.at c.in_ok-head.ensures.at next c.loop-place.invariant.ended
-      (ap (λ (b : Bool). c.loop-place.ended || b) left);
+          (ap (λ (b : Bool). c.loop-place.ended || b) left);
     }
