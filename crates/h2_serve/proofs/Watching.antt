@@ -1,5 +1,5 @@
 -- A connection that is explained as its octets come, piece after piece.
-use Rattle.std.proofs.Common.{◌≡◌, ◌∙◌, ℕ, ◌+◌, ◌<◌, ◌^◌, Bool, true, false, List, [], ◌++◌, length, Option, Some, None, Result, Ok, Err, is_err, IfOk, refl, sym, ap, subst, arith}
+use Rattle.std.proofs.Common.{◌≡◌, ◌∙◌, ℕ, ◌+◌, ◌<◌, ◌^◌, Bool, true, false, List, [], ◌++◌, length, Option, Some, None, Result, Ok, Err, is_err, IfOk, append_assoc, refl, sym, ap, subst, arith}
 use Rattle.std.proofs.lemmas.Bool.{false≢true}
 use Rattle.std.proofs.lemmas.List.{append-nil}
 use Rattle.h2_spec.specs.State.{State}
@@ -37,7 +37,7 @@ cut-now form s b octets text c e said later =
 -- the same of these octets alone
 cut-here : {A : Type 0} (form : Form) (s : State) (b text : List ℕ) (c : Connection) (e : RunExplainer A)
     → IsExplained false form s b c e text → IsExplanation form true s b (text ++ [])
-cut-here form s b text c e said = subst (λ (o : List ℕ). IsExplanation form true s o (text ++ [])) (append-nil b ∙ append-nil b) (cut-now form s b [] text c e said [])
+cut-here form s b text c e said = subst (λ (o : List ℕ). IsExplanation form true s o (text ++ [])) (append-nil (b ++ []) ∙ append-nil b) (cut-now form s b [] text c e said [])
 
 -- ---- the start
 
@@ -72,7 +72,7 @@ explained-read form s b text c e e' begins said =
 
 -- a read began, and nothing was said
 pub goes-read : {A : Type 0} (P : List ℕ → Type 0) (c : Connection) (e e' : RunExplainer A) → BeginsRead e e' → P [] → GoesOn false c e P [] c e'
-goes-read P c e e' begins p = λ form s b text said.
+goes-read {A = A} P c e e' begins p = λ form s b text said.
     let none = goes-none P c e p form s b text said in (
       none.0,
       subst (λ (x : RunExplainer A). IsExplained false form s (b ++ []) c x (text ++ none.0)) (sym begins.1)
@@ -83,8 +83,8 @@ goes-read P c e e' begins p = λ form s b text said.
 -- and it goes on being watched
 pub watched-read : {A : Type 0} (failed : Bool) (c : Connection) (e e' : RunExplainer A) (came : ℕ) → BeginsRead e e'
     → IsWatched failed c e came → IsWatched failed c e' came
-watched-read true c e e' came begins watched = tt
-watched-read false c e e' came begins watched = subst (λ (x : RunExplainer A). IsWatched false c x came) (sym begins.1) watched
+watched-read {A = A} true c e e' came begins watched = tt
+watched-read {A = A} false c e e' came begins watched = subst (λ (x : RunExplainer A). IsWatched false c x came) (sym begins.1) watched
 
 -- a text that was empty gained this
 gained-is : (begun items more : List ℕ) → begun ≡ [] → Some items ≡ Some (begun ++ more) → items ≡ more
@@ -153,8 +153,8 @@ pub ends-as : {A : Type 0} (P : List ℕ → Type 0) (failed : Bool) (x : Conclu
 ends-as P failed x c e is ends = subst (λ (f : Bool). Concludes f x c e P) (sym is) ends
 
 -- memory was refused before: what was said is all
-pub ends-cut : {A : Type 0} (P : List ℕ → Type 0) (c : Connection) (e : RunExplainer A) → P [] → Concludes true (record { is_cut = true; summary = None }) c e P
-ends-cut P c e p = λ form s b text said. (
+said-all : {A : Type 0} (P : List ℕ → Type 0) (c : Connection) (e : RunExplainer A) → P [] → Concludes true (record { is_cut = true; summary = None }) c e P
+said-all P c e p = λ form s b text said. (
   [],
   (
     subst (λ (o : List ℕ). IsExplanation form true s o (text ++ [])) (append-nil b)
@@ -163,6 +163,10 @@ ends-cut P c e p = λ form s b text said. (
   ),
   p,
 )
+
+pub ends-cut : {A : Type 0} (P : List ℕ → Type 0) (failed : Bool) (c : Connection) (e : RunExplainer A)
+    → failed ≡ true → P [] → Concludes failed (record { is_cut = true; summary = None }) c e P
+ends-cut P failed c e is p = subst (λ (f : Bool). Concludes f (record { is_cut = true; summary = None }) c e P) (sym is) (said-all P c e p)
 
 -- where memory for the text of the end was refused, the end was not explained
 failed-cuts : {A : Type 0} (r : Result A ExplainFault) (failed : Bool) → failed ≡ not_written r → failed ≡ true → is_err r ≡ true

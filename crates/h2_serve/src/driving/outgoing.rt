@@ -51,14 +51,14 @@ impl<A: Allocator> Pending for Outbox<'_, A> {
 }
 
 /// As an outbox.
-impl<A: Allocator + Copy> Pending for ItemOutbox<'_, A> {
+impl<'b, A: Allocator + Copy> Pending for ItemOutbox<'b, A> {
     ghost pending = { λ o. o };
 
     fn write_all<S: Wire>(&mut self, wire: &mut S) -> Result<(), WireFault> {
-        let alloc = *self.memory();
-        let mut outbox = mem::replace(self, ItemOutbox::new(alloc)).into_outbox();
+        let none = ItemOutbox::new(*self.memory());
+        let mut outbox = mem::replace(self, none).into_outbox();
         let written = write_outbox(wire, &mut outbox);
-        *self = ItemOutbox::of(outbox);
+        let _none = mem::replace(self, ItemOutbox::of(outbox));
         written
     }
 }

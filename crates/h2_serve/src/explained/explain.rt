@@ -150,14 +150,8 @@ fn print_end<O: Output>(
 }
 
 /// Whether all that was sent for the last read was written.
-fn is_written(shown: &Result<ClientEnd, ServeFault>) -> bool {
-    match shown {
-        Ok(shown) => !matches!(
-            shown.end,
-            Err(DriveFault::NoMemory) | Err(DriveFault::Write)
-        ),
-        Err(_) => false,
-    }
+fn is_written(end: Result<DriveEnd, DriveFault>) -> bool {
+    !matches!(end, Err(DriveFault::NoMemory) | Err(DriveFault::Write))
 }
 
 /// Accepts a client, prints that its connection is open, drives it to its end, explains it, closes its wire, and prints
@@ -199,13 +193,16 @@ fn explain_next<L: Listener, O: Output, K: Keeper>(
     let shown = explain_over(
         alloc, form, conn, number, &mut out, &mut wire, TURNS, keeper, output,
     );
-    keeper.end(is_written(&shown));
     match shown {
         Ok(shown) => {
+            keeper.end(is_written(shown.end));
             listener.close(wire);
             print_end(number, shown, output)
         }
-        Err(fault) => Err(fault),
+        Err(fault) => {
+            keeper.end(false);
+            Err(fault)
+        }
     }
 }
 

@@ -129,7 +129,7 @@ impl<'b, O: Output, K: Keeper> Driven<ItemOutbox<'b, Global>> for ExplainedConn<
 
     ghost passes_cut = { λ w x a b first going.
         let one = first going in
-        (one.0, one.1, one.2, one.3, goes-cut _ _ _ _ _ a b one.4, one.5) };
+        (one.0, one.1, one.2, one.3, goes-cut _ w.conn x.conn w.explanation x.explanation a b one.4, one.5) };
 }
 
 impl<'b, 'o, O: Output, K: Keeper> ExplainedConn<'b, 'o, O, K> {

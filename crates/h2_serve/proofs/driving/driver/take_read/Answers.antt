@@ -48,21 +48,21 @@ pub loop-at-smaller : goal.loop-at-smaller
 loop-at-smaller g c = omega (arith, c.loop-at.invariant.within, c.portion-count.ensures.some, c.portion-count.ensures.within, ap length c.octets_from-rest.ensures, length-drop c.loop-at.at c.args.octets.now)
 
 pub overflow_add-at : goal.overflow_add-at
-overflow_add-at g c = omega (arith, c.loop-at.invariant.within, c.portion-count.ensures.within, ap length c.octets_from-rest.ensures, length-drop c.loop-at.at c.args.octets.now, c.len.ensures, c.len.type_inv)
+overflow_add-at g c = omega (arith, c.loop-at.invariant.within, c.portion-count.ensures.within, ap length c.octets_from-rest.ensures, length-drop c.loop-at.at c.args.octets.now)
 
 pub portion-count-requires : goal.portion-count-requires
-portion-count-requires g c = omega (arith, c.loop-at-test.true, c.len.ensures, ap length c.octets_from-rest.ensures, length-drop c.loop-at.at c.args.octets.now)
+portion-count-requires g c = omega (arith, c.loop-at-test.true, ap length c.octets_from-rest.ensures, length-drop c.loop-at.at c.args.octets.now)
 
 pub returns-clause-ok : goal.returns-clause-ok
 returns-clause-ok g c =
     let i = c.loop-at.invariant in
-    let all = all-taken c.args.octets.now c.loop-at.at (omega (arith, i.within, c.loop-at-test.false, c.len.ensures)) in
+    let all = all-taken c.args.octets.now c.loop-at.at (omega (arith, i.within, c.loop-at-test.false)) in
     subst (λ (xs : List ℕ). Fed (g.D.Driven.connection c.args.driven.now) xs (g.O.Pending.pending c.args.out.now) (g.D.Driven.connection c.loop-at.driven) (g.O.Pending.pending c.loop-at.out)) all i.fed
 
 pub returns-clause-passes : goal.returns-clause-passes
 returns-clause-passes g c =
     let i = c.loop-at.invariant in
-    let all = all-taken c.args.octets.now c.loop-at.at (omega (arith, i.within, c.loop-at-test.false, c.len.ensures)) in
+    let all = all-taken c.args.octets.now c.loop-at.at (omega (arith, i.within, c.loop-at-test.false)) in
     subst (λ (xs : List ℕ). g.D.Driven.passes false c.args.driven.now xs c.loop-at.driven) all i.passes
 
 pub returns-in-Err-clause-no_memory : goal.returns-in-Err-clause-no_memory

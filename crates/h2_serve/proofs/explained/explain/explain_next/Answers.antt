@@ -10,7 +10,7 @@ use Rattle.h2_serve.proofs.explained.explain.explain_next.Goals as goal
 
 pub returns-in-Ok-shown-clause-shown : goal.returns-in-Ok-shown-clause-shown
 returns-in-Ok-shown-clause-shown g c =
-    let pending = c.in-Ok-open.ensures.sent ∙ ap (λ (xs : List ℕ). xs ++ opening_octets c.args.config) c.new-out.ensures.items in
+    let pending = c.in-Ok-open.ensures.sent ∙ ap (λ (xs : List ℕ). xs ++ opening_octets c.args.config) c.new-out.ensures in
     next-shown c.args.form (start_of c.args.book.now c.args.config) _ _ c.args.number (g.O.Output.written c.args.output.now) (g.O.Output.written c.print.new.output)
     (g.O.Output.written c.explain_over-shown.new.output) (g.O.Output.written c.print_end.new.output) _ (g.L.Listener.events c.accept.new.self) _ _ _ _ c.in-Ok-shown.shown c.print_end.result
     (ap (λ (d : Connection). d.state) c.in-Ok-open.ensures.opened) pending c.in-Ok.ensures.ok c.close.ensures
@@ -18,7 +18,7 @@ returns-in-Ok-shown-clause-shown g c =
 
 pub returns-in-Ok-shown-clause-wires : goal.returns-in-Ok-shown-clause-wires
 returns-in-Ok-shown-clause-wires g c =
-    let pending = c.in-Ok-open.ensures.sent ∙ ap (λ (xs : List ℕ). xs ++ opening_octets c.args.config) c.new-out.ensures.items in
+    let pending = c.in-Ok-open.ensures.sent ∙ ap (λ (xs : List ℕ). xs ++ opening_octets c.args.config) c.new-out.ensures in
     handles-first (start_of c.args.book.now c.args.config) c.in-Ok-shown.shown.end _ _
     (handles-one (start_of c.args.book.now c.args.config) _ _ c.in-Ok-shown.shown.end _ _ _ _ _ _
     (ap (λ (d : Connection). d.state) c.in-Ok-open.ensures.opened) pending c.in-Ok.ensures.ok c.close.ensures c.in-Ok-shown.ensures.drives)

@@ -25,8 +25,8 @@ returns-clause-drives g c =
       last = last;
       drives =
           subst (λ (d : Connection). Drives c.args.turns
-          (drive_state (g.S.Wire.octets_read wire) (g.S.Wire.octets_written wire) (g.S.Wire.read_lengths wire) c.args.out.now.items d)
-          (drive_state (g.S.Wire.octets_read after) (g.S.Wire.octets_written after) (g.S.Wire.read_lengths after) c.drive_with-end.new.out.items last)
+          (drive_state (g.S.Wire.octets_read wire) (g.S.Wire.octets_written wire) (g.S.Wire.read_lengths wire) c.args.out.now d)
+          (drive_state (g.S.Wire.octets_read after) (g.S.Wire.octets_written after) (g.S.Wire.read_lengths after) c.drive_with-end.new.out last)
           c.drive_with-end.result)
           (ap (λ (h : List ℕ). going c.args.conn.state h) c.in-Ok-new.ensures.held_is)
           c.drive_with-end.ensures.drives;

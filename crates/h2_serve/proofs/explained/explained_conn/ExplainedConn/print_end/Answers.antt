@@ -1,6 +1,12 @@
 use Rattle.std.proofs.Common.{Some}
-use Rattle.h2_serve.proofs.Watching.{ends-as, ends-gathered}
+use Rattle.h2_serve.specs.Passes.{prints-none}
+use Rattle.h2_serve.proofs.Watching.{ends-as, ends-cut, ends-gathered}
 use Rattle.h2_serve.proofs.explained.explained_conn.ExplainedConn.print_end.Goals as goal
+
+pub returns-then-self-clause-ended : goal.returns-then-self-clause-ended
+returns-then-self-clause-ended g c =
+    let p = c.args.self.now.printer in
+    ends-cut _ _ _ _ c.if-self.true (prints-none p.prefix.items p.json p.fresh p.fault (g.O.Output.written p.output.now))
 
 pub returns-clause-ended : goal.returns-clause-ended
 returns-clause-ended g c =

@@ -2,7 +2,7 @@ use Rattle.std.proofs.Common.{Bool, List, ℕ, ap, arith, length, refl, rules}
 use Rattle.h2_serve.specs.Numbered.{PrintsPrefixed, gathered_text}
 use Rattle.h2_serve.specs.Passes.{grows-none, prints-none}
 use Rattle.h2_serve.proofs.Watching.{cut-before, cut-gathered, goes-said, halts-early, watched-more}
-use Rattle.h2_serve.proofs.explained.explained_conn.ExplainedConnDrivenItemOutbox.take_octets.Goals as goal
+use Rattle.h2_serve.proofs.explained.explained_conn.ExplainedConnDrivenItemOutboxGlobal.take_octets.Goals as goal
 
 pub returns-then-came-ge-MOST-clause-no_memory : goal.returns-then-came-ge-MOST-clause-no_memory
 returns-then-came-ge-MOST-clause-no_memory g c =
@@ -27,7 +27,7 @@ pub returns-in-Ok-clause-ready : goal.returns-in-Ok-clause-ready
 returns-in-Ok-clause-ready g c =
     let w = c.args.self.now in (
       watched-more w.failed w.conn c.feed-fed.new.conn w.explanation c.feed-fed.new.self w.came (length c.args.piece.now) _
-          c.args.piece.now c.args.out.now c.feed-fed.new.out.items c.requires.going c.requires.ready.0 c.in-Ok.ensures.ready
+          c.args.piece.now c.args.out.now c.feed-fed.new.out c.requires.going c.requires.ready.0 c.in-Ok.ensures.ready
           c.in-Ok.ensures.room (search rules) (omega (arith, c.if-came-ge-MOST.false)) c.in-Ok.ensures.fed,
       c.print_gathered.ensures.flag,
     )

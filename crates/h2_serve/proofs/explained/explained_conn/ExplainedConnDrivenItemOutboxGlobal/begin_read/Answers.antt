@@ -4,7 +4,7 @@ use Rattle.h2_serve.specs.ExplainedConns.{whole}
 use Rattle.h2_serve.specs.Numbered.{PrintsPrefixed}
 use Rattle.h2_serve.specs.Passes.{grows-none, prints-none}
 use Rattle.h2_serve.proofs.Watching.{goes-read, watched-read}
-use Rattle.h2_serve.proofs.explained.explained_conn.ExplainedConnDrivenItemOutbox.begin_read.Goals as goal
+use Rattle.h2_serve.proofs.explained.explained_conn.ExplainedConnDrivenItemOutboxGlobal.begin_read.Goals as goal
 
 pub returns-clause-ready : goal.returns-clause-ready
 returns-clause-ready g c =
