@@ -8,9 +8,10 @@ use Rattle.h2_cmd_batch.specs.Printing.{Printed, failed, failed_after}
 use Rattle.h2_cmd_batch.specs.declared.fault.BenchFault.{BenchFault}
 use Rattle.h2_cmd_batch.specs.declared.fault.BenchFault.TheVariants.{NoMemory}
 use Rattle.h2_cmd_book_file.specs.Entries.{Directory}
-use Rattle.h2_cmd_check.specs.JUnit.{FileResults}
+use Rattle.h2_cmd_book_file.specs.Files.{Replaces}
+use Rattle.h2_cmd_check.specs.JUnit.{FileResults, junit_file}
 use Rattle.h2_cmd_exchange.specs.Links.{LinkEvent}
-use Rattle.h2_cmd_against.specs.Program.{AreSuites, CutsSuites, GainsSuites, IsEnd, IsJudged, IsJudgedWith, Knows, Misses, case_names, texts, version_line}
+use Rattle.h2_cmd_against.specs.Program.{AreSuites, ChangesAlone, CutsSuites, GainsSuites, IsEnd, IsFiled, IsJudged, IsJudgedWith, Knows, Misses, case_names, texts, version_line}
 use Rattle.h2_cmd_against.specs.Results.{SoFar, no_case}
 use Rattle.h2_cmd_against.specs.declared.server.Server.{Server}
 
@@ -110,6 +111,21 @@ refused-judged said recorded junit d d' names log log' fault a b status (inl mem
     (failed fault, inl (kept, ap (λ (f : BenchFault). failed f) memory), printed held at)
 refused-judged said recorded junit d d' names log log' fault a b status (inr found) kept printed = λ held at.
     (failed fault, inr (subst (λ (w : Result (List Entry) ℕ). IsJudgedWith w recorded junit d names log d' log' (failed fault)) (sym found) (kept, refl)), printed held at)
+
+-- ---- files
+
+pub replaced-alone : (d d' : Directory) (file octets : List ℕ) → Replaces d file octets d' → ChangesAlone file d d'
+replaced-alone d d' file octets is = λ path other. rw other at (is path)
+
+pub filed-alone : (junit : List ℕ) (d d' : Directory) (suites : List FileResults) → IsFiled junit d suites d' → ChangesAlone junit d d'
+filed-alone [] d d' suites same = λ path other. ap (λ (f : Directory). f path) same
+filed-alone (octet ∷ octets) d d' suites is = replaced-alone d d' (octet ∷ octets) (junit_file suites) is
+
+pub none-changed : (d d' : Directory) (file : List ℕ) → d' ≡ d → ChangesAlone file d d'
+none-changed d d' file same = λ path other. ap (λ (f : Directory). f path) same
+
+pub changed-after : (d e d' : Directory) (file : List ℕ) → e ≡ d → ChangesAlone file e d' → ChangesAlone file d d'
+changed-after d e d' file same alone = subst (λ (f : Directory). ChangesAlone file f d') same alone
 
 -- the files that have cases, by their names
 pub case-names-map : (recorded : Bool) (names : List (Bor (List ℕ))) → map (λ n. n.now) (case_names recorded names) ≡ case_names recorded (map (λ n. n.now) names)

@@ -1,6 +1,6 @@
 -- What the program prints: the results of the cases of files, after them the rules that were broken and how many cases there
 -- are of each kind; and the status.
-use Rattle.std.specs.Prelude.{◌≡◌, ◌⊎◌, ◌++◌, ℕ, Bool, true, false, List, [], ◌∷◌, codes, drop, flat_map, map, unwrap_or, Option, Some, None, Result, Ok, Err}
+use Rattle.std.specs.Prelude.{◌≡◌, ◌⊎◌, ◌++◌, ℕ, Bool, true, false, List, [], ◌∷◌, bytes_eq, codes, drop, flat_map, map, unwrap_or, Option, Some, None, Result, Ok, Err}
 use Rattle.std.specs.Io.KnownBytes.{Appends}
 use Rattle.std.specs.Option.{option_map}
 use Rattle.h2_spec.specs.Requests.Answer.{Entry}
@@ -109,6 +109,10 @@ version_line = codes "TAP version 13\n"
 abbrev pub IsFiled : (junit : List ℕ) → Directory → List FileResults → Directory → Type 0
 IsFiled [] files suites files' = files' ≡ files
 IsFiled (octet ∷ octets) files suites files' = Replaces files (octet ∷ octets) (junit_file suites) files'
+
+-- whatever failed: no other file was changed
+abbrev pub ChangesAlone : (junit : List ℕ) → Directory → Directory → Type 0
+ChangesAlone junit files files' = (path : List ℕ) → bytes_eq path junit ≡ false → files' path ≡ files path
 
 abbrev pub status_of : (passed : Bool) → ℕ
 status_of true = 0

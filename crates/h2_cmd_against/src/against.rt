@@ -3,7 +3,7 @@
 ghost use Rattle.std.specs.Prelude.{◌≡◌, ◌==◌, false, map, true};
 ghost use Rattle.h2_cmd_args.specs.Plans.{book_asked};
 ghost use Rattle.h2_cmd_batch.specs.CommandEnd.{PrintsSome};
-ghost use Rattle.h2_cmd_against.specs.Program.{EndsAgainst, IsJudged};
+ghost use Rattle.h2_cmd_against.specs.Program.{ChangesAlone, EndsAgainst, IsJudged};
 
 use crate::cases::Bench;
 use crate::program::{Stop, print_end, print_files};
@@ -32,6 +32,7 @@ fn judge_known<F: Files, L: Link, O: Output, E: Output>(
     ensures printed { F.is_printed files.old ≡ true → O.has_failed output.new ≡ false
         → PrintsSome (λ t. IsJudged junit.now (F.file files.old) bench.entry.server.now bench.entry.book.now (map (λ n. n.now) names.now)
         (L.log link.old) (F.file files.new) (L.log link.new) t) (O.written output.old) (O.written output.new) result }
+    ensures alone { F.is_printed files.old ≡ true → ChangesAlone junit.now (F.file files.old) (F.file files.new) }
     ensures flag { O.has_failed output.new ≡ (result == 3) }
 {
     match output.write(b"TAP version 13\n") {
@@ -75,6 +76,7 @@ pub fn judge_server<F: Files, L: Link, O: Output, E: Output>(
     ensures printed { F.is_printed files.old ≡ true → O.has_failed output.new ≡ false
         → EndsAgainst plan.now.judge plan.now.junit.now (F.file files.old) (book_asked plan.now.book) (map (λ n. n.now) plan.now.files.items)
         (L.log link.old) (F.file files.new) (L.log link.new) (O.written output.old) (O.written output.new) result }
+    ensures alone { F.is_printed files.old ≡ true → ChangesAlone plan.now.junit.now (F.file files.old) (F.file files.new) }
     ensures flag { O.has_failed output.new ≡ (result == 3) }
 {
     let book = match book_for_words(alloc, &plan.book, files, errors) {

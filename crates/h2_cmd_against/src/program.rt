@@ -5,7 +5,7 @@ ghost use Rattle.std.specs.Prelude.{◌≡◌, ◌==◌, ◌<◌, List, ℕ, Som
 ghost use Rattle.std.specs.Io.KnownBytes.{Appends};
 ghost use Rattle.h2_cmd_check.specs.JUnit.{results_in};
 ghost use Rattle.h2_cmd_batch.specs.CommandEnd.{Prints, PrintsSome};
-ghost use Rattle.h2_cmd_against.specs.Program.{CutsSuites, GainsSuites, IsEnd, IsFiled, IsSuite, is_unwritten, status_of};
+ghost use Rattle.h2_cmd_against.specs.Program.{ChangesAlone, CutsSuites, GainsSuites, IsEnd, IsFiled, IsSuite, is_unwritten, status_of};
 ghost use Rattle.h2_cmd_against.specs.Results.{is_passed};
 
 use crate::cases::Bench;
@@ -124,6 +124,7 @@ fn write_junit<F: Files, E: Output>(
 ) -> Result<(), BenchFault>
     ensures filed { F.is_printed files.old ≡ true → OnOk result (IsFiled junit.now (F.file files.old) (map results_in suites.now) (F.file files.new)) }
     ensures kept { OnErr result (F.file files.new ≡ F.file files.old) }
+    ensures alone { F.is_printed files.old ≡ true → ChangesAlone junit.now (F.file files.old) (F.file files.new) }
 {
     if junit.is_empty() {
         return Ok(());
@@ -176,6 +177,7 @@ pub fn print_end<F: Files, O: Output, E: Output>(
     requires writer { O.has_failed output.old ≡ false }
     ensures printed { F.is_printed files.old ≡ true → O.has_failed output.new ≡ false
         → PrintsSome (λ t. IsEnd junit.now (F.file files.old) so_far.now (map results_in suites.now) (F.file files.new) t) (O.written output.old) (O.written output.new) result }
+    ensures alone { F.is_printed files.old ≡ true → ChangesAlone junit.now (F.file files.old) (F.file files.new) }
     ensures flag { O.has_failed output.new ≡ (result == 3) }
 {
     let text = match so_far.end(alloc) {
