@@ -1,12 +1,12 @@
 //! The state of a connection: all that an item can change (RFC 9113, 5, 6.5 and 6.9). Definition: h2_spec's
 //! `specs/State.antt`.
 
-ghost use Rattle.std.specs.Prelude.{◌≡◌, IfOk};
+ghost use Rattle.std.specs.Prelude.{◌≡◌, true, IfOk, IsTrue};
 ghost use Rattle.h2_conn.specs.Checkpoint.{IsConsistent};
 ghost use Rattle.h2_conn.specs.Records.{records};
 ghost use Rattle.h2_conn_rules.specs.Sound.{AreInRange, HasBody, IsSoundState, IsSoundStream, in_force};
 ghost use Rattle.h2_spec.specs.State.{configured, opening, opening_core};
-ghost use Rattle.h2_spec.specs.Stream.{stream_at};
+ghost use Rattle.h2_spec.specs.Stream.{is_live, kind_of, stream_at};
 
 use crate::field_block::open_block::{OpenBlock, copy_of};
 use h2_request_book::book::Book;
@@ -128,12 +128,13 @@ impl<'b, A: Allocator + Copy> State<'b, A> {
         self.core
     }
 
-    /// Looks a live stream's record up, so that what comes next finds it at once.
+    /// Looks a live stream's record up, so that what comes next finds it at once. Where it returns `true` the stream is live.
     #[inline(always)]
-    pub fn look_up(&mut self, id: u32)
-        ensures { self.new ≡ self.old }
+    pub fn look_up(&mut self, id: u32) -> bool
+        ensures same { self.new ≡ self.old }
+        ensures live { IsTrue result → is_live (kind_of self.old.core.last self.old.streams id) ≡ true }
     {
-        self.streams.look_up(id);
+        self.streams.look_up(id)
     }
 
     /// A stream's record, or what represents it where it has none.

@@ -10,7 +10,7 @@ use Rattle.h2_spec.specs.declared.streams.StreamState.{StreamState}
 use Rattle.h2_spec.specs.declared.streams.StreamState.TheVariants.{Idle}
 use Rattle.h2_spec.specs.Stream.{record_of, put, AreRising, stream_at, kind_of, recorded, is_live, not_live, Records, added, with_record}
 use Rattle.h2_streams.specs.Put.{can_become}
-use Rattle.h2_streams.specs.Kept.{Rise, passes_at, place_of}
+use Rattle.h2_streams.specs.Kept.{Rise, lives, passes_at, place_of}
 
 pub eqb-same : (a b : ℕ) → eqb a b ≡ true → a ≡ b
 eqb-same a b h = grind (arith, nat_tests, h)
@@ -156,7 +156,23 @@ live-found last rs id h = by_test (eqb (id % 2) 0) (nat_lt last id) (record_of r
   by_test false false None k = absurd (true≢false (sym k))
   by_test false false (Some st) k = refl
 
--- and it has its identifier
+-- a stream that has a record is not idle
+not-idle : (low last : ℕ) (rs : List Stream) (id : ℕ) (st : Stream) → AreRising low last rs → record_of rs id ≡ Some st → (eqb (id % 2) 0 ≡ false) × (nat_lt last id ≡ false)
+not-idle low last [] id st h f = cc
+not-idle low last (x ∷ xs) id st h f = by (eqb x.id id) refl (not-idle x.id last xs id st h.3) where
+  by : (b : Bool) → eqb x.id id ≡ b → (record_of xs id ≡ Some st → (eqb (id % 2) 0 ≡ false) × (nat_lt last id ≡ false)) → (eqb (id % 2) 0 ≡ false) × (nat_lt last id ≡ false)
+  by true e rest =
+      let within = h.2 in
+      let here : nat_lt last x.id ≡ false = grind (arith, nat_tests, within) in
+      subst (λ n. (eqb (n % 2) 0 ≡ false) × (nat_lt last n ≡ false)) (eqb-same x.id id e) (ap (λ n. eqb n 0) h.1, here)
+  by false e rest = let g : record_of xs id ≡ Some st = rw e at f in rest g
+
+-- and is its record
+pub found-stream : (last : ℕ) (rs : List Stream) (id : ℕ) (st : Stream) → AreRising 0 last rs → record_of rs id ≡ Some st → stream_at last rs id ≡ st
+unfolding stream_at
+found-stream last rs id st h f = let there = not-idle 0 last rs id st h f in rw (there.0, there.1, f) refl
+
+-- a live stream's record has its identifier
 pub live-id : (last : ℕ) (rs : List Stream) (id : ℕ) → is_live (kind_of last rs id) ≡ true → (stream_at last rs id).id ≡ id
 live-id last rs id h = found-id rs id (stream_at last rs id) (live-found last rs id h)
 
@@ -201,6 +217,13 @@ found-there id rs p h k = by (slice_get rs p) k ∙ ap (λ i. checked id (slice_
   by : (o : Option Stream) → option_map_or (λ (st : Stream). eqb st.id id) o false ≡ true → o ≡ checked id o
   by None e = refl
   by (Some st) e = rw e refl
+
+-- a stream whose identifier a live record has is live
+pub live-there : (last : ℕ) (rs : List Stream) (id p : ℕ) → AreRising 0 last rs → passes_at (λ st. eqb st.id id) rs p ≡ true → passes_at lives rs p ≡ true → is_live (kind_of last rs id) ≡ true
+live-there last rs id p h at live = by (record_of rs id) refl (ap (λ (o : Option Stream). option_map_or lives o false) (sym (found-there id rs p (rise 0 last rs h) at)) ∙ live) where
+  by : (o : Option Stream) → record_of rs id ≡ o → option_map_or lives o false ≡ true → is_live (kind_of last rs id) ≡ true
+  by None e k = absurd (true≢false (sym k))
+  by (Some st) e k = ap (λ (x : Stream). is_live x.kind) (found-stream last rs id st h e) ∙ k
 
 -- what a test says of the record with an identifier is what it says at its place
 pub test-there : (test : Stream → Bool) (id low : ℕ) (rs : List Stream) → Rise low rs → is_some (record_of rs id) ≡ true → passes_at test rs (place_of id rs) ≡ option_map_or test (record_of rs id) false

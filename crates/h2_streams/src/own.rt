@@ -17,7 +17,7 @@ use crate::kinds::is_ready;
 use crate::lookup::hash::IdHash;
 use crate::lookup::ids::{append, ids_above, list};
 use crate::lookup::live::{enter, enter_each, known_place, note_ended, place_in, record_in};
-use crate::lookup::places::{raise_at, write};
+use crate::lookup::places::{is_live_at, raise_at, write};
 use crate::lookup::walks::{first_waiting, list_ready};
 use crate::sharing::rebuilt::live_records;
 use crate::windows::greatest::greatest_of;
@@ -197,12 +197,17 @@ impl<A: Allocator> OwnRecords<A> {
 
     // The place is compared where it is used, so it may be any number.
     /// Looks the record of a live stream up, so that the calls that come next find it at once. Nothing changes.
-    pub(crate) fn look_up(&mut self, id: u32)
-        ensures { self.new ≡ self.old }
+    /// Where it returns `true` the stream is live.
+    pub(crate) fn look_up(&mut self, id: u32) -> bool
+        ensures same { self.new ≡ self.old }
+        ensures live { IsTrue result → IsTrue (spec.is_live (spec.kind_of self.old.last self.old.streams id)) }
     {
-        if let Some(place) = known_place(&self.live, self.records.as_slice(), self.recent, id) {
-            self.recent = place;
-        }
+        let records = self.records.as_slice();
+        let Some(place) = known_place(&self.live, records, self.recent, id) else {
+            return false;
+        };
+        self.recent = place;
+        is_live_at(records, place)
     }
 
     /// The number of records.

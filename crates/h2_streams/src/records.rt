@@ -182,10 +182,12 @@ impl<A: Allocator> Streams<A> {
     }
 
     /// Looks the record of a live stream up, so that the calls that come next find it at once. Nothing changes.
-    pub fn look_up(&mut self, id: u32)
-        ensures { self.new ≡ self.old }
+    /// Where it returns `true` the stream is live.
+    pub fn look_up(&mut self, id: u32) -> bool
+        ensures same { self.new ≡ self.old }
+        ensures live { IsTrue result → IsTrue (spec.is_live (spec.kind_of self.old.last self.old.streams id)) }
     {
-        self.own.look_up(id);
+        self.own.look_up(id)
     }
 
     /// The i-th record in the order of opening, from 0.

@@ -33,7 +33,6 @@ use h2_spec::connection::{ConnectionState, Phase};
 use h2_spec::frames::{ACK, Head};
 use h2_spec::ignored::Ignored;
 use h2_spec::reactions::Verdict;
-use h2_spec::streams::{Stream, is_live};
 use std::alloc::{AllocError, Allocator};
 
 impl<'b, A: Allocator + Copy> State<'b, A> {
@@ -53,26 +52,26 @@ impl<'b, A: Allocator + Copy> State<'b, A> {
         requires stopped { IsStopped self.old.block }
         ensures { Settles self.old (O.octets out.old) (makes self.old (rule.reset_at self.old id)) result self.new (O.octets out.new) }
     {
-        self.look_up(id);
-        let stream = self.stream_at(id);
-        if self.only_resets(&stream) {
+        if self.only_resets(id) {
             self.reset(id);
             return Ok(Verdict {
                 cause: None,
                 ignored: None,
             });
         }
+        let stream = self.stream_at(id);
         let reaction = on_reset(self.core(), stream);
         self.conclude_leaving_counts(reaction, out)
     }
 
-    /// Whether a stream is live, and no stream can send.
+    /// Looks the stream up. Where it returns `true` it is live, and no stream can send.
     #[inline(always)]
-    fn only_resets(&self, stream: &Stream) -> bool
-        ensures live { IsTrue result → is_live stream.now.kind ≡ true }
-        ensures idle { IsTrue result → list_any is_ready self.now.streams ≡ false }
+    fn only_resets(&mut self, id: u32) -> bool
+        ensures same { self.new ≡ self.old }
+        ensures live { IsTrue result → is_live (kind_of self.new.core.last self.new.streams id) ≡ true }
+        ensures idle { IsTrue result → list_any is_ready self.new.streams ≡ false }
     {
-        is_live(stream.kind) && self.streams.none_ready()
+        self.look_up(id) && self.streams.none_ready()
     }
 
     /// The peer resets a live stream.

@@ -12,7 +12,7 @@ use Rattle.h2_streams.specs.Raised.{raised}
 use Rattle.h2_conn.proofs.state.State.on_stream_window.Goals as goal
 
 pub raise-requires-clause-stopped : goal.raise-requires-clause-stopped
-raise-requires-clause-stopped g c = subst (λ (x : State). IsStopped x.block) (sym c.look_up.ensures) c.requires.stopped
+raise-requires-clause-stopped g c = subst (λ (x : State). IsStopped x.block) (sym c.look_up.ensures.same) c.requires.stopped
 
 -- nothing is sent
 pub returns-then-only_raises : goal.returns-then-only_raises
@@ -23,9 +23,9 @@ returns-then-only_raises g c =
     let st = stream_at s.core.last s.streams c.args.id in
     let idle = none-ready (open_window s.core) s.streams (c.only_raises.ensures.idle c.if-only_raises.true) in
     let none = none-put (open_window s.core) (raised n st) s.streams (raised-waits n st ∙ c.only_raises.ensures.nothing c.if-only_raises.true) idle in
-    rw (sym c.look_up.ensures) (settles-quietly s c.raise.new.self (puts s.core (raised n st)) (on_window s.core n st) _ (g.O.Outgoing.octets c.args.out.now)
+    rw (sym c.look_up.ensures.same) (settles-quietly s c.raise.new.self (puts s.core (raised n st)) (on_window s.core n st) _ (g.O.Outgoing.octets c.args.out.now)
     (raises-rule s.core n st (c.only_raises.ensures.raises c.if-only_raises.true)) refl refl none c.raise.ensures)
 
 -- looking the record up changes nothing
 pub returns : goal.returns
-returns g c = rw c.look_up.ensures at c.on_other_window.ensures
+returns g c = rw c.look_up.ensures.same at c.on_other_window.ensures
