@@ -1,11 +1,12 @@
 //! `check --against` and `check --judge`. Definitions: `specs/Program.antt`.
 
 ghost use Rattle.std.specs.Prelude.{◌≡◌, ◌==◌, false, map, true};
-ghost use Rattle.h2_cmd_args.specs.Plans.{book_asked};
 ghost use Rattle.h2_cmd_batch.specs.CommandEnd.{PrintsSome};
 ghost use Rattle.h2_cmd_batch.specs.Results.{ChangesAlone};
-ghost use Rattle.h2_cmd_against.specs.Program.{EndsAgainst, IsJudged};
+ghost use Rattle.h2_cmd_against.specs.Files.{trial_of};
+ghost use Rattle.h2_cmd_against.specs.Program.{EndsAgainst, IsJudged, task_of};
 
+use crate::aim::aim_for;
 use crate::cases::Bench;
 use crate::program::{Stop, print_end, print_files};
 use crate::results::SoFar;
@@ -30,7 +31,7 @@ fn judge_known<F: Files, L: Link, O: Output, E: Output>(
 ) -> u8
     requires writer { O.has_failed output.old ≡ false }
     ensures printed { F.is_printed files.old ≡ true → O.has_failed output.new ≡ false
-        → PrintsSome (λ t. IsJudged plan.now.junit.now (F.file files.old) bench.entry.server.now bench.entry.book.now (map (λ n. n.now) names.now)
+        → PrintsSome (λ t. IsJudged plan.now.junit.now (trial_of (F.file files.old) bench.entry) (map (λ n. n.now) names.now)
         (L.log link.old) (F.file files.new) (L.log link.new) t) (O.written output.old) (O.written output.new) result }
     ensures alone { F.is_printed files.old ≡ true → ChangesAlone plan.now.junit.now (F.file files.old) (F.file files.new) }
     ensures flag { O.has_failed output.new ≡ (result == 3) }
@@ -77,8 +78,7 @@ pub fn judge_server<F: Files, L: Link, O: Output, E: Output>(
 ) -> u8
     requires writer { O.has_failed output.old ≡ false }
     ensures printed { F.is_printed files.old ≡ true → O.has_failed output.new ≡ false
-        → EndsAgainst plan.now.judge plan.now.junit.now (F.file files.old) (book_asked plan.now.book) (map (λ n. n.now) plan.now.files.items)
-        (L.log link.old) (F.file files.new) (L.log link.new) (O.written output.old) (O.written output.new) result }
+        → EndsAgainst (task_of plan.now) (F.file files.old) (L.log link.old) (F.file files.new) (L.log link.new) (O.written output.old) (O.written output.new) result }
     ensures alone { F.is_printed files.old ≡ true → ChangesAlone plan.now.junit.now (F.file files.old) (F.file files.new) }
     ensures flag { O.has_failed output.new ≡ (result == 3) }
 {
@@ -86,11 +86,13 @@ pub fn judge_server<F: Files, L: Link, O: Output, E: Output>(
         Ok(book) => book,
         Err(fault) => return print_fault(output, fault),
     };
-    match server_for(alloc, plan.judge, plan.files.as_slice(), files, link) {
+    let aim = aim_for(plan.path, plan.authority);
+    match server_for(alloc, aim, plan.judge, plan.files.as_slice(), files, link) {
         Ok(server) => {
             let bench = Bench {
                 book: &book,
                 server: &server,
+                aim,
                 millis: u64::from(plan.wait),
             };
             let names = case_names(plan.judge, plan.files.as_slice());

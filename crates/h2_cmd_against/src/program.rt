@@ -6,6 +6,7 @@ ghost use Rattle.std.specs.Io.KnownBytes.{Appends};
 ghost use Rattle.h2_cmd_check.specs.JUnit.{results_in};
 ghost use Rattle.h2_cmd_batch.specs.CommandEnd.{Prints, PrintsSome};
 ghost use Rattle.h2_cmd_batch.specs.Results.{ChangesAlone};
+ghost use Rattle.h2_cmd_against.specs.Files.{trial_of};
 ghost use Rattle.h2_cmd_against.specs.Program.{CutsSuites, GainsSuites, IsEnd, IsFiled, IsSuite, is_unwritten, status_of};
 ghost use Rattle.h2_cmd_against.specs.Results.{is_passed};
 
@@ -38,19 +39,14 @@ fn suite_of<'n, F: Files, L: Link>(
     file: &'n str,
     so_far: &mut SoFar,
 ) -> Result<Suite<'n>, AllocError>
-    ensures results { F.is_printed files.old ≡ true → IfOk result (λ suite. IsSuite (F.file files.old) bench.entry.server.now bench.entry.book.now
-        so_far.old (L.log link.old) file.now (results_in suite) so_far.new (L.log link.new)) }
+    ensures results { F.is_printed files.old ≡ true → IfOk result (λ suite. IsSuite (trial_of (F.file files.old) bench.entry) so_far.old (L.log link.old) file.now (results_in suite) so_far.new (L.log link.new)) }
     ensures same_printed { F.is_printed files.new ≡ F.is_printed files.old }
     ensures same_files { F.file files.new ≡ F.file files.old }
 {
     let _text = so_far.take_text(alloc);
-    match judge_file(alloc, bench, files, link, file, so_far) {
-        Ok(()) => {
-            let results = so_far.take_text(alloc);
-            Ok(Suite { file, results })
-        }
-        Err(error) => Err(error),
-    }
+    judge_file(alloc, bench, files, link, file, so_far)?;
+    let results = so_far.take_text(alloc);
+    Ok(Suite { file, results })
 }
 
 /// Writes the results of the cases of a file.
@@ -64,8 +60,7 @@ fn print_file<'n, F: Files, L: Link, O: Output>(
     output: &mut O,
 ) -> Result<Suite<'n>, Stop>
     requires writer { O.has_failed output.old ≡ false }
-    ensures results { F.is_printed files.old ≡ true → IfOk result (λ suite. IsSuite (F.file files.old) bench.entry.server.now bench.entry.book.now
-        so_far.old (L.log link.old) file.now (results_in suite) so_far.new (L.log link.new)) }
+    ensures results { F.is_printed files.old ≡ true → IfOk result (λ suite. IsSuite (trial_of (F.file files.old) bench.entry) so_far.old (L.log link.old) file.now (results_in suite) so_far.new (L.log link.new)) }
     ensures written { IfOk result (λ suite. Appends (O.written output.old) (O.written output.new) suite.results.items) }
     ensures kept { O.has_failed output.new ≡ false → OnErr result (O.written output.new ≡ O.written output.old) }
     ensures flag { O.has_failed output.new ≡ is_unwritten result }
@@ -94,9 +89,10 @@ pub fn print_files<'n, F: Files, L: Link, O: Output>(
     output: &mut O,
 ) -> Result<Vec<Suite<'n>>, Stop>
     requires writer { O.has_failed output.old ≡ false }
-    ensures results { F.is_printed files.old ≡ true → IfOk result (λ suites. GainsSuites false (F.file files.old) bench.entry.server.now bench.entry.book.now so_far.old (L.log link.old)
+    ensures results { F.is_printed files.old ≡ true → IfOk result (λ suites. GainsSuites false (trial_of (F.file files.old) bench.entry) so_far.old (L.log link.old)
         (map (λ n. n.now) names.now) (map results_in suites.items) so_far.new (L.log link.new) (O.written output.old) (O.written output.new)) }
-    ensures cut { F.is_printed files.old ≡ true → O.has_failed output.new ≡ false → OnErr result (CutsSuites (F.file files.old) bench.entry.server.now bench.entry.book.now so_far.old (L.log link.old)
+    ensures cut { F.is_printed files.old ≡ true → O.has_failed output.new ≡ false
+        → OnErr result (CutsSuites (trial_of (F.file files.old) bench.entry) so_far.old (L.log link.old)
         (map (λ n. n.now) names.now) (O.written output.old) (O.written output.new)) }
     ensures flag { O.has_failed output.new ≡ is_unwritten result }
     ensures same_printed { F.is_printed files.new ≡ F.is_printed files.old }

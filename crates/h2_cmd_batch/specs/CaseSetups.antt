@@ -39,7 +39,7 @@ setup_asked files file (Some (batch asked)) = None
 setup_asked files file (Some (serve config port count watched book)) = None
 setup_asked files file (Some (explain config view from book)) = None
 setup_asked files file (Some (check config book bless in_place junit names)) = None
-setup_asked files file (Some (against config book port wait judge junit names)) = None
+setup_asked files file (Some (against config book port wait path authority judge junit names)) = None
 setup_asked files file None = None
 
 -- what words say, if they are words
