@@ -78,7 +78,8 @@ pub fn judge_server<F: Files, L: Link, O: Output, E: Output>(
 ) -> u8
     requires writer { O.has_failed output.old ≡ false }
     ensures printed { F.is_printed files.old ≡ true → O.has_failed output.new ≡ false
-        → EndsAgainst (task_of plan.now) (F.file files.old) (L.log link.old) (F.file files.new) (L.log link.new) (O.written output.old) (O.written output.new) result }
+        → EndsAgainst (task_of plan.now) (F.file files.old) (L.log link.old) (F.file files.new) (L.log link.new)
+        (O.written output.old) (O.written output.new) result }
     ensures alone { F.is_printed files.old ≡ true → ChangesAlone plan.now.junit.now (F.file files.old) (F.file files.new) }
     ensures flag { O.has_failed output.new ≡ (result == 3) }
 {

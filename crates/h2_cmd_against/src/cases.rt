@@ -132,7 +132,8 @@ fn judge_worded<F: Files, L: Link>(
     octets: Vec<u8>,
     so_far: &mut SoFar,
 ) -> Result<(), AllocError>
-    ensures result { F.is_printed files.old ≡ true → OnOk result (JudgesSetup (setup_of (F.file files.old) case.entry.file.now (map (λ l. l.now) case.entry.lines.now))
+    ensures result { F.is_printed files.old ≡ true → OnOk result (JudgesSetup
+        (setup_of (F.file files.old) case.entry.file.now (map (λ l. l.now) case.entry.lines.now))
         (trial_of (F.file files.old) bench.entry) (text_of case.entry) octets.items so_far.old (L.log link.old) so_far.new (L.log link.new)) }
     ensures same_printed { F.is_printed files.new ≡ F.is_printed files.old }
     ensures same_files { F.file files.new ≡ F.file files.old }

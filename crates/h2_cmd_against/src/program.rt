@@ -39,7 +39,8 @@ fn suite_of<'n, F: Files, L: Link>(
     file: &'n str,
     so_far: &mut SoFar,
 ) -> Result<Suite<'n>, AllocError>
-    ensures results { F.is_printed files.old ≡ true → IfOk result (λ suite. IsSuite (trial_of (F.file files.old) bench.entry) so_far.old (L.log link.old) file.now (results_in suite) so_far.new (L.log link.new)) }
+    ensures results { F.is_printed files.old ≡ true → IfOk result (λ suite.
+        IsSuite (trial_of (F.file files.old) bench.entry) so_far.old (L.log link.old) file.now (results_in suite) so_far.new (L.log link.new)) }
     ensures same_printed { F.is_printed files.new ≡ F.is_printed files.old }
     ensures same_files { F.file files.new ≡ F.file files.old }
 {
@@ -60,7 +61,8 @@ fn print_file<'n, F: Files, L: Link, O: Output>(
     output: &mut O,
 ) -> Result<Suite<'n>, Stop>
     requires writer { O.has_failed output.old ≡ false }
-    ensures results { F.is_printed files.old ≡ true → IfOk result (λ suite. IsSuite (trial_of (F.file files.old) bench.entry) so_far.old (L.log link.old) file.now (results_in suite) so_far.new (L.log link.new)) }
+    ensures results { F.is_printed files.old ≡ true → IfOk result (λ suite.
+        IsSuite (trial_of (F.file files.old) bench.entry) so_far.old (L.log link.old) file.now (results_in suite) so_far.new (L.log link.new)) }
     ensures written { IfOk result (λ suite. Appends (O.written output.old) (O.written output.new) suite.results.items) }
     ensures kept { O.has_failed output.new ≡ false → OnErr result (O.written output.new ≡ O.written output.old) }
     ensures flag { O.has_failed output.new ≡ is_unwritten result }
@@ -89,7 +91,8 @@ pub fn print_files<'n, F: Files, L: Link, O: Output>(
     output: &mut O,
 ) -> Result<Vec<Suite<'n>>, Stop>
     requires writer { O.has_failed output.old ≡ false }
-    ensures results { F.is_printed files.old ≡ true → IfOk result (λ suites. GainsSuites false (trial_of (F.file files.old) bench.entry) so_far.old (L.log link.old)
+    ensures results { F.is_printed files.old ≡ true → IfOk result (λ suites.
+        GainsSuites false (trial_of (F.file files.old) bench.entry) so_far.old (L.log link.old)
         (map (λ n. n.now) names.now) (map results_in suites.items) so_far.new (L.log link.new) (O.written output.old) (O.written output.new)) }
     ensures cut { F.is_printed files.old ≡ true → O.has_failed output.new ≡ false
         → OnErr result (CutsSuites (trial_of (F.file files.old) bench.entry) so_far.old (L.log link.old)
@@ -170,7 +173,8 @@ pub fn print_end<F: Files, O: Output, E: Output>(
 ) -> u8
     requires writer { O.has_failed output.old ≡ false }
     ensures printed { F.is_printed files.old ≡ true → O.has_failed output.new ≡ false
-        → PrintsSome (λ t. IsEnd plan.now.junit.now (F.file files.old) so_far.now (map results_in suites.now) (F.file files.new) t) (O.written output.old) (O.written output.new) result }
+        → PrintsSome (λ t. IsEnd plan.now.junit.now (F.file files.old) so_far.now (map results_in suites.now) (F.file files.new) t)
+        (O.written output.old) (O.written output.new) result }
     ensures alone { F.is_printed files.old ≡ true → ChangesAlone plan.now.junit.now (F.file files.old) (F.file files.new) }
     ensures flag { O.has_failed output.new ≡ (result == 3) }
 {
