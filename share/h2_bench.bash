@@ -13,7 +13,7 @@ _h2_bench() {
         debug) words="--streams --credit --table --window --frame --book --why --quiet --in --raw --prompt --help" ;;
         serve) words="--streams --credit --table --window --frame --explain --times --record --json --color --strict --full --brief --errors --stream --book --why --quiet --help" ;;
         explain) words="--streams --credit --table --window --frame --json --color --strict --full --brief --errors --stream --book --why --quiet --in --raw --help" ;;
-        check) words="--streams --credit --table --window --frame --book --bless --in-place --junit --against --wait --judge --quiet --help" ;;
+        check) words="--streams --credit --table --window --frame --book --bless --in-place --junit --against --wait --path --authority --judge --quiet --help" ;;
     esac
     if [[ $current == -* ]]; then
         mapfile -t COMPREPLY < <(compgen -W "$words" -- "$current")

@@ -95,5 +95,7 @@ complete -c h2_bench -n '__fish_seen_subcommand_from check' -l in-place -d 'With
 complete -c h2_bench -n '__fish_seen_subcommand_from check' -l junit -r -F -d 'Writes the results as JUnit XML into this file too'
 complete -c h2_bench -n '__fish_seen_subcommand_from check' -l against -x -d 'Plays the cases to the server that listens on this port of 127.0.0.1, and judges it'
 complete -c h2_bench -n '__fish_seen_subcommand_from check' -l wait -x -d 'With --against: the milliseconds without an octet after which the next item is sent, 0 to 1000; 15 where none is given'
+complete -c h2_bench -n '__fish_seen_subcommand_from check' -l path -x -d 'METHOD=PATH: requests of the cases with this method go to this path'
+complete -c h2_bench -n '__fish_seen_subcommand_from check' -l authority -x -d 'Requests of the cases have this where they have localhost, as in :authority'
 complete -c h2_bench -n '__fish_seen_subcommand_from check' -l judge -d 'Judges a server by octets that were recorded: the first FILE has the client'\''s, the second the server'\''s, the others have cases'
 complete -c h2_bench -n '__fish_seen_subcommand_from check' -l quiet -d 'Writes nothing to standard error where something is refused'

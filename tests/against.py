@@ -15,6 +15,7 @@ import sys
 import tempfile
 import threading
 import time
+import xml.etree.ElementTree as ElementTree
 
 sys.dont_write_bytecode = True
 import script  # noqa: E402
@@ -161,12 +162,67 @@ def recorded(program, folder, case):
         expect(f"a recorded server {title}", f"# same {same}," in output and status == 1 - same, (status, output, errors))
 
 
+# PING on stream 1 is PROTOCOL_ERROR (RFC 9113, 6.7): what the server does, the last word of the line of TAP, and what JUnit XML has in the case.
+VERDICTS = [
+    ("the same", "GOAWAY 00 0 x0000000000000001", "ok 1", None),
+    ("allowed: INTERNAL_ERROR (5.4)", "GOAWAY 00 0 x0000000000000002", "ok 1", None),
+    ("doubtful: another code", "GOAWAY 00 0 x0000000000000004", "# TODO doubtful", "skipped"),
+    ("broken: an answer", "PING 01 1 x0102030405060708", "not ok 1", "failure"),
+]
+
+
+def as_xml(program, folder):
+    """Each verdict, and a case that is skipped, as TAP and as JUnit XML."""
+    lines = "PREFACE\nSETTINGS 00 0 -\nPING 00 1 x0102030405060708\n"
+    with open(f"{folder}/verdicts.h2", "w", encoding="utf-8") as file:
+        file.write(f";# A <title> # 1\n{lines};# Other octets\nPREFACE\nPING 00 0 x0102030405060708\n")
+    with open(f"{folder}/client", "wb") as file:
+        file.write(script.PREFACE + SETTINGS + script.octets("PING 00 1 x0102030405060708"))
+    for title, frame, words, element in VERDICTS:
+        with open(f"{folder}/server", "wb") as file:
+            file.write(SETTINGS + ACK + script.octets(frame))
+        output, errors, status = check(program, "--judge", "--junit", f"{folder}/out.xml", f"{folder}/client", f"{folder}/server", f"{folder}/verdicts.h2")
+        suite = ElementTree.parse(f"{folder}/out.xml").getroot()[0]
+        judged, skipped = suite
+        expect(f"{title}: the line of TAP", words in output.splitlines()[1] and status == (element == "failure"), (status, output, errors))
+        expect(f"{title}: the counts of XML", (suite.get("tests"), suite.get("failures"), suite.get("skipped")) == ("2", str(int(element == "failure")), str(1 + (element == "skipped"))), suite.attrib)
+        expect(f"{title}: the XML of the case", judged.get("name") == "A <title> \\# 1" and [child.tag for child in judged] == ([element] if element else []), ElementTree.tostring(judged))
+        expect(f"{title}: the XML of the one that is skipped", skipped[0].tag == "skipped" and skipped[0].get("message") == "the client sent other octets", ElementTree.tostring(skipped))
+
+
+# The lines of a case, and the same as they go out for `--path PUT=/up --authority a.example`.
+AIMS = [
+    ('HEADERS 05 1 hi2,i6,i4,n1="localhost"', 'HEADERS 05 1 hi2,i6,i4,n1="a.example"'),
+    ('HEADERS 05 1 hn2="PUT",i6,i4,n1="localhost",n38="localhost"', 'HEADERS 05 1 hn2="PUT",i6,n4="/up",n1="a.example",n38="a.example"'),
+    ('HEADERS 05 1 ha2="PUT",i6,a4="/x",a1="localhost"', 'HEADERS 05 1 ha2="PUT",i6,a4="/up",a1="a.example"'),
+    ('HEADERS 05 1 hn2="PUT",i6,n4="x",n1="other"', 'HEADERS 05 1 hn2="PUT",i6,n4="x",n1="other"'),
+    ('HEADERS 05 1 hn2="PUT",i6,i4,n1="localhost",n"x"="a,i4"', 'HEADERS 05 1 hn2="PUT",i6,i4,n1="localhost",n"x"="a,i4"'),
+    ("HEADERS 05 1 x82868401096c6f63616c686f7374", "HEADERS 05 1 x82868401096c6f63616c686f7374"),
+]
+
+
+def aimed(program, folder):
+    """What goes out: `--judge` passes over a case whose octets are not the recorded ones."""
+    for line, sent in AIMS:
+        for name, text in (("client", sent), ("case.h2", line)):
+            octets = script.PREFACE + SETTINGS + script.octets(text)
+            with open(f"{folder}/{name}", "wb") as file:
+                file.write(octets if name == "client" else f"PREFACE\nSETTINGS 00 0 -\n{text}\n".encode())
+        output, errors, status = check(program, "--judge", "--path", "PUT=/up", "--authority", "a.example", f"{folder}/client", f"{folder}/server", f"{folder}/case.h2")
+        expect(f"{line} goes out as {sent}", "other octets" not in output and output.startswith("TAP"), (status, output, errors))
+    for words in (("--path", "POST"), ("--path", "=/x"), ("--path", "POST=x"), ("--authority", 'a"b')):
+        output, errors, status = check(program, "--against", "1", *words, f"{folder}/case.h2")
+        expect(f"{words} are refused", status == 2 and output.startswith("error: invalid value"), (status, output))
+
+
 def main(program):
     with tempfile.TemporaryDirectory() as folder:
         case = f"{folder}/ping.h2"
         with open(case, "w", encoding="utf-8") as file:
             file.write(CASE)
         recorded(program, folder, case)
+        as_xml(program, folder)
+        aimed(program, folder)
         nothing_listens(program, case)
         scripted_servers(program, case)
     own_server(program)

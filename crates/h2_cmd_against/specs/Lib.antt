@@ -1,3 +1,4 @@
+pub mod Aims
 pub mod Ends
 pub mod Files
 pub mod Program

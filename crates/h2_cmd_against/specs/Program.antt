@@ -6,6 +6,8 @@ use Rattle.std.specs.Option.{option_map}
 use Rattle.h2_spec.specs.Requests.Answer.{Entry}
 use Rattle.h2_io.specs.HexText.{octets_spelled}
 use Rattle.h2_cmd_args.specs.Grammar.{BookAsked}
+use Rattle.h2_cmd_args.specs.Plans.{book_asked}
+use Rattle.h2_cmd_args.specs.declared.command.Against.{Against}
 use Rattle.h2_cmd_batch.specs.Books.{book_said}
 use Rattle.h2_cmd_batch.specs.CommandEnd.{PrintsSome}
 use Rattle.h2_cmd_batch.specs.Printing.{Printed, failed, failed_after, refused}
@@ -15,12 +17,33 @@ use Rattle.h2_cmd_book_file.specs.Entries.{Directory}
 use Rattle.h2_cmd_book_file.specs.Files.{Replaces}
 use Rattle.h2_cmd_check.specs.JUnit.{FileResults, junit_file}
 use Rattle.h2_cmd_exchange.specs.Links.{LinkEvent}
-use Rattle.h2_cmd_against.specs.Files.{JudgesAll, cases_with}
+use Rattle.h2_cmd_against.specs.Aims.{Aimed, aim_said}
+use Rattle.h2_cmd_against.specs.Files.{JudgesAll, Trial, cases_with}
 use Rattle.h2_cmd_against.specs.Results.{SoFar, emptied, end_text, is_passed, no_case}
 use Rattle.h2_cmd_against.specs.Servers.{Surveys}
 use Rattle.h2_cmd_against.specs.declared.program.Stop.{Stop}
 use Rattle.h2_cmd_against.specs.declared.program.Stop.TheVariants as stop
 use Rattle.h2_cmd_against.specs.declared.server.Server.{Server}
+
+-- ---- what is asked for
+
+-- whether octets are judged that were recorded, where requests go, the file that is to have the results as XML, the book, and
+-- the files
+pub record Task : Type 0 where
+  pub recorded : Bool
+  pub aim : Aimed
+  pub junit : List ℕ
+  pub book : BookAsked
+  pub names : List (List ℕ)
+
+abbrev pub task_of : Against → Task
+task_of a = record {
+  recorded = a.judge;
+  aim = aim_said a.path.now a.authority.now;
+  junit = a.junit.now;
+  book = book_asked a.book;
+  names = map (λ n. n.now) a.files.items;
+}
 
 -- ---- what is known of the server
 
@@ -45,14 +68,14 @@ KnowsRecorded files (client ∷ []) log s log' = ⊥
 KnowsRecorded files (client ∷ server ∷ names) log s log' = IsRecorded files client server s × (log' ≡ log)
 
 -- what is known of a server: by what was recorded, or by two requests
-abbrev pub Knows : (recorded : Bool) → Directory → (names : List (List ℕ)) → Option (List LinkEvent) → Server → Option (List LinkEvent) → Type 0
-Knows true files names log s log' = KnowsRecorded files names log s log'
-Knows false files names log s log' = Surveys log (Some s) log'
+abbrev pub Knows : Aimed → (recorded : Bool) → Directory → (names : List (List ℕ)) → Option (List LinkEvent) → Server → Option (List LinkEvent) → Type 0
+Knows aim true files names log s log' = KnowsRecorded files names log s log'
+Knows aim false files names log s log' = Surveys aim log (Some s) log'
 
 -- nothing is known: a file can't be read, or nothing listens
-abbrev pub Misses : (recorded : Bool) → Option (List LinkEvent) → BenchFault → Option (List LinkEvent) → Type 0
-Misses true log fault log' = fault ≡ Read
-Misses false log fault log' = (fault ≡ Socket) × Surveys log None log'
+abbrev pub Misses : Aimed → (recorded : Bool) → Option (List LinkEvent) → BenchFault → Option (List LinkEvent) → Type 0
+Misses aim true log fault log' = fault ≡ Read
+Misses aim false log fault log' = (fault ≡ Socket) × Surveys aim log None log'
 
 -- the files that have cases
 abbrev pub case_names : {A : Type 0} → (recorded : Bool) → List A → List A
@@ -62,9 +85,9 @@ case_names false names = names
 -- ---- the results of files
 
 -- the results of the cases of a file
-abbrev pub IsSuite : Directory → Server → List Entry → SoFar → Option (List LinkEvent) → (name : List ℕ) → FileResults → SoFar → Option (List LinkEvent) → Type 0
-IsSuite files server book s log name suite s' log' =
-    (mid : SoFar) × JudgesAll files server book name (cases_with (files name)) (emptied s) log mid log'
+abbrev pub IsSuite : Trial → SoFar → Option (List LinkEvent) → (name : List ℕ) → FileResults → SoFar → Option (List LinkEvent) → Type 0
+IsSuite t s log name suite s' log' =
+    (mid : SoFar) × JudgesAll t name (cases_with (t.files name)) (emptied s) log mid log'
     × (suite ≡ record { file = name; results = mid.text }) × (s' ≡ emptied mid)
 
 -- it is cut short, as memory was refused
@@ -73,26 +96,26 @@ Stops false suites = ⊥
 Stops true suites = suites ≡ []
 
 -- those of files, one after another; or of some first files
-abbrev pub AreSuites : (cut : Bool) → Directory → Server → List Entry → SoFar → Option (List LinkEvent) → (names : List (List ℕ)) → List FileResults → SoFar → Option (List LinkEvent) → Type 0
-AreSuites cut files server book s log [] suites s' log' = (suites ≡ []) × (s' ≡ s) × (log' ≡ log)
-AreSuites cut files server book s log (name ∷ names) suites s' log' =
+abbrev pub AreSuites : (cut : Bool) → Trial → SoFar → Option (List LinkEvent) → (names : List (List ℕ)) → List FileResults → SoFar → Option (List LinkEvent) → Type 0
+AreSuites cut t s log [] suites s' log' = (suites ≡ []) × (s' ≡ s) × (log' ≡ log)
+AreSuites cut t s log (name ∷ names) suites s' log' =
     Stops cut suites
-    ⊎ ((suite : FileResults) × (mid : SoFar) × (between : Option (List LinkEvent)) × IsSuite files server book s log name suite mid between
-    × (rest : List FileResults) × (suites ≡ suite ∷ rest) × AreSuites cut files server book mid between names rest s' log')
+    ⊎ ((suite : FileResults) × (mid : SoFar) × (between : Option (List LinkEvent)) × IsSuite t s log name suite mid between
+    × (rest : List FileResults) × (suites ≡ suite ∷ rest) × AreSuites cut t mid between names rest s' log')
 
 -- their text
 abbrev pub texts : List FileResults → List ℕ
 texts suites = flat_map (λ s. s.results) suites
 
 -- the output gained it
-abbrev pub GainsSuites : (cut : Bool) → Directory → Server → List Entry → SoFar → Option (List LinkEvent) → (names : List (List ℕ)) → List FileResults → SoFar → Option (List LinkEvent) → (before after : Option (List ℕ)) → Type 0
-GainsSuites cut files server book s log names suites s' log' before after =
-    AreSuites cut files server book s log names suites s' log' × Appends before after (texts suites)
+abbrev pub GainsSuites : (cut : Bool) → Trial → SoFar → Option (List LinkEvent) → (names : List (List ℕ)) → List FileResults → SoFar → Option (List LinkEvent) → (before after : Option (List ℕ)) → Type 0
+GainsSuites cut t s log names suites s' log' before after =
+    AreSuites cut t s log names suites s' log' × Appends before after (texts suites)
 
 -- that of some first files
-abbrev pub CutsSuites : Directory → Server → List Entry → SoFar → Option (List LinkEvent) → (names : List (List ℕ)) → (before after : Option (List ℕ)) → Type 0
-CutsSuites files server book s log names before after =
-    (suites : List FileResults) × (s' : SoFar) × (log' : Option (List LinkEvent)) × GainsSuites true files server book s log names suites s' log' before after
+abbrev pub CutsSuites : Trial → SoFar → Option (List LinkEvent) → (names : List (List ℕ)) → (before after : Option (List ℕ)) → Type 0
+CutsSuites t s log names before after =
+    (suites : List FileResults) × (s' : SoFar) × (log' : Option (List LinkEvent)) × GainsSuites true t s log names suites s' log' before after
 
 -- a write failed
 abbrev pub is_unwritten : {A : Type 0} → Result A Stop → Bool
@@ -121,49 +144,52 @@ IsEnd junit files s suites files' t =
     ⊎ ((files' ≡ files) × ((fault : BenchFault) × (t ≡ failed fault)))
 
 -- all results, and the lines after them; the status is 0 where no rule is broken and each case can be played
-pub record IsWhole (junit : List ℕ) (files : Directory) (server : Server) (book : List Entry) (names : List (List ℕ)) (log : Option (List LinkEvent)) (files' : Directory) (log' : Option (List LinkEvent)) (t : Printed) : Type 0 where
+pub record IsWhole (junit : List ℕ) (trial : Trial) (names : List (List ℕ)) (log : Option (List LinkEvent)) (files' : Directory) (log' : Option (List LinkEvent)) (t : Printed) : Type 0 where
   pub so_far : SoFar
   pub suites : List FileResults
-  pub are_suites : AreSuites false files server book no_case log names suites so_far log'
-  pub filed : IsFiled junit files suites files'
+  pub are_suites : AreSuites false trial no_case log names suites so_far log'
+  pub filed : IsFiled junit trial.files suites files'
   pub whole : t ≡ record { text = version_line ++ texts suites ++ end_text so_far.counts so_far.rules; status = status_of (is_passed so_far.counts) }
 
 -- or those of some first files, and then a fault: memory was refused, or the file was not written
-pub record IsCut (files : Directory) (server : Server) (book : List Entry) (names : List (List ℕ)) (log : Option (List LinkEvent)) (files' : Directory) (t : Printed) : Type 0 where
+pub record IsCut (trial : Trial) (names : List (List ℕ)) (log : Option (List LinkEvent)) (files' : Directory) (t : Printed) : Type 0 where
   pub so_far : SoFar
   pub suites : List FileResults
   pub after : Option (List LinkEvent)
-  pub are_suites : AreSuites true files server book no_case log names suites so_far after
-  pub kept : files' ≡ files
+  pub are_suites : AreSuites true trial no_case log names suites so_far after
+  pub kept : files' ≡ trial.files
   pub fault : BenchFault
   pub whole : t ≡ failed_after (version_line ++ texts suites) fault
 
-abbrev pub IsJudged : (junit : List ℕ) → Directory → Server → List Entry → (names : List (List ℕ)) → Option (List LinkEvent) → Directory → Option (List LinkEvent) → Printed → Type 0
-IsJudged junit files server book names log files' log' t =
-    IsWhole junit files server book names log files' log' t ⊎ IsCut files server book names log files' t
+abbrev pub IsJudged : (junit : List ℕ) → Trial → (names : List (List ℕ)) → Option (List LinkEvent) → Directory → Option (List LinkEvent) → Printed → Type 0
+IsJudged junit trial names log files' log' t = IsWhole junit trial names log files' log' t ⊎ IsCut trial names log files' t
 
 -- nothing was judged
-abbrev pub IsMissed : (recorded : Bool) → Directory → Option (List LinkEvent) → Directory → Option (List LinkEvent) → Printed → Type 0
-IsMissed recorded files log files' log' t = (fault : BenchFault) × ((fault ≡ NoMemory) ⊎ Misses recorded log fault log') × (files' ≡ files) × (t ≡ failed fault)
+abbrev pub IsMissed : Task → Directory → Option (List LinkEvent) → Directory → Option (List LinkEvent) → Printed → Type 0
+IsMissed task files log files' log' t =
+    (fault : BenchFault) × ((fault ≡ NoMemory) ⊎ Misses task.aim task.recorded log fault log') × (files' ≡ files) × (t ≡ failed fault)
+
+-- the cases of a task
+abbrev pub trial : Task → Directory → Server → List Entry → Trial
+trial task files server book = record { files = files; aim = task.aim; server = server; book = book }
 
 -- what is known of the server comes first
-abbrev pub IsJudgedBy : (recorded : Bool) → (junit : List ℕ) → Directory → List Entry → (names : List (List ℕ)) → Option (List LinkEvent) → Directory → Option (List LinkEvent) → Printed → Type 0
-IsJudgedBy recorded junit files book names log files' log' t =
-    IsMissed recorded files log files' log' t
-    ⊎ ((server : Server) × (mid : Option (List LinkEvent)) × Knows recorded files names log server mid
-    × IsJudged junit files server book (case_names recorded names) mid files' log' t)
+abbrev pub IsJudgedBy : Task → Directory → List Entry → Option (List LinkEvent) → Directory → Option (List LinkEvent) → Printed → Type 0
+IsJudgedBy task files book log files' log' t =
+    IsMissed task files log files' log' t
+    ⊎ ((server : Server) × (mid : Option (List LinkEvent)) × Knows task.aim task.recorded files task.names log server mid
+    × IsJudged task.junit (trial task files server book) (case_names task.recorded task.names) mid files' log' t)
 
 -- with a book that may be refused
-abbrev pub IsJudgedWith : Result (List Entry) ℕ → (recorded : Bool) → (junit : List ℕ) → Directory → (names : List (List ℕ)) → Option (List LinkEvent) → Directory → Option (List LinkEvent) → Printed → Type 0
-IsJudgedWith (Err fault) recorded junit files names log files' log' t = (files' ≡ files) × (t ≡ refused fault)
-IsJudgedWith (Ok book) recorded junit files names log files' log' t = IsJudgedBy recorded junit files book names log files' log' t
+abbrev pub IsJudgedWith : Result (List Entry) ℕ → Task → Directory → Option (List LinkEvent) → Directory → Option (List LinkEvent) → Printed → Type 0
+IsJudgedWith (Err fault) task files log files' log' t = (files' ≡ files) × (t ≡ refused fault)
+IsJudgedWith (Ok book) task files log files' log' t = IsJudgedBy task files book log files' log' t
 
 -- or memory was refused before anything was written
-abbrev pub IsAgainst : (recorded : Bool) → (junit : List ℕ) → Directory → BookAsked → (names : List (List ℕ)) → Option (List LinkEvent) → Directory → Option (List LinkEvent) → Printed → Type 0
-IsAgainst recorded junit files book names log files' log' t =
-    ((files' ≡ files) × (t ≡ failed NoMemory)) ⊎ IsJudgedWith (book_said files book) recorded junit files names log files' log' t
+abbrev pub IsSaid : Result (List Entry) ℕ → Task → Directory → Option (List LinkEvent) → Directory → Option (List LinkEvent) → Printed → Type 0
+IsSaid said task files log files' log' t = ((files' ≡ files) × (t ≡ failed NoMemory)) ⊎ IsJudgedWith said task files log files' log' t
 
 -- where no write to the output failed: it gained such a text, and the status is its
-abbrev pub EndsAgainst : (recorded : Bool) → (junit : List ℕ) → Directory → BookAsked → (names : List (List ℕ)) → Option (List LinkEvent) → Directory → Option (List LinkEvent) → (before after : Option (List ℕ)) → (status : ℕ) → Type 0
-EndsAgainst recorded junit files book names log files' log' before after status =
-    PrintsSome (λ t. IsAgainst recorded junit files book names log files' log' t) before after status
+abbrev pub EndsAgainst : Task → Directory → Option (List LinkEvent) → Directory → Option (List LinkEvent) → (before after : Option (List ℕ)) → (status : ℕ) → Type 0
+EndsAgainst task files log files' log' before after status =
+    PrintsSome (λ t. IsSaid (book_said files task.book) task files log files' log' t) before after status

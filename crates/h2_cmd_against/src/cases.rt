@@ -1,18 +1,20 @@
 //! The result of a case of a file. Definitions: `specs/Files.antt`.
 
-ghost use Rattle.std.specs.Prelude.{◌≡◌, OnOk, map, option_map, true};
+ghost use Rattle.std.specs.Prelude.{◌≡◌, [], OnOk, map, option_map, true};
 ghost use Rattle.h2_cmd_cases.specs.Files.{title_in};
 ghost use Rattle.h2_cmd_batch.specs.CaseSetups.{setup_of};
-ghost use Rattle.h2_cmd_against.specs.Files.{JudgesCase, JudgesItems, JudgesOctets, JudgesSent, JudgesSetup, RefusesFor, is_tag, is_tagged};
+ghost use Rattle.h2_cmd_against.specs.Files.{JudgesCase, JudgesItems, JudgesOctets, JudgesSent, JudgesSetup, is_tag, is_tagged, text_of, trial_of};
+ghost use Rattle.h2_cmd_against.specs.declared.ends.CaseEnd.TheVariants.{Refused};
 ghost use Rattle.h2_cmd_against.specs.Results.{Adds};
 
+use crate::aim::{Aim, aimed_octets};
 use crate::ends::{CaseEnd, Refusal, end_with, skip_of};
 use crate::results::SoFar;
 use crate::server::Server;
 use h2_cmd_batch::{Case, OwnFault, own_of};
 use h2_cmd_book_file::Files;
 use h2_cmd_cases::{have_words, title_of};
-use h2_cmd_check::{Title, octets_of_lines};
+use h2_cmd_check::Title;
 use h2_cmd_exchange::link::Link;
 use h2_cmd_items::case::{CaseItems, case_items};
 use h2_cmd_items::items::ItemsFault;
@@ -27,6 +29,8 @@ pub struct Bench<'b> {
     /// The book of cases that have no words of their own.
     pub book: &'b Book<Global>,
     pub server: &'b Server,
+    /// Where requests go.
+    pub aim: Aim<'b>,
     /// How many milliseconds without an octet end a wait of the first run.
     pub millis: u64,
 }
@@ -78,7 +82,7 @@ fn refuse(
     why: Refusal,
     so_far: &mut SoFar,
 ) -> Result<(), AllocError>
-    ensures { OnOk result (RefusesFor case.entry.file.now (title_in (map (λ l. l.now) case.entry.lines.now)) so_far.old so_far.new) }
+    ensures { OnOk result (Adds case.entry.file.now (title_in (map (λ l. l.now) case.entry.lines.now)) [] (Refused why.entry) so_far.old so_far.new) }
 {
     add(alloc, case, &[], &CaseEnd::Refused(why), so_far)
 }
@@ -92,12 +96,10 @@ fn judge_items<L: Link>(
     items: &CaseItems,
     so_far: &mut SoFar,
 ) -> Result<(), AllocError>
-    ensures { OnOk result (JudgesItems bench.entry.server.now items.now case.entry.file.now (map (λ l. l.now) case.entry.lines.now) so_far.old (L.log link.old) so_far.new (L.log link.new)) }
+    ensures { OnOk result (JudgesItems bench.entry.server.now items.now (text_of case.entry) so_far.old (L.log link.old) so_far.new (L.log link.new)) }
 {
-    match end_with(alloc, bench.server, link, items, bench.millis) {
-        Ok(end) => add(alloc, case, items.judged.as_slice(), &end, so_far),
-        Err(error) => Err(error),
-    }
+    let end = end_with(alloc, bench.server, link, items, bench.millis)?;
+    add(alloc, case, items.judged.as_slice(), &end, so_far)
 }
 
 /// Adds the result of a case with these octets.
@@ -109,7 +111,8 @@ fn judge_octets<L: Link>(
     octets: Vec<u8>,
     so_far: &mut SoFar,
 ) -> Result<(), AllocError>
-    ensures { OnOk result (JudgesOctets bench.entry.server.now bench.entry.book.now case.entry.file.now (map (λ l. l.now) case.entry.lines.now) octets.items so_far.old (L.log link.old) so_far.new (L.log link.new)) }
+    ensures { OnOk result (JudgesOctets bench.entry.server.now bench.entry.book.now (text_of case.entry) octets.items
+        so_far.old (L.log link.old) so_far.new (L.log link.new)) }
 {
     let config = limits_of(bench.server.octets.as_slice());
     match case_items(alloc, bench.book, config, octets, is_tagged(case.lines)) {
@@ -129,8 +132,9 @@ fn judge_worded<F: Files, L: Link>(
     octets: Vec<u8>,
     so_far: &mut SoFar,
 ) -> Result<(), AllocError>
-    ensures result { F.is_printed files.old ≡ true → OnOk result (JudgesSetup bench.entry.server.now (setup_of (F.file files.old) case.entry.file.now (map (λ l. l.now) case.entry.lines.now))
-        case.entry.file.now (map (λ l. l.now) case.entry.lines.now) octets.items so_far.old (L.log link.old) so_far.new (L.log link.new)) }
+    ensures result { F.is_printed files.old ≡ true → OnOk result (JudgesSetup
+        (setup_of (F.file files.old) case.entry.file.now (map (λ l. l.now) case.entry.lines.now))
+        (trial_of (F.file files.old) bench.entry) (text_of case.entry) octets.items so_far.old (L.log link.old) so_far.new (L.log link.new)) }
     ensures same_printed { F.is_printed files.new ≡ F.is_printed files.old }
     ensures same_files { F.file files.new ≡ F.file files.old }
 {
@@ -157,8 +161,8 @@ fn judge_sent<F: Files, L: Link>(
     octets: Vec<u8>,
     so_far: &mut SoFar,
 ) -> Result<(), AllocError>
-    ensures result { F.is_printed files.old ≡ true → OnOk result (JudgesSent (F.file files.old) bench.entry.server.now bench.entry.book.now
-        case.entry.file.now (map (λ l. l.now) case.entry.lines.now) octets.items so_far.old (L.log link.old) so_far.new (L.log link.new)) }
+    ensures result { F.is_printed files.old ≡ true → OnOk result (JudgesSent (trial_of (F.file files.old) bench.entry) (text_of case.entry) octets.items
+        so_far.old (L.log link.old) so_far.new (L.log link.new)) }
     ensures same_printed { F.is_printed files.new ≡ F.is_printed files.old }
     ensures same_files { F.file files.new ≡ F.file files.old }
 {
@@ -179,12 +183,12 @@ pub fn judge_case<F: Files, L: Link>(
     case: Case<'_, '_>,
     so_far: &mut SoFar,
 ) -> Result<(), AllocError>
-    ensures result { F.is_printed files.old ≡ true → OnOk result (JudgesCase (F.file files.old) bench.entry.server.now bench.entry.book.now
-        case.entry.file.now (map (λ l. l.now) case.entry.lines.now) so_far.old (L.log link.old) so_far.new (L.log link.new)) }
+    ensures result { F.is_printed files.old ≡ true → OnOk result (JudgesCase (trial_of (F.file files.old) bench.entry) (text_of case.entry)
+        so_far.old (L.log link.old) so_far.new (L.log link.new)) }
     ensures same_printed { F.is_printed files.new ≡ F.is_printed files.old }
     ensures same_files { F.file files.new ≡ F.file files.old }
 {
-    let octets = octets_of_lines(alloc, case.lines)?;
+    let octets = aimed_octets(alloc, bench.aim, case.lines)?;
     match skip_of(bench.server, octets.as_slice()) {
         Some(why) => add(alloc, case, &[], &CaseEnd::Skipped(why), so_far),
         None => judge_sent(alloc, bench, files, link, case, octets, so_far),

@@ -359,10 +359,7 @@ fn put_rules(rules: &[Rule], out: &mut Gathered) -> Result<(), DeviceFault>
     ensures flag { out.new.failed ≡ is_err result }
 {
     for rule in rules {
-        match rule.write_to(out) {
-            Ok(()) => {}
-            Err(fault) => return Err(fault),
-        }
+        rule.write_to(out)?;
     }
     Ok(())
 }

@@ -66,10 +66,8 @@ fn end_of(
     if played.is_cut() && played.closed.is_none() {
         return Ok(CaseEnd::Skipped(Skip::Cut));
     }
-    match judge_played(alloc, items, played, status) {
-        Ok(judgement) => Ok(CaseEnd::Judged(judgement)),
-        Err(error) => Err(error),
-    }
+    let judgement = judge_played(alloc, items, played, status)?;
+    Ok(CaseEnd::Judged(judgement))
 }
 
 /// Plays a case to the server.
@@ -85,18 +83,9 @@ fn play_once<L: Link>(
     if !link.connect() {
         return Ok(CaseEnd::Refused(Refusal::NothingListens));
     }
-    let octets = items.octets.as_slice();
-    match Played::play(
-        alloc,
-        link,
-        octets,
-        items.ends.as_slice(),
-        items.asks,
-        millis,
-    ) {
-        Ok(played) => end_of(alloc, items, &played, status),
-        Err(error) => Err(error),
-    }
+    let (octets, ends) = (items.octets.as_slice(), items.ends.as_slice());
+    let played = Played::play(alloc, link, octets, ends, items.asks, millis)?;
+    end_of(alloc, items, &played, status)
 }
 
 /// Whether a verdict is that the server does the same.
@@ -129,15 +118,11 @@ fn play_twice<L: Link>(
 ) -> Result<CaseEnd, AllocError>
     ensures { IfOk result (λ end. PlaysTwice items.now status (L.log link.old) end (L.log link.new)) }
 {
-    match play_once(alloc, link, items, status, millis) {
-        Ok(end) => {
-            if is_other(&end) {
-                return play_once(alloc, link, items, status, SECOND_WAIT);
-            }
-            Ok(end)
-        }
-        Err(error) => Err(error),
+    let end = play_once(alloc, link, items, status, millis)?;
+    if is_other(&end) {
+        return play_once(alloc, link, items, status, SECOND_WAIT);
     }
+    Ok(end)
 }
 
 /// The status that a lawful request gets of the method that a case has.
@@ -166,10 +151,8 @@ pub fn end_with<L: Link>(
     if server.client.is_none() {
         return play_twice(alloc, link, items, status_for(server, items), millis);
     }
-    match judge_recorded(alloc, items, server.octets.as_slice()) {
-        Ok(judgement) => Ok(CaseEnd::Judged(judgement)),
-        Err(error) => Err(error),
-    }
+    let judgement = judge_recorded(alloc, items, server.octets.as_slice())?;
+    Ok(CaseEnd::Judged(judgement))
 }
 
 /// Whether one of two texts begins with the other.

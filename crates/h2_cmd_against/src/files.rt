@@ -1,9 +1,9 @@
 //! The results of the cases of a file. Definitions: `specs/Files.antt`.
 
-ghost use Rattle.std.specs.Prelude.{◌≡◌, ◌≤◌, None, OnOk, Some, drop, false, length, map, take, true};
+ghost use Rattle.std.specs.Prelude.{◌≡◌, ◌≤◌, Ok, OnOk, drop, false, length, map, take, true};
 ghost use Rattle.std.specs.Str.{is_utf8};
 ghost use Rattle.h2_cmd_cases.specs.Files.{cases_in};
-ghost use Rattle.h2_cmd_against.specs.Files.{JudgesAll, RefusesFor, cases_if, cases_with};
+ghost use Rattle.h2_cmd_against.specs.Files.{JudgesAll, RefusesFile, cases_if, cases_with, trial_of};
 
 use crate::cases::{Bench, judge_case};
 use crate::ends::{CaseEnd, Refusal};
@@ -43,8 +43,8 @@ fn judge_lines<F: Files, L: Link>(
     lines: &[&[u8]],
     so_far: &mut SoFar,
 ) -> Result<(), AllocError>
-    ensures results { F.is_printed files.old ≡ true → OnOk result (JudgesAll (F.file files.old) bench.entry.server.now bench.entry.book.now file.now
-        (map (λ c. Some c) (cases_in (map (λ l. l.now) lines.now))) so_far.old (L.log link.old) so_far.new (L.log link.new)) }
+    ensures results { F.is_printed files.old ≡ true → OnOk result (JudgesAll (trial_of (F.file files.old) bench.entry) file.now
+        (map (λ c. Ok c) (cases_in (map (λ l. l.now) lines.now))) so_far.old (L.log link.old) so_far.new (L.log link.new)) }
     ensures same_printed { F.is_printed files.new ≡ F.is_printed files.old }
     ensures same_files { F.file files.new ≡ F.file files.old }
 {
@@ -74,7 +74,7 @@ fn refuse_file(
     why: Refusal,
     so_far: &mut SoFar,
 ) -> Result<(), AllocError>
-    ensures { OnOk result (RefusesFor file.now None so_far.old so_far.new) }
+    ensures { OnOk result (RefusesFile why.entry file.now so_far.old so_far.new) }
 {
     let title = Title { file, title: None };
     so_far.add(alloc, title, &[], &CaseEnd::Refused(why))
@@ -100,7 +100,7 @@ fn judge_text<F: Files, L: Link>(
     text: &[u8],
     so_far: &mut SoFar,
 ) -> Result<(), AllocError>
-    ensures results { F.is_printed files.old ≡ true → OnOk result (JudgesAll (F.file files.old) bench.entry.server.now bench.entry.book.now file.now
+    ensures results { F.is_printed files.old ≡ true → OnOk result (JudgesAll (trial_of (F.file files.old) bench.entry) file.now
         (cases_if false (is_utf8 text.now) text.now) so_far.old (L.log link.old) so_far.new (L.log link.new)) }
     ensures same_printed { F.is_printed files.new ≡ F.is_printed files.old }
     ensures same_files { F.file files.new ≡ F.file files.old }
@@ -108,10 +108,8 @@ fn judge_text<F: Files, L: Link>(
     if !is_text(text) {
         return refuse_file(alloc, file, Refusal::NoText, so_far);
     }
-    match lines_in(alloc, text) {
-        Ok(lines) => judge_lines(alloc, bench, files, link, file, lines.as_slice(), so_far),
-        Err(error) => Err(error),
-    }
+    let lines = lines_in(alloc, text)?;
+    judge_lines(alloc, bench, files, link, file, lines.as_slice(), so_far)
 }
 
 /// Adds the results of the cases of a file.
@@ -125,7 +123,7 @@ pub fn judge_file<F: Files, L: Link>(
     file: &str,
     so_far: &mut SoFar,
 ) -> Result<(), AllocError>
-    ensures results { F.is_printed files.old ≡ true → OnOk result (JudgesAll (F.file files.old) bench.entry.server.now bench.entry.book.now file.now
+    ensures results { F.is_printed files.old ≡ true → OnOk result (JudgesAll (trial_of (F.file files.old) bench.entry) file.now
         (cases_with (F.file files.old file.now)) so_far.old (L.log link.old) so_far.new (L.log link.new)) }
     ensures same_printed { F.is_printed files.new ≡ F.is_printed files.old }
     ensures same_files { F.file files.new ≡ F.file files.old }

@@ -5,14 +5,17 @@ ghost use Rattle.std.specs.Prelude.{◌≡◌, ◌==◌, ◌<◌, List, ℕ, Som
 ghost use Rattle.std.specs.Io.KnownBytes.{Appends};
 ghost use Rattle.h2_cmd_check.specs.JUnit.{results_in};
 ghost use Rattle.h2_cmd_batch.specs.CommandEnd.{Prints, PrintsSome};
+ghost use Rattle.h2_cmd_batch.specs.Results.{ChangesAlone};
+ghost use Rattle.h2_cmd_against.specs.Files.{trial_of};
 ghost use Rattle.h2_cmd_against.specs.Program.{CutsSuites, GainsSuites, IsEnd, IsFiled, IsSuite, is_unwritten, status_of};
 ghost use Rattle.h2_cmd_against.specs.Results.{is_passed};
 
 use crate::cases::Bench;
 use crate::files::judge_file;
 use crate::results::SoFar;
-use h2_cmd_batch::{BenchFault, print_fault};
-use h2_cmd_book_file::{Files, FilesFault};
+use h2_cmd_args::command::Against;
+use h2_cmd_batch::{BenchFault, print_fault, write_results};
+use h2_cmd_book_file::Files;
 use h2_cmd_check::{Suite, junit_text};
 use h2_cmd_exchange::link::Link;
 use h2_io::Output;
@@ -36,19 +39,15 @@ fn suite_of<'n, F: Files, L: Link>(
     file: &'n str,
     so_far: &mut SoFar,
 ) -> Result<Suite<'n>, AllocError>
-    ensures results { F.is_printed files.old ≡ true → IfOk result (λ suite. IsSuite (F.file files.old) bench.entry.server.now bench.entry.book.now
-        so_far.old (L.log link.old) file.now (results_in suite) so_far.new (L.log link.new)) }
+    ensures results { F.is_printed files.old ≡ true → IfOk result (λ suite.
+        IsSuite (trial_of (F.file files.old) bench.entry) so_far.old (L.log link.old) file.now (results_in suite) so_far.new (L.log link.new)) }
     ensures same_printed { F.is_printed files.new ≡ F.is_printed files.old }
     ensures same_files { F.file files.new ≡ F.file files.old }
 {
     let _text = so_far.take_text(alloc);
-    match judge_file(alloc, bench, files, link, file, so_far) {
-        Ok(()) => {
-            let results = so_far.take_text(alloc);
-            Ok(Suite { file, results })
-        }
-        Err(error) => Err(error),
-    }
+    judge_file(alloc, bench, files, link, file, so_far)?;
+    let results = so_far.take_text(alloc);
+    Ok(Suite { file, results })
 }
 
 /// Writes the results of the cases of a file.
@@ -62,8 +61,8 @@ fn print_file<'n, F: Files, L: Link, O: Output>(
     output: &mut O,
 ) -> Result<Suite<'n>, Stop>
     requires writer { O.has_failed output.old ≡ false }
-    ensures results { F.is_printed files.old ≡ true → IfOk result (λ suite. IsSuite (F.file files.old) bench.entry.server.now bench.entry.book.now
-        so_far.old (L.log link.old) file.now (results_in suite) so_far.new (L.log link.new)) }
+    ensures results { F.is_printed files.old ≡ true → IfOk result (λ suite.
+        IsSuite (trial_of (F.file files.old) bench.entry) so_far.old (L.log link.old) file.now (results_in suite) so_far.new (L.log link.new)) }
     ensures written { IfOk result (λ suite. Appends (O.written output.old) (O.written output.new) suite.results.items) }
     ensures kept { O.has_failed output.new ≡ false → OnErr result (O.written output.new ≡ O.written output.old) }
     ensures flag { O.has_failed output.new ≡ is_unwritten result }
@@ -92,9 +91,11 @@ pub fn print_files<'n, F: Files, L: Link, O: Output>(
     output: &mut O,
 ) -> Result<Vec<Suite<'n>>, Stop>
     requires writer { O.has_failed output.old ≡ false }
-    ensures results { F.is_printed files.old ≡ true → IfOk result (λ suites. GainsSuites false (F.file files.old) bench.entry.server.now bench.entry.book.now so_far.old (L.log link.old)
+    ensures results { F.is_printed files.old ≡ true → IfOk result (λ suites.
+        GainsSuites false (trial_of (F.file files.old) bench.entry) so_far.old (L.log link.old)
         (map (λ n. n.now) names.now) (map results_in suites.items) so_far.new (L.log link.new) (O.written output.old) (O.written output.new)) }
-    ensures cut { F.is_printed files.old ≡ true → O.has_failed output.new ≡ false → OnErr result (CutsSuites (F.file files.old) bench.entry.server.now bench.entry.book.now so_far.old (L.log link.old)
+    ensures cut { F.is_printed files.old ≡ true → O.has_failed output.new ≡ false
+        → OnErr result (CutsSuites (trial_of (F.file files.old) bench.entry) so_far.old (L.log link.old)
         (map (λ n. n.now) names.now) (O.written output.old) (O.written output.new)) }
     ensures flag { O.has_failed output.new ≡ is_unwritten result }
     ensures same_printed { F.is_printed files.new ≡ F.is_printed files.old }
@@ -114,30 +115,27 @@ pub fn print_files<'n, F: Files, L: Link, O: Output>(
     Ok(suites)
 }
 
-/// Writes results as JUnit XML to a file, if there is to be one. Where it can't be written, `errors` gets a sentence.
+/// Writes results as JUnit XML to the file that a plan names, if it names one. Where it can't be written, `errors` gets a sentence.
 fn write_junit<F: Files, E: Output>(
     alloc: Global,
-    junit: &str,
+    plan: &Against<'_>,
     suites: &[Suite<'_>],
     files: &mut F,
     errors: &mut E,
 ) -> Result<(), BenchFault>
-    ensures filed { F.is_printed files.old ≡ true → OnOk result (IsFiled junit.now (F.file files.old) (map results_in suites.now) (F.file files.new)) }
+    ensures filed { F.is_printed files.old ≡ true → OnOk result (IsFiled plan.now.junit.now (F.file files.old) (map results_in suites.now) (F.file files.new)) }
     ensures kept { OnErr result (F.file files.new ≡ F.file files.old) }
+    ensures alone { F.is_printed files.old ≡ true → ChangesAlone plan.now.junit.now (F.file files.old) (F.file files.new) }
 {
-    if junit.is_empty() {
+    if plan.junit.is_empty() {
         return Ok(());
     }
-    let Ok(text) = junit_text(alloc, suites) else {
-        return Err(BenchFault::NoMemory);
-    };
-    match files.replace(alloc, junit, text.as_slice()) {
-        Ok(()) => Ok(()),
-        Err(FilesFault::NoMemory) => Err(BenchFault::NoMemory),
-        Err(FilesFault::Failed | FilesFault::TooLong) => {
-            let _ = errors.write(b"the results can't be written to the file of --junit.\n");
-            Err(BenchFault::Write)
+    match junit_text(alloc, suites) {
+        Ok(text) => {
+            let why = plan.book.why;
+            write_results(alloc, plan.junit, text.as_slice(), why, files, errors)
         }
+        Err(_) => Err(BenchFault::NoMemory),
     }
 }
 
@@ -166,7 +164,7 @@ fn print_octets<O: Output>(output: &mut O, octets: &[u8], status: u8) -> u8
 /// Writes the lines after the results, and before them the results to the file that is to have them. Gives the status.
 pub fn print_end<F: Files, O: Output, E: Output>(
     alloc: Global,
-    junit: &str,
+    plan: &Against<'_>,
     so_far: &SoFar,
     suites: &[Suite<'_>],
     files: &mut F,
@@ -175,14 +173,16 @@ pub fn print_end<F: Files, O: Output, E: Output>(
 ) -> u8
     requires writer { O.has_failed output.old ≡ false }
     ensures printed { F.is_printed files.old ≡ true → O.has_failed output.new ≡ false
-        → PrintsSome (λ t. IsEnd junit.now (F.file files.old) so_far.now (map results_in suites.now) (F.file files.new) t) (O.written output.old) (O.written output.new) result }
+        → PrintsSome (λ t. IsEnd plan.now.junit.now (F.file files.old) so_far.now (map results_in suites.now) (F.file files.new) t)
+        (O.written output.old) (O.written output.new) result }
+    ensures alone { F.is_printed files.old ≡ true → ChangesAlone plan.now.junit.now (F.file files.old) (F.file files.new) }
     ensures flag { O.has_failed output.new ≡ (result == 3) }
 {
     let text = match so_far.end(alloc) {
         Ok(text) => text,
         Err(_) => return print_fault(output, BenchFault::NoMemory),
     };
-    match write_junit(alloc, junit, suites, files, errors) {
+    match write_junit(alloc, plan, suites, files, errors) {
         Ok(()) => print_octets(output, text.as_slice(), status_of(so_far)),
         Err(fault) => print_fault(output, fault),
     }

@@ -2,8 +2,11 @@
 //! `specs/Servers.antt`.
 
 ghost use Rattle.std.specs.Prelude.{◌≡◌, IfOk};
-ghost use Rattle.h2_cmd_against.specs.Servers.{Asks, AsksGet, AsksPost, IsSurveyed, Surveys, request, status_among, status_of};
+ghost use Rattle.h2_cmd_against.specs.Aims.{aimed_by};
+ghost use Rattle.h2_cmd_against.specs.Servers.{Asks, AsksGet, AsksPost, IsSurveyed, Surveys, request, request_script, status_among, status_of};
 
+use crate::aim::{Aim, aimed_octets};
+use h2_cmd_cases::lines_in;
 use h2_cmd_exchange::link::Link;
 use h2_cmd_exchange::played::Played;
 use h2_cmd_judge::event::{Event, Seen};
@@ -11,14 +14,6 @@ use std::alloc::{AllocError, Global};
 
 /// How many milliseconds without an octet end a wait here.
 const WAIT: u64 = 150;
-
-/// The preface, SETTINGS without a setting, and a lawful GET of / with its end: three pieces of 24, 9 and 23 octets.
-static GET: [u8; 56] =
-    *b"PRI * HTTP/2.0\r\n\r\nSM\r\n\r\n\x00\x00\x00\x04\x00\x00\x00\x00\x00\x00\x00\x0e\x01\x05\x00\x00\x00\x01\x82\x86\x84\x41\x09localhost";
-
-/// The same with a POST.
-static POST: [u8; 56] =
-    *b"PRI * HTTP/2.0\r\n\r\nSM\r\n\r\n\x00\x00\x00\x04\x00\x00\x00\x00\x00\x00\x00\x0e\x01\x05\x00\x00\x00\x01\x83\x86\x84\x41\x09localhost";
 
 /// What is known of a server.
 #[derive(Drop)]
@@ -33,11 +28,23 @@ pub struct Server {
     pub client: Option<Vec<u8>>,
 }
 
-/// The octets of a request.
-fn request(is_post: bool) -> &'static [u8]
-    ensures { result.now ≡ request is_post }
+/// A lawful request with its end, after the preface and SETTINGS. The first two have 24 and 9 octets.
+fn request_script(is_post: bool) -> &'static [u8]
+    ensures { result.now ≡ request_script is_post }
 {
-    if is_post { &POST } else { &GET }
+    if is_post {
+        b"PREFACE\nSETTINGS 00 0 -\nHEADERS 05 1 hi3,i6,i4,a1=\"localhost\""
+    } else {
+        b"PREFACE\nSETTINGS 00 0 -\nHEADERS 05 1 hi2,i6,i4,a1=\"localhost\""
+    }
+}
+
+/// Its octets, as they go out.
+fn request(alloc: Global, aim: Aim<'_>, is_post: bool) -> Result<Vec<u8>, AllocError>
+    ensures { IfOk result (λ octets. octets.items ≡ request (aimed_by aim) is_post) }
+{
+    let lines = lines_in(alloc, request_script(is_post))?;
+    aimed_octets(alloc, aim, lines.as_slice())
 }
 
 /// The status of an event; 0 where it has none.
@@ -70,26 +77,34 @@ fn status_among(events: &[Seen]) -> u32
 }
 
 /// What a server does with a request; none where nothing listens.
-fn asked<L: Link>(alloc: Global, link: &mut L, is_post: bool) -> Result<Option<Played>, AllocError>
-    ensures { IfOk result (λ played. Asks is_post (L.log link.old) played (L.log link.new)) }
+fn asked<L: Link>(
+    alloc: Global,
+    aim: Aim<'_>,
+    link: &mut L,
+    is_post: bool,
+) -> Result<Option<Played>, AllocError>
+    ensures { IfOk result (λ played. Asks (aimed_by aim) is_post (L.log link.old) played (L.log link.new)) }
 {
+    let octets = request(alloc, aim, is_post)?;
     if !link.connect() {
         return Ok(None);
     }
-    match Played::play(alloc, link, request(is_post), &[24, 33, 56], false, WAIT) {
-        Ok(played) => Ok(Some(played)),
-        Err(error) => Err(error),
-    }
+    let ends = [24, 33, octets.len()];
+    let played = Played::play(alloc, link, octets.as_slice(), &ends, false, WAIT)?;
+    Ok(Some(played))
 }
 
 /// The status that a POST gets; 0 for none.
-fn status_of_post<L: Link>(alloc: Global, link: &mut L) -> Result<u32, AllocError>
-    ensures { IfOk result (λ status. AsksPost (L.log link.old) status (L.log link.new)) }
+fn status_of_post<L: Link>(
+    alloc: Global,
+    aim: Aim<'_>,
+    link: &mut L,
+) -> Result<u32, AllocError>
+    ensures { IfOk result (λ status. AsksPost (aimed_by aim) (L.log link.old) status (L.log link.new)) }
 {
-    match asked(alloc, link, true) {
-        Ok(Some(played)) => Ok(status_among(played.reading.events())),
-        Ok(None) => Ok(0),
-        Err(error) => Err(error),
+    match asked(alloc, aim, link, true)? {
+        Some(played) => Ok(status_among(played.reading.events())),
+        None => Ok(0),
     }
 }
 
@@ -107,31 +122,34 @@ fn server_of(alloc: Global, played: &Played) -> Result<Server, AllocError>
 }
 
 /// What is known of a server by a GET; none where nothing listens.
-fn server_by_get<L: Link>(alloc: Global, link: &mut L) -> Result<Option<Server>, AllocError>
-    ensures { IfOk result (λ server. AsksGet (L.log link.old) server (L.log link.new)) }
+fn server_by_get<L: Link>(
+    alloc: Global,
+    aim: Aim<'_>,
+    link: &mut L,
+) -> Result<Option<Server>, AllocError>
+    ensures { IfOk result (λ server. AsksGet (aimed_by aim) (L.log link.old) server (L.log link.new)) }
 {
-    match asked(alloc, link, false) {
-        Ok(Some(played)) => match server_of(alloc, &played) {
-            Ok(server) => Ok(Some(server)),
-            Err(error) => Err(error),
-        },
-        Ok(None) => Ok(None),
-        Err(error) => Err(error),
+    match asked(alloc, aim, link, false)? {
+        Some(played) => Ok(Some(server_of(alloc, &played)?)),
+        None => Ok(None),
     }
 }
 
 /// What is known of a server; none where nothing listens.
 ///
 /// `AllocError` where memory is refused.
-pub fn survey<L: Link>(alloc: Global, link: &mut L) -> Result<Option<Server>, AllocError>
-    ensures { IfOk result (λ server. Surveys (L.log link.old) server (L.log link.new)) }
+pub fn survey<L: Link>(
+    alloc: Global,
+    aim: Aim<'_>,
+    link: &mut L,
+) -> Result<Option<Server>, AllocError>
+    ensures { IfOk result (λ server. Surveys (aimed_by aim) (L.log link.old) server (L.log link.new)) }
 {
-    match server_by_get(alloc, link) {
-        Ok(Some(server)) => match status_of_post(alloc, link) {
-            Ok(post) => Ok(Some(Server { post, ..server })),
-            Err(error) => Err(error),
-        },
-        Ok(None) => Ok(None),
-        Err(error) => Err(error),
+    match server_by_get(alloc, aim, link)? {
+        Some(server) => {
+            let post = status_of_post(alloc, aim, link)?;
+            Ok(Some(Server { post, ..server }))
+        }
+        None => Ok(None),
     }
 }

@@ -3,9 +3,11 @@
 
 ghost use Rattle.std.specs.Prelude.{◌≡◌, ◌⊎◌, IfErr, IfOk, None, Some, map, option_map, true};
 ghost use Rattle.h2_cmd_batch.specs.declared.fault.BenchFault.TheVariants.{NoMemory, Read, Socket};
+ghost use Rattle.h2_cmd_against.specs.Aims.{aimed_by};
 ghost use Rattle.h2_cmd_against.specs.Servers.{Surveys};
 ghost use Rattle.h2_cmd_against.specs.Program.{IsRecorded, Knows, Misses, case_names, recorded_octets};
 
+use crate::aim::Aim;
 use crate::server::{Server, survey};
 use h2_cmd_batch::BenchFault;
 use h2_cmd_book_file::{Files, FilesFault};
@@ -17,10 +19,9 @@ use std::alloc::{AllocError, Global};
 fn recorded_in(alloc: Global, text: Vec<u8>) -> Result<Vec<u8>, AllocError>
     ensures { IfOk result (λ octets. octets.items ≡ recorded_octets text.items) }
 {
-    match read_hex(alloc, text.as_slice()) {
-        Ok(Some(octets)) => Ok(octets),
-        Ok(None) => Ok(text),
-        Err(error) => Err(error),
+    match read_hex(alloc, text.as_slice())? {
+        Some(octets) => Ok(octets),
+        None => Ok(text),
     }
 }
 
@@ -53,27 +54,26 @@ fn recorded_server<F: Files>(
     ensures same_printed { F.is_printed files.new ≡ F.is_printed files.old }
     ensures same_files { F.file files.new ≡ F.file files.old }
 {
-    let sent = match recorded_at(alloc, files, client) {
-        Ok(octets) => octets,
-        Err(fault) => return Err(fault),
-    };
-    match recorded_at(alloc, files, server) {
-        Ok(octets) => Ok(Server {
-            octets,
-            get: 0,
-            post: 0,
-            client: Some(sent),
-        }),
-        Err(fault) => Err(fault),
-    }
+    let sent = recorded_at(alloc, files, client)?;
+    let octets = recorded_at(alloc, files, server)?;
+    Ok(Server {
+        octets,
+        get: 0,
+        post: 0,
+        client: Some(sent),
+    })
 }
 
 /// What is known of a server that listens.
-fn surveyed_server<L: Link>(alloc: Global, link: &mut L) -> Result<Server, BenchFault>
-    ensures known { IfOk result (λ server. Surveys (L.log link.old) (Some server) (L.log link.new)) }
-    ensures fault { IfErr result (λ fault. (fault ≡ NoMemory) ⊎ ((fault ≡ Socket) × Surveys (L.log link.old) None (L.log link.new))) }
+fn surveyed_server<L: Link>(
+    alloc: Global,
+    aim: Aim<'_>,
+    link: &mut L,
+) -> Result<Server, BenchFault>
+    ensures known { IfOk result (λ server. Surveys (aimed_by aim) (L.log link.old) (Some server) (L.log link.new)) }
+    ensures fault { IfErr result (λ fault. (fault ≡ NoMemory) ⊎ ((fault ≡ Socket) × Surveys (aimed_by aim) (L.log link.old) None (L.log link.new))) }
 {
-    match survey(alloc, link) {
+    match survey(alloc, aim, link) {
         Ok(Some(server)) => Ok(server),
         Ok(None) => Err(BenchFault::Socket),
         Err(_) => Err(BenchFault::NoMemory),
@@ -87,18 +87,20 @@ fn surveyed_server<L: Link>(alloc: Global, link: &mut L) -> Result<Server, Bench
 /// `Read` where one of the two files can't be read, `Socket` where nothing listens; `NoMemory` where memory is refused.
 pub fn server_for<F: Files, L: Link>(
     alloc: Global,
+    aim: Aim<'_>,
     is_recorded: bool,
     names: &[&str],
     files: &mut F,
     link: &mut L,
 ) -> Result<Server, BenchFault>
-    ensures known { F.is_printed files.old ≡ true → IfOk result (λ server. Knows is_recorded (F.file files.old) (map (λ n. n.now) names.now) (L.log link.old) server (L.log link.new)) }
-    ensures fault { IfErr result (λ fault. (fault ≡ NoMemory) ⊎ Misses is_recorded (L.log link.old) fault (L.log link.new)) }
+    ensures known { F.is_printed files.old ≡ true → IfOk result (λ server. Knows (aimed_by aim) is_recorded (F.file files.old) (map (λ n. n.now) names.now)
+        (L.log link.old) server (L.log link.new)) }
+    ensures fault { IfErr result (λ fault. (fault ≡ NoMemory) ⊎ Misses (aimed_by aim) is_recorded (L.log link.old) fault (L.log link.new)) }
     ensures same_printed { F.is_printed files.new ≡ F.is_printed files.old }
     ensures same_files { F.file files.new ≡ F.file files.old }
 {
     if !is_recorded {
-        return surveyed_server(alloc, link);
+        return surveyed_server(alloc, aim, link);
     }
     match names {
         [client, server, ..] => recorded_server(alloc, files, client, server),

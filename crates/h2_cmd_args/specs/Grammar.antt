@@ -186,13 +186,21 @@ against_rule = record (new_rule (codes "against")) { long = Some (codes "against
 abbrev pub wait_rule : Rule
 wait_rule = record (new_rule (codes "wait")) { long = Some (codes "wait"); action = Some Set; parser = Some (parser.Unsigned 0 1000) }
 
+-- a method and the path that its requests go to, one text
+abbrev pub path_rule : Rule
+path_rule = record (new_rule (codes "path")) { long = Some (codes "path"); action = Some Set }
+
+-- what requests have in place of localhost, one text
+abbrev pub authority_rule : Rule
+authority_rule = record (new_rule (codes "authority")) { long = Some (codes "authority"); action = Some Set }
+
 -- whether a server is judged by octets that were recorded
 abbrev pub judge_rule : Rule
 judge_rule = record (new_rule (codes "judge")) { long = Some (codes "judge"); action = Some SetTrue }
 
 -- a command with the rules of servers that are judged
 abbrev pub with_judge : App → App
-with_judge app = with_rule (with_rule (with_rule app against_rule) wait_rule) judge_rule
+with_judge app = with_rule (with_rule (with_rule (with_rule (with_rule app against_rule) wait_rule) path_rule) authority_rule) judge_rule
 
 abbrev pub check_app : App
 check_app = with_rule (with_rule (with_judge (with_rule (with_rule (with_rule (with_rule (with_limits (new_app (codes "check"))) book_rule) bless_rule) in_place_rule) junit_rule)) quiet_rule) files_rule
@@ -249,7 +257,7 @@ pub data Asked : Type 0 where
   serve : (config : Config) → (port : ℕ) → (count : ℕ) → (watched : ReportAsked) → (book : BookAsked) → Asked
   explain : (config : Config) → (view : FormAsked) → (file : Text) → (book : BookAsked) → Asked
   check : (config : Config) → (book : BookAsked) → (bless : Bool) → (in_place : Bool) → (junit : Text) → (files : List Text) → Asked
-  against : (config : Config) → (book : BookAsked) → (port wait : ℕ) → (judge : Bool) → (junit : Text) → (files : List Text) → Asked
+  against : (config : Config) → (book : BookAsked) → (port wait : ℕ) → (path authority : Text) → (judge : Bool) → (junit : Text) → (files : List Text) → Asked
 
 -- the number that a text spells in decimal digits, if it is below 2 ^ 32
 abbrev pub number_of : Text → Option ℕ
@@ -353,7 +361,7 @@ is_against rows = is_some (number_given (codes "against") rows) || is_set (codes
 -- how it is judged
 abbrev pub against_asked : List Row → Asked
 against_asked rows = against (config_at rows) (file_book_at rows) (number_at (codes "against") 0 rows) (number_at (codes "wait") 15 rows)
-    (is_set (codes "judge") rows) (text_at (codes "junit") rows) (texts_at (codes "FILE") rows)
+    (text_at (codes "path") rows) (text_at (codes "authority") rows) (is_set (codes "judge") rows) (text_at (codes "junit") rows) (texts_at (codes "FILE") rows)
 
 -- how cases are checked
 abbrev pub check_asked : List Row → Asked

@@ -41,7 +41,7 @@ planned (plan.Debug d) = debug d.config (book_asked d.book)
 planned (plan.Serve s) = serve s.config s.port s.count (report_asked s.watch) (book_asked s.book)
 planned (plan.Explain e) = explain e.config (form_asked e) e.file.now (book_asked e.book)
 planned (plan.Check k) = check k.config (book_asked k.book) k.bless k.in_place k.junit.now (map (λ s. s.now) k.files.items)
-planned (plan.Against a) = against a.config (book_asked a.book) a.port a.wait a.judge a.junit.now (map (λ s. s.now) a.files.items)
+planned (plan.Against a) = against a.config (book_asked a.book) a.port a.wait a.path.now a.authority.now a.judge a.junit.now (map (λ s. s.now) a.files.items)
 
 -- what words that were parsed ask for; nothing where they were refused
 abbrev pub asked_in : Result Plan Refusal → Option Asked

@@ -140,6 +140,10 @@ pub struct Against<'a> {
     pub port: u32,
     /// How many milliseconds without an octet end the wait for what a server does, 0 to 1000.
     pub wait: u32,
+    /// The method of the requests that go to another path, `=`, and that path; empty where none does.
+    pub path: &'a str,
+    /// What requests have in place of `localhost`; empty where that stays.
+    pub authority: &'a str,
     /// Whether octets are judged that were recorded: those of the first file and of the second.
     pub judge: bool,
     /// The path of the file that takes the results as JUnit XML; empty where none does.
@@ -463,6 +467,8 @@ fn against_from<'a>(alloc: Global, matches: &ArgMatches<'a>) -> Result<Against<'
         },
         port: number_at(matches, "against", 0),
         wait: number_at(matches, "wait", 15),
+        path: text_at(matches, "path"),
+        authority: text_at(matches, "authority"),
         judge: is_set(matches, "judge"),
         junit: text_at(matches, "junit"),
         files,

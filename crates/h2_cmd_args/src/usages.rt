@@ -216,6 +216,18 @@ const WAIT: Word = Word {
     help: "With --against: the milliseconds without an octet after which the next item is sent, 0 to 1000; 15 where none is given",
 };
 
+const PATH: Word = Word {
+    name: "path",
+    kind: Kind::Text,
+    help: "METHOD=PATH: requests of the cases with this method go to this path",
+};
+
+const AUTHORITY: Word = Word {
+    name: "authority",
+    kind: Kind::Text,
+    help: "Requests of the cases have this where they have localhost, as in :authority",
+};
+
 const JUDGE: Word = Word {
     name: "judge",
     kind: Kind::Flag,
@@ -310,7 +322,7 @@ static USAGES: [Usage; 8] = [
         about: "Plays the cases of files, and says of each whether what it expects holds",
         words: &[
             STREAMS, CREDIT, TABLE, WINDOW, FRAME, BOOK, BLESS, IN_PLACE, JUNIT, AGAINST, WAIT,
-            JUDGE, QUIET, FILES,
+            PATH, AUTHORITY, JUDGE, QUIET, FILES,
         ],
     },
 ];

@@ -39,7 +39,7 @@ setup_asked files file (Some (batch asked)) = None
 setup_asked files file (Some (serve config port count watched book)) = None
 setup_asked files file (Some (explain config view from book)) = None
 setup_asked files file (Some (check config book bless in_place junit names)) = None
-setup_asked files file (Some (against config book port wait judge junit names)) = None
+setup_asked files file (Some (against config book port wait path authority judge junit names)) = None
 setup_asked files file None = None
 
 -- what words say, if they are words
@@ -47,10 +47,14 @@ abbrev pub setup_said : Directory → (file : List ℕ) → Option (List (List �
 setup_said files file None = None
 setup_said files file (Some words) = setup_asked files file (asked_of words)
 
+-- what the words of a case say, behind those before them
+abbrev pub setup_worded : Directory → (file : List ℕ) → (lines : List (List ℕ)) → Option CaseSetup
+setup_worded files file lines = setup_said files file (with_case_words first_words lines)
+
 -- what the lines of a case say, unless they have words without effect in a case
 abbrev pub setup_unless : Bool → Directory → (file : List ℕ) → (lines : List (List ℕ)) → Option CaseSetup
 setup_unless true files file lines = None
-setup_unless false files file lines = setup_said files file (with_case_words first_words lines)
+setup_unless false files file lines = setup_worded files file lines
 
 abbrev pub setup_of : Directory → (file : List ℕ) → (lines : List (List ℕ)) → Option CaseSetup
 setup_of files file lines = setup_unless (have_idle lines) files file lines

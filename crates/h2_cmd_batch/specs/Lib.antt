@@ -12,6 +12,7 @@ pub mod Pieces
 pub mod Printed
 pub mod Printing
 pub mod Reports
+pub mod Results
 pub mod ScriptPrograms
 pub mod TableProgram
 pub mod TableReplies

@@ -3,11 +3,11 @@
 
 ghost use Rattle.std.specs.Prelude.{◌≡◌, ◌⊎◌, [], Option, Some, None, true, map, unwrap_or, IfErr, IfOk, OnOk};
 ghost use Rattle.std.specs.Path.{path_buf_bytes, path_bytes, path_parent};
-ghost use Rattle.h2_cmd_cases.specs.CaseWords.{have_idle, with_case_words};
-ghost use Rattle.h2_cmd_args.specs.Grammar.{asked_of, debug};
+ghost use Rattle.h2_cmd_cases.specs.CaseWords.{have_idle};
+ghost use Rattle.h2_cmd_args.specs.Grammar.{asked_of};
 ghost use Rattle.h2_cmd_args.specs.Plans.{book_asked, planned};
 ghost use Rattle.h2_cmd_batch.specs.Books.{book_said};
-ghost use Rattle.h2_cmd_batch.specs.CaseSetups.{RefusesSetup, book_place, first_words, setup_asked, setup_of, setup_said, setup_with, words_line};
+ghost use Rattle.h2_cmd_batch.specs.CaseSetups.{RefusesSetup, book_place, first_words, setup_asked, setup_by, setup_of, setup_with, setup_worded, words_line};
 ghost use Rattle.h2_cmd_batch.specs.declared.fault.BenchFault.TheVariants.{NoMemory};
 ghost use Rattle.h2_cmd_batch.specs.declared.case_setup.CaseSetup.{CaseSetup};
 
@@ -174,8 +174,10 @@ fn own_plan<F: Files>(
     case: Case<'_, '_>,
     plan: Debug<'_>,
 ) -> Result<CaseSetup, OwnFault>
-    ensures ok { F.is_printed files.old ≡ true → IfOk result (λ own. setup_asked (F.file files.old) case.entry.file.now (Some (debug plan.entry.config (book_asked plan.entry.book))) ≡ Some own) }
-    ensures err { F.is_printed files.old ≡ true → IfErr result (RefusesSetup (setup_asked (F.file files.old) case.entry.file.now (Some (debug plan.entry.config (book_asked plan.entry.book))))) }
+    ensures ok { F.is_printed files.old ≡ true → IfOk result (λ own.
+        setup_by (F.file files.old) case.entry.file.now plan.entry.config (book_asked plan.entry.book) ≡ Some own) }
+    ensures err { F.is_printed files.old ≡ true → IfErr result (RefusesSetup
+        (setup_by (F.file files.old) case.entry.file.now plan.entry.config (book_asked plan.entry.book))) }
     ensures same_printed { F.is_printed files.new ≡ F.is_printed files.old }
     ensures same_files { F.file files.new ≡ F.file files.old }
 {
@@ -203,7 +205,8 @@ fn own_asked<F: Files>(
     case: Case<'_, '_>,
     plan: Plan<'_>,
 ) -> Result<CaseSetup, OwnFault>
-    ensures ok { F.is_printed files.old ≡ true → IfOk result (λ own. setup_asked (F.file files.old) case.entry.file.now (Some (planned plan.entry)) ≡ Some own) }
+    ensures ok { F.is_printed files.old ≡ true → IfOk result (λ own.
+        setup_asked (F.file files.old) case.entry.file.now (Some (planned plan.entry)) ≡ Some own) }
     ensures err { F.is_printed files.old ≡ true → IfErr result (RefusesSetup (setup_asked (F.file files.old) case.entry.file.now (Some (planned plan.entry)))) }
     ensures same_printed { F.is_printed files.new ≡ F.is_printed files.old }
     ensures same_files { F.file files.new ≡ F.file files.old }
@@ -250,8 +253,10 @@ fn own_worded<F: Files>(
     files: &mut F,
     case: Case<'_, '_>,
 ) -> Result<CaseSetup, OwnFault>
-    ensures ok { F.is_printed files.old ≡ true → IfOk result (λ own. setup_said (F.file files.old) case.entry.file.now (with_case_words first_words (map (λ l. l.now) case.entry.lines.now)) ≡ Some own) }
-    ensures err { F.is_printed files.old ≡ true → IfErr result (RefusesSetup (setup_said (F.file files.old) case.entry.file.now (with_case_words first_words (map (λ l. l.now) case.entry.lines.now)))) }
+    ensures ok { F.is_printed files.old ≡ true → IfOk result (λ own.
+        setup_worded (F.file files.old) case.entry.file.now (map (λ l. l.now) case.entry.lines.now) ≡ Some own) }
+    ensures err { F.is_printed files.old ≡ true → IfErr result (RefusesSetup
+        (setup_worded (F.file files.old) case.entry.file.now (map (λ l. l.now) case.entry.lines.now))) }
     ensures same_printed { F.is_printed files.new ≡ F.is_printed files.old }
     ensures same_files { F.file files.new ≡ F.file files.old }
 {
@@ -278,8 +283,10 @@ pub fn own_of<F: Files>(
     files: &mut F,
     case: Case<'_, '_>,
 ) -> Result<CaseSetup, OwnFault>
-    ensures ok { F.is_printed files.old ≡ true → IfOk result (λ own. setup_of (F.file files.old) case.entry.file.now (map (λ l. l.now) case.entry.lines.now) ≡ Some own) }
-    ensures err { F.is_printed files.old ≡ true → IfErr result (RefusesSetup (setup_of (F.file files.old) case.entry.file.now (map (λ l. l.now) case.entry.lines.now))) }
+    ensures ok { F.is_printed files.old ≡ true → IfOk result (λ own.
+        setup_of (F.file files.old) case.entry.file.now (map (λ l. l.now) case.entry.lines.now) ≡ Some own) }
+    ensures err { F.is_printed files.old ≡ true → IfErr result (RefusesSetup
+        (setup_of (F.file files.old) case.entry.file.now (map (λ l. l.now) case.entry.lines.now))) }
     ensures same_printed { F.is_printed files.new ≡ F.is_printed files.old }
     ensures same_files { F.file files.new ≡ F.file files.old }
 {

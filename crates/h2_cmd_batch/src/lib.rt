@@ -12,6 +12,7 @@ mod commands;
 mod fault;
 mod input;
 mod report;
+mod results;
 
 pub use advice::advise;
 pub use answer::parse_answer;
@@ -22,3 +23,4 @@ pub use commands::each::PrintFault;
 pub use commands::play::refused_limits;
 pub use fault::BenchFault;
 pub use input::{read_all, read_hex};
+pub use results::write_results;

@@ -1,5 +1,5 @@
 -- The results of files of cases as JUnit XML: each line of their TAP is some XML.
-use Rattle.std.specs.Prelude.{ℕ, ◌==◌, ◌+◌, ◌-◌, ◌^◌, ◌++◌, min, List, [], ◌∷◌, codes, decimal, flat_map, if◌then◌else◌, nat_eq, Option, Some, None, option_and_then}
+use Rattle.std.specs.Prelude.{ℕ, ◌==◌, ◌+◌, ◌-◌, ◌^◌, ◌++◌, min, List, [], ◌∷◌, codes, decimal, flat_map, if◌then◌else◌, nat_eq, Option, Some, None, option_and_then, unwrap_or}
 use Rattle.std.specs.List.{starts_with}
 use Rattle.std.specs.Str.{bytes_eq}
 use Rattle.hex.specs.Hex.{encode_lower}
@@ -10,7 +10,7 @@ use Rattle.h2_cmd_check.specs.Texts.{before}
 use Rattle.h2_cmd_check.specs.declared.junit.Counts.{Counts}
 use Rattle.h2_cmd_check.specs.declared.junit.Suite.{Suite}
 use Rattle.h2_cmd_check.specs.declared.junit.TapLine.{TapLine}
-use Rattle.h2_cmd_check.specs.declared.junit.TapLine.TheVariants.{Passed, Skipped, Failed, Found, End, Mark}
+use Rattle.h2_cmd_check.specs.declared.junit.TapLine.TheVariants.{Passed, Skipped, Doubtful, Failed, Found, End, Mark}
 
 -- ---- texts
 
@@ -34,14 +34,24 @@ abbrev pub behind_dash : List ℕ → List ℕ
 behind_dash [] = []
 behind_dash (octet ∷ octets) = if octet == 45 then octets else behind_dash octets
 
--- the directive of a result that was skipped
-abbrev pub skip_words : List ℕ
-skip_words = codes " # SKIP it expects nothing"
+-- the directive of a result: from the first ` # ` on, as in a name a backslash is before each `#`
+abbrev pub directive_of : List ℕ → List ℕ
+directive_of [] = []
+directive_of (octet ∷ octets) = if starts_with nat_eq (octet ∷ octets) (codes " # ") then octet ∷ octets else directive_of octets
+
+-- what it says behind this mark
+abbrev pub words_behind : (mark line : List ℕ) → Option (List ℕ)
+words_behind mark line = behind mark (directive_of line)
 
 -- a result that did not fail
-abbrev pub passed_kind : (before_skip : Option (List ℕ)) → TapLine
+abbrev pub passed_kind : (skipped_for : Option (List ℕ)) → TapLine
 passed_kind None = Passed
-passed_kind (Some front) = Skipped
+passed_kind (Some words) = Skipped
+
+-- one that did: a doubtful one is no failure
+abbrev pub failed_kind : (to_do : Option (List ℕ)) → TapLine
+failed_kind None = Failed
+failed_kind (Some words) = Doubtful
 
 -- a line of what was found; the block's first line, and the end of the text, have no XML
 abbrev pub found_kind : List ℕ → TapLine
@@ -53,18 +63,17 @@ found_kind (octet ∷ octets) =
 -- what a line of TAP is
 abbrev pub kind_of : List ℕ → TapLine
 kind_of line =
-    if starts_with nat_eq line (codes "ok ") then passed_kind (before skip_words line)
-    else if starts_with nat_eq line (codes "not ok ") then Failed else found_kind line
+    if starts_with nat_eq line (codes "ok ") then passed_kind (words_behind (codes " # SKIP ") line)
+    else if starts_with nat_eq line (codes "not ok ") then failed_kind (words_behind (codes " # TODO ") line) else found_kind line
 
-abbrev pub unskipped : List ℕ → Option (List ℕ) → List ℕ
-unskipped text None = text
-unskipped text (Some front) = front
+-- a text without its directive
+abbrev pub undirected : List ℕ → List ℕ
+undirected text = unwrap_or (before (directive_of text) text) text
 
 -- the title of a result of a file, which TAP shows so
 abbrev pub title_of_line : (shown : List ℕ) → List ℕ → Option (List ℕ)
 title_of_line shown line =
-    let text = behind_dash line in
-    option_and_then (behind (codes ": ")) (behind shown (unskipped text (before skip_words text)))
+    option_and_then (behind (codes ": ")) (behind shown (undirected (behind_dash line)))
 
 abbrev pub title_or : List ℕ → Option (List ℕ) → List ℕ
 title_or file None = file
@@ -74,17 +83,44 @@ title_or file (Some title) = title
 abbrev pub case_front : (file : List ℕ) → Option (List ℕ) → List ℕ
 case_front file title = codes "<testcase classname=\"" ++ xml_text file ++ codes "\" name=\"" ++ xml_text (title_or file title) ++ codes "\""
 
--- the XML of a line that is of this kind
-abbrev pub xml_as : TapLine → (file shown line : List ℕ) → List ℕ
-xml_as Passed file shown line = case_front file (title_of_line shown line) ++ codes "/>\n"
-xml_as Skipped file shown line = case_front file (title_of_line shown line) ++ codes "><skipped message=\"it expects nothing\"/></testcase>\n"
-xml_as Failed file shown line = case_front file (title_of_line shown line) ++ codes "><failure message=\"what it expects does not hold\">\n"
-xml_as Found file shown line = xml_text line ++ codes "\n"
-xml_as End file shown line = codes "</failure></testcase>\n"
-xml_as Mark file shown line = []
+-- why a result is no verdict: what its directive says behind this mark
+abbrev pub reason_behind : (mark line : List ℕ) → List ℕ
+reason_behind mark line = unwrap_or (words_behind mark line) []
 
-abbrev pub xml_line : (file shown line : List ℕ) → List ℕ
-xml_line file shown line = xml_as (kind_of line) file shown line
+-- the front of such a result
+abbrev pub skipped_front : (mark file shown line : List ℕ) → List ℕ
+skipped_front mark file shown line =
+    case_front file (title_of_line shown line) ++ codes "><skipped message=\"" ++ xml_text (reason_behind mark line) ++ codes "\""
+
+-- a line of what was found, before this end of its result; a result without one shows nothing that was found
+abbrev pub found_text : (end line : List ℕ) → List ℕ
+found_text [] line = []
+found_text (octet ∷ octets) line = xml_text line ++ codes "\n"
+
+-- the XML of a line that is of this kind, where the result above has this end
+abbrev pub xml_as : TapLine → (end file shown line : List ℕ) → List ℕ
+xml_as Passed end file shown line = case_front file (title_of_line shown line) ++ codes "/>\n"
+xml_as Skipped end file shown line = skipped_front (codes " # SKIP ") file shown line ++ codes "/></testcase>\n"
+xml_as Doubtful end file shown line = skipped_front (codes " # TODO ") file shown line ++ codes ">\n"
+xml_as Failed end file shown line = case_front file (title_of_line shown line) ++ codes "><failure message=\"what it expects does not hold\">\n"
+xml_as Found end file shown line = found_text end line
+xml_as End end file shown line = end
+xml_as Mark end file shown line = []
+
+-- the end of the result above the next line
+abbrev pub end_after : (end : List ℕ) → TapLine → List ℕ
+end_after end Passed = []
+end_after end Skipped = []
+end_after end Doubtful = codes "</skipped></testcase>\n"
+end_after end Failed = codes "</failure></testcase>\n"
+end_after end Found = end
+end_after end End = end
+end_after end Mark = end
+
+-- the XML of lines, one after another
+abbrev pub xml_lines : (end file shown : List ℕ) → List (List ℕ) → List ℕ
+xml_lines end file shown [] = []
+xml_lines end file shown (line ∷ lines) = xml_as (kind_of line) end file shown line ++ xml_lines (end_after end (kind_of line)) file shown lines
 
 -- ---- files
 
@@ -95,6 +131,7 @@ one_more n = min (n + 1) (2 ^ 64 - 1)
 abbrev pub with_line : Counts → TapLine → Counts
 with_line c Passed = record { tests = one_more c.tests; failures = c.failures; skipped = c.skipped }
 with_line c Skipped = record { tests = one_more c.tests; failures = c.failures; skipped = one_more c.skipped }
+with_line c Doubtful = record { tests = one_more c.tests; failures = c.failures; skipped = one_more c.skipped }
 with_line c Failed = record { tests = one_more c.tests; failures = one_more c.failures; skipped = c.skipped }
 with_line c Found = c
 with_line c End = c
@@ -132,7 +169,7 @@ results_in s = record { file = s.file.now; results = s.results.items }
 abbrev pub suite_text : FileResults → List ℕ
 suite_text s =
     suite_front s.file (counted no_counts (lines_of s.results))
-    ++ flat_map (xml_line s.file (shown_path s.file)) (lines_of s.results) ++ codes "</testsuite>\n"
+    ++ xml_lines [] s.file (shown_path s.file) (lines_of s.results) ++ codes "</testsuite>\n"
 
 -- the results of files
 abbrev pub junit_file : List FileResults → List ℕ

@@ -1,10 +1,9 @@
 //! The results of files of cases as JUnit XML, which GitLab, Jenkins and GitHub read. It is made of the lines of their TAP, so
 //! that both say the same. Definitions: `specs/JUnit.antt`.
 
-ghost use Rattle.std.specs.Prelude.{◌≡◌, ◌++◌, codes, flat_map, map, option_map, IfOk};
-ghost use Rattle.h2_cmd_check.specs.JUnit.{behind_dash, case_front, counted, counts_text, junit_file, kind_of, no_counts, passed_kind, results_in, shown_path, skip_words, suite_front, suite_text, tap_file, title_of_line, unskipped, with_line, xml_line, xml_octet, xml_text};
+ghost use Rattle.std.specs.Prelude.{◌≡◌, ◌++◌, [], codes, flat_map, map, option_map, IfOk};
+ghost use Rattle.h2_cmd_check.specs.JUnit.{behind_dash, case_front, counted, counts_text, directive_of, end_after, failed_kind, found_text, junit_file, kind_of, no_counts, passed_kind, reason_behind, results_in, shown_path, skipped_front, suite_front, suite_text, tap_file, title_of_line, undirected, with_line, words_behind, xml_as, xml_lines, xml_octet, xml_text};
 ghost use Rattle.h2_cmd_check.specs.Tap.{Gains};
-ghost use Rattle.h2_cmd_check.specs.Texts.{before};
 
 use crate::growing::{Growing, is_printable};
 use h2_cmd_cases::lines_in;
@@ -24,8 +23,10 @@ pub struct Suite<'n> {
 enum TapLine {
     /// A result that holds.
     Passed,
-    /// A result of a case that expects nothing.
+    /// A result of a case that is skipped.
     Skipped,
+    /// A result of which the RFC says both.
+    Doubtful,
     /// A result that does not hold: what was found follows.
     Failed,
     /// A line of what was found.
@@ -43,7 +44,7 @@ struct Counts {
     tests: u64,
     /// Those that do not hold.
     failures: u64,
-    /// Those of cases that expect nothing.
+    /// Those that are skipped or doubtful.
     skipped: u64,
 }
 
@@ -91,20 +92,44 @@ fn behind_dash(line: &[u8]) -> &[u8]
     rest
 }
 
-/// What precedes the directive of a result that was skipped.
-fn before_skip(text: &[u8]) -> Option<&[u8]>
-    ensures { option_map (λ t. t.now) result ≡ before skip_words text.now }
+/// The directive of a result, from the first ` # ` on; empty where it has none.
+fn directive_of(line: &[u8]) -> &[u8]
+    ensures { result.now ≡ directive_of line.now }
 {
-    text.strip_suffix(b" # SKIP it expects nothing".as_slice())
+    let mut rest = line;
+    while let Some((_, after)) = rest.split_first() {
+        if rest.starts_with(b" # ".as_slice()) {
+            return rest;
+        }
+        rest = after;
+    }
+    rest
+}
+
+/// What the directive of a result says behind this mark.
+fn words_behind<'l>(mark: &[u8], line: &'l [u8]) -> Option<&'l [u8]>
+    ensures { option_map (λ t. t.now) result ≡ words_behind mark.now line.now }
+{
+    directive_of(line).strip_prefix(mark)
 }
 
 /// A result that did not fail.
 fn passed_kind(line: &[u8]) -> TapLine
-    ensures { result ≡ passed_kind (before skip_words line.now) }
+    ensures { result ≡ passed_kind (words_behind (codes " # SKIP ") line.now) }
 {
-    match before_skip(line) {
+    match words_behind(b" # SKIP ", line) {
         Some(_) => TapLine::Skipped,
         None => TapLine::Passed,
+    }
+}
+
+/// A result that did.
+fn failed_kind(line: &[u8]) -> TapLine
+    ensures { result ≡ failed_kind (words_behind (codes " # TODO ") line.now) }
+{
+    match words_behind(b" # TODO ", line) {
+        Some(_) => TapLine::Doubtful,
+        None => TapLine::Failed,
     }
 }
 
@@ -116,7 +141,7 @@ fn kind_of(line: &[u8]) -> TapLine
         return passed_kind(line);
     }
     if line.starts_with(b"not ok ".as_slice()) {
-        return TapLine::Failed;
+        return failed_kind(line);
     }
     if line.is_empty() || line == b"  ---".as_slice() {
         return TapLine::Mark;
@@ -128,11 +153,11 @@ fn kind_of(line: &[u8]) -> TapLine
     }
 }
 
-/// A text without the directive of a result that was skipped.
-fn unskipped(text: &[u8]) -> &[u8]
-    ensures { result.now ≡ unskipped text.now (before skip_words text.now) }
+/// A text without its directive.
+fn undirected(text: &[u8]) -> &[u8]
+    ensures { result.now ≡ undirected text.now }
 {
-    match before_skip(text) {
+    match text.strip_suffix(directive_of(text)) {
         Some(front) => front,
         None => text,
     }
@@ -142,7 +167,7 @@ fn unskipped(text: &[u8]) -> &[u8]
 fn title_of<'t>(shown: &[u8], line: &'t [u8]) -> Option<&'t [u8]>
     ensures { option_map (λ t. t.now) result ≡ title_of_line shown.now line.now }
 {
-    match unskipped(behind_dash(line)).strip_prefix(shown) {
+    match undirected(behind_dash(line)).strip_prefix(shown) {
         Some(text) => text.strip_prefix(b": ".as_slice()),
         None => None,
     }
@@ -162,38 +187,93 @@ fn put_case(file: &[u8], title: Option<&[u8]>, out: &mut Growing)
     out.text("\"");
 }
 
-/// Puts the XML of a line of TAP last. The file is the one with these results, as it is and as TAP shows it.
-fn put_line(file: &[u8], shown: &[u8], line: &[u8], out: &mut Growing)
-    ensures { Gains (xml_line file.now shown.now line.now) out.old out.new }
+/// Why a result is no verdict: what its directive says behind this mark.
+fn reason_behind<'l>(mark: &[u8], line: &'l [u8]) -> &'l [u8]
+    ensures { result.now ≡ reason_behind mark.now line.now }
 {
-    match kind_of(line) {
+    match words_behind(mark, line) {
+        Some(words) => words,
+        None => b"",
+    }
+}
+
+/// Puts the front of such a result last.
+fn put_skipped(mark: &[u8], file: &[u8], shown: &[u8], line: &[u8], out: &mut Growing)
+    ensures { Gains (skipped_front mark.now file.now shown.now line.now) out.old out.new }
+{
+    put_case(file, title_of(shown, line), out);
+    out.text("><skipped message=\"");
+    put_xml(reason_behind(mark, line), out);
+    out.text("\"");
+}
+
+/// Puts a line of what was found last, before this end of its result.
+fn put_found(end: &str, line: &[u8], out: &mut Growing)
+    ensures { Gains (found_text end.now line.now) out.old out.new }
+{
+    if end.is_empty() {
+        return;
+    }
+    put_xml(line, out);
+    out.text("\n");
+}
+
+/// Puts the XML of a line of TAP of this kind last, where the result above has this end. The file is the one with these
+/// results, as it is and as TAP shows it.
+fn put_line(
+    kind: TapLine,
+    end: &str,
+    file: &[u8],
+    shown: &[u8],
+    line: &[u8],
+    out: &mut Growing,
+)
+    ensures { Gains (xml_as kind end.now file.now shown.now line.now) out.old out.new }
+{
+    match kind {
         TapLine::Passed => {
             put_case(file, title_of(shown, line), out);
             out.text("/>\n");
         }
         TapLine::Skipped => {
-            put_case(file, title_of(shown, line), out);
-            out.text("><skipped message=\"it expects nothing\"/></testcase>\n");
+            put_skipped(b" # SKIP ", file, shown, line, out);
+            out.text("/></testcase>\n");
+        }
+        TapLine::Doubtful => {
+            put_skipped(b" # TODO ", file, shown, line, out);
+            out.text(">\n");
         }
         TapLine::Failed => {
             put_case(file, title_of(shown, line), out);
             out.text("><failure message=\"what it expects does not hold\">\n");
         }
-        TapLine::Found => {
-            put_xml(line, out);
-            out.text("\n");
-        }
-        TapLine::End => out.text("</failure></testcase>\n"),
+        TapLine::Found => put_found(end, line, out),
+        TapLine::End => out.text(end),
         TapLine::Mark => {}
+    }
+}
+
+/// The end of the result above the line after one of this kind.
+fn end_after(end: &'static str, kind: TapLine) -> &'static str
+    ensures { result.now ≡ end_after end.now kind }
+{
+    match kind {
+        TapLine::Passed | TapLine::Skipped => "",
+        TapLine::Doubtful => "</skipped></testcase>\n",
+        TapLine::Failed => "</failure></testcase>\n",
+        TapLine::Found | TapLine::End | TapLine::Mark => end,
     }
 }
 
 /// Puts the XML of lines last.
 fn put_lines(file: &[u8], shown: &[u8], lines: &[&[u8]], out: &mut Growing)
-    ensures { Gains (flat_map (xml_line file.now shown.now) (map (λ l. l.now) lines.now)) out.old out.new }
+    ensures { Gains (xml_lines [] file.now shown.now (map (λ l. l.now) lines.now)) out.old out.new }
 {
+    let mut end = "";
     for line in lines {
-        put_line(file, shown, line, out);
+        let kind = kind_of(line);
+        put_line(kind, end, file, shown, line, out);
+        end = end_after(end, kind);
     }
 }
 
@@ -208,7 +288,7 @@ fn with_line(counts: Counts, line: TapLine) -> Counts
             failures,
             skipped,
         },
-        TapLine::Skipped => Counts {
+        TapLine::Skipped | TapLine::Doubtful => Counts {
             tests: tests.saturating_add(1),
             failures,
             skipped: skipped.saturating_add(1),
@@ -272,7 +352,7 @@ fn shown_path(alloc: Global, file: &[u8]) -> Result<Vec<u8>, AllocError>
 /// Puts the results of a file last, of which these are the lines.
 fn put_results(alloc: Global, file: &[u8], lines: &[&[u8]], out: &mut Growing)
     ensures { Gains (suite_front file.now (counted no_counts (map (λ l. l.now) lines.now))
-        ++ flat_map (xml_line file.now (shown_path file.now)) (map (λ l. l.now) lines.now) ++ codes "</testsuite>\n") out.old out.new }
+        ++ xml_lines [] file.now (shown_path file.now) (map (λ l. l.now) lines.now) ++ codes "</testsuite>\n") out.old out.new }
 {
     match shown_path(alloc, file) {
         Ok(shown) => {

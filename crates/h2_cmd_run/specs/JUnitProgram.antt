@@ -1,5 +1,5 @@
 -- What `check --junit FILE` does: it prints the results of cases, and FILE has them as JUnit XML.
-use Rattle.std.specs.Prelude.{◌≡◌, ◌⊎◌, ℕ, false, List, [], ◌∷◌, bytes_eq, Option, Result, Ok, Err}
+use Rattle.std.specs.Prelude.{◌≡◌, ◌⊎◌, ℕ, false, List, [], ◌∷◌, Option, Result, Ok, Err}
 use Rattle.h2_spec.specs.Requests.Answer.{Entry}
 use Rattle.h2_spec.specs.declared.connection.Config.{Config}
 use Rattle.h2_cmd_book_file.specs.Entries.{Directory}
@@ -52,7 +52,3 @@ IsJUnitCheck files config book names file files' p =
 abbrev pub EndsJUnit : Directory → Config → BookAsked → (names : List (List ℕ)) → (file : List ℕ) → Directory → (before after : Option (List ℕ)) → (status : ℕ) → Type 0
 EndsJUnit files config book names file files' before after status =
     PrintsSome (λ p. IsJUnitCheck files config book names file files' p) before after status
-
--- whatever failed: no other file was changed
-abbrev pub ChangesAlone : (file : List ℕ) → Directory → Directory → Type 0
-ChangesAlone file files files' = (path : List ℕ) → bytes_eq path file ≡ false → files' path ≡ files path

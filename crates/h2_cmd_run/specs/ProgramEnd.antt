@@ -129,7 +129,7 @@ is_serve (Some (debug config book)) = false
 is_serve (Some (serve config port count watched book)) = true
 is_serve (Some (explain config view file book)) = false
 is_serve (Some (check config book bless in_place junit names)) = false
-is_serve (Some (against config book port wait judge junit names)) = true
+is_serve (Some (against config book port wait path authority judge junit names)) = true
 
 -- whether anything is read for words
 abbrev pub is_reader : Option Asked → Bool
@@ -139,7 +139,7 @@ is_reader (Some (debug config book)) = true
 is_reader (Some (serve config port count watched book)) = false
 is_reader (Some (explain config view file book)) = true
 is_reader (Some (check config book bless in_place junit names)) = false
-is_reader (Some (against config book port wait judge junit names)) = false
+is_reader (Some (against config book port wait path authority judge junit names)) = false
 
 abbrev pub asks_why : Option Asked → Bool
 asks_why None = false
@@ -148,4 +148,4 @@ asks_why (Some (debug config book)) = book.why
 asks_why (Some (serve config port count watched book)) = book.why
 asks_why (Some (explain config view file book)) = book.why
 asks_why (Some (check config book bless in_place junit names)) = book.why
-asks_why (Some (against config book port wait judge junit names)) = book.why
+asks_why (Some (against config book port wait path authority judge junit names)) = book.why

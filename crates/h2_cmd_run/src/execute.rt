@@ -10,7 +10,8 @@ ghost use Rattle.h2_cmd_run.specs.Blessing.{EndsBless, writes_files};
 ghost use Rattle.h2_cmd_run.specs.CheckProgram.{EndsCheck};
 ghost use Rattle.h2_cmd_batch.specs.CommandEnd.{EndsBatch, KnowsFile, PrintsSome, file_of, no_files};
 ghost use Rattle.h2_cmd_run.specs.ExplainProgram.{EndsExplain, form_of};
-ghost use Rattle.h2_cmd_run.specs.JUnitProgram.{ChangesAlone, EndsJUnit};
+ghost use Rattle.h2_cmd_run.specs.JUnitProgram.{EndsJUnit};
+ghost use Rattle.h2_cmd_batch.specs.Results.{ChangesAlone};
 ghost use Rattle.h2_cmd_run.specs.ProgramEnd.{EndsServe, EndsSession, EndsSessionOver, EndsSomehow, PrintsRefusal, asks_why, is_reader, is_serve, printed_for};
 
 use crate::check::check_plan;

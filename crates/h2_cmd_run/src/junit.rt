@@ -1,19 +1,18 @@
 //! `check --junit FILE`: the results of cases, which FILE has as JUnit XML too. Definitions: `specs/JUnitProgram.antt`, over
 //! `specs/JUnit.antt` of h2_cmd_check.
 
-ghost use Rattle.std.specs.Prelude.{◌≡◌, ◌==◌, true, false, List, ℕ, Some, map, IfOk, OnOk, OnErr};
-ghost use Rattle.h2_cmd_book_file.specs.Files.{Replaces};
+ghost use Rattle.std.specs.Prelude.{◌≡◌, ◌==◌, true, false, List, ℕ, Some, map, IfOk};
 ghost use Rattle.h2_cmd_check.specs.JUnit.{results_in};
 ghost use Rattle.h2_cmd_run.specs.CheckProgram.{AreReported, checked_after, common_of, not_checked, subjects_of};
-ghost use Rattle.h2_cmd_run.specs.JUnitProgram.{AreSuites, ChangesAlone, IsJUnit, IsPrintedOr};
+ghost use Rattle.h2_cmd_run.specs.JUnitProgram.{AreSuites, IsJUnit, IsPrintedOr};
+ghost use Rattle.h2_cmd_batch.specs.Results.{ChangesAlone};
 ghost use Rattle.h2_cmd_batch.specs.CommandEnd.{Prints, PrintsSome};
 
 use crate::check::{CaseTally, check_file, print_checked, write};
 use h2_cmd_args::command::Check;
-use h2_cmd_batch::{BenchFault, Common, PrintFault, print_fault, write_reason};
-use h2_cmd_book_file::{Files, FilesFault};
+use h2_cmd_batch::{BenchFault, Common, PrintFault, print_fault, write_results};
+use h2_cmd_book_file::Files;
 use h2_cmd_check::{Suite, junit_text, tap_text};
-use h2_cmd_messages::{Cut, Say, TextBuilder};
 use h2_io::{Gathered, Output};
 use h2_request_book::book::Book;
 use std::alloc::{AllocError, Global};
@@ -67,41 +66,6 @@ fn suites_of<'n, F: Files>(
     Ok(suites)
 }
 
-/// Says that a file was not written.
-fn say_not_written(file: &str, reasons: &mut TextBuilder) {
-    Cut(file.as_bytes()).say(reasons);
-    ": the results can't be written there: its directory is read-only or not there, it is no plain file, the disk is full, or ".say(
-        reasons,
-    );
-    Cut(file.as_bytes()).say(reasons);
-    ".blessed is there already.\n".say(reasons);
-}
-
-/// Writes the text of a file, or says why it was not written.
-fn write_junit<F: Files, E: Output>(
-    alloc: Global,
-    plan: &Check<'_>,
-    files: &mut F,
-    text: &[u8],
-    errors: &mut E,
-) -> Result<(), BenchFault>
-    ensures replaces { F.is_printed files.old ≡ true → OnOk result (Replaces (F.file files.old) plan.now.junit.now text.now (F.file files.new)) }
-    ensures kept { OnErr result (F.file files.new ≡ F.file files.old) }
-    ensures quiet { plan.now.book.why ≡ false → errors.new ≡ errors.old }
-    ensures errors { E.name errors.new ≡ E.name errors.old }
-{
-    match files.replace(alloc, plan.junit, text) {
-        Ok(()) => Ok(()),
-        Err(FilesFault::NoMemory) => Err(BenchFault::NoMemory),
-        Err(_) => {
-            let mut reasons = TextBuilder::new(alloc);
-            say_not_written(plan.junit, &mut reasons);
-            write_reason(errors, plan.book.why, reasons.finish());
-            Err(BenchFault::Write)
-        }
-    }
-}
-
 /// Writes results, and then what remains to say of them. Gives the status.
 fn print_results<O: Output>(output: &mut O, text: &[u8], ended: Result<bool, PrintFault>) -> u8
     requires writer { O.has_failed output.old ≡ false }
@@ -145,7 +109,7 @@ fn print_suites<F: Files, O: Output, E: Output>(
         Ok(xml) => xml,
         Err(_) => return print_fault(output, BenchFault::NoMemory),
     };
-    match write_junit(alloc, plan, files, xml.as_slice(), errors) {
+    match write_results(alloc, plan.junit, xml.as_slice(), plan.book.why, files, errors) {
         Ok(()) => print_results(output, tap.as_slice(), Ok(tally.all_hold)),
         Err(fault) => print_results(output, tap.as_slice(), Err(PrintFault::Fault(fault))),
     }

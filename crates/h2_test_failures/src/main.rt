@@ -15,6 +15,7 @@ mod feeds;
 mod heap;
 mod line;
 mod openings;
+mod peers;
 mod programs;
 mod refusing;
 mod scripted;

@@ -79,6 +79,38 @@ fn refusal_of_check(check: &Check<'_>) -> Option<&'static str> {
     None
 }
 
+/// Whether a text can be in a string of a script as it is: printable ASCII without quotes and backslashes.
+fn is_plain(text: &str) -> bool {
+    text.as_bytes().iter().all(|octet| {
+        (32..127).contains(octet) && *octet != b'"' && *octet != b'\'' && *octet != b'\\'
+    })
+}
+
+/// Whether a text is a method, `=`, and a path.
+fn is_aim(text: &str) -> bool {
+    match text.split_once('=') {
+        Some((method, path)) => {
+            !method.is_empty() && is_plain(method) && path.starts_with("/") && is_plain(path)
+        }
+        None => false,
+    }
+}
+
+/// Why the words of where requests go are refused, where they are.
+fn refusal_of_aim(against: &Against<'_>) -> Option<&'static str> {
+    if against.path != "" && !is_aim(against.path) {
+        return Some(
+            "error: invalid value for '--path <path>': METHOD=/PATH, without quotes and backslashes\n",
+        );
+    }
+    if !is_plain(against.authority) {
+        return Some(
+            "error: invalid value for '--authority <authority>': ASCII without quotes and backslashes\n",
+        );
+    }
+    None
+}
+
 /// Why the words of a server that is judged don't go together, where they don't.
 fn refusal_of_against(against: &Against<'_>) -> Option<&'static str> {
     if against.judge && against.port != 0 {
@@ -92,7 +124,10 @@ fn refusal_of_against(against: &Against<'_>) -> Option<&'static str> {
     if !against.judge && against.port == 0 {
         return Some("error: invalid value for '--against <against>': a port, 1 to 65535\n");
     }
-    None
+    if against.junit != "" && against.files.iter().any(|file| *file == against.junit) {
+        return Some("error: --junit FILE would replace a file of cases\n");
+    }
+    refusal_of_aim(against)
 }
 
 /// Why words that don't go together are refused, where they don't.

@@ -14,21 +14,21 @@ returns-in-Err-clause-printed g c = λ printed well held is. (failed NoMemory, i
 pub returns-in-Err-junit_text-clause-printed : goal.returns-in-Err-junit_text-clause-printed
 returns-in-Err-junit_text-clause-printed g c = λ printed well held is. (failed NoMemory, inl (refl, refl), c.print_fault-in-Err-junit_text.ensures.printed well held is)
 
-pub returns-in-Ok-write_junit-clause-printed : goal.returns-in-Ok-write_junit-clause-printed
-returns-in-Ok-write_junit-clause-printed g c = λ printed well held is.
+pub returns-in-Ok-write_results-clause-printed : goal.returns-in-Ok-write_results-clause-printed
+returns-in-Ok-write_results-clause-printed g c = λ printed well held is.
     let suites = map results_in c.args.suites.now in
     let hold = c.args.tally.all_hold in
-    let tap : c.as_slice-in-Ok-write_junit.result.now ≡ tap_file suites c.args.tally.count = c.as_slice-in-Ok-write_junit.ensures.value ∙ c.in-Ok.ensures in
+    let tap : c.as_slice-in-Ok-write_results.result.now ≡ tap_file suites c.args.tally.count = c.as_slice-in-Ok-write_results.ensures.value ∙ c.in-Ok.ensures in
     let xml : c.as_slice.result.now ≡ junit_file suites = c.as_slice.ensures.value ∙ c.in-Ok-junit_text.ensures in
-    let replaced = subst (λ (w : List ℕ). Replaces (g.F.Files.file c.args.files.now) c.args.plan.now.junit.now w (g.F.Files.file c.write_junit.new.files)) xml (c.in-Ok-write_junit.ensures.replaces printed) in
+    let replaced = subst (λ (w : List ℕ). Replaces (g.F.Files.file c.args.files.now) c.args.plan.now.junit.now w (g.F.Files.file c.write_results.new.files)) xml (c.in-Ok-write_results.ensures.replaces printed) in
     let prints = subst (λ (w : List ℕ). Prints (checked_after w (Ok hold)) held (g.O.Output.written c.print_results.new.output) c.print_results.result) tap (c.print_results.ensures.printed well held is) in
     (checked_after (tap_file suites c.args.tally.count) (Ok hold), inr (inl (replaced, refl)), prints)
 
 pub returns-clause-printed : goal.returns-clause-printed
 returns-clause-printed g c = λ printed well held is.
     let suites = map results_in c.args.suites.now in
-    let fault = c.in-Err-write_junit.fault in
-    let tap : c.as_slice-in-Err-write_junit.result.now ≡ tap_file suites c.args.tally.count = c.as_slice-in-Err-write_junit.ensures.value ∙ c.in-Ok.ensures in
-    let prints = subst (λ (w : List ℕ). Prints (checked_after w (Err (Fault fault))) held (g.O.Output.written c.print_results-in-Err-write_junit.new.output) c.print_results-in-Err-write_junit.result) tap
-    (c.print_results-in-Err-write_junit.ensures.printed well held is) in
-    (checked_after (tap_file suites c.args.tally.count) (Err (Fault fault)), inr (inr (c.in-Err-write_junit.ensures.kept, (fault, refl))), prints)
+    let fault = c.in-Err-write_results.fault in
+    let tap : c.as_slice-in-Err-write_results.result.now ≡ tap_file suites c.args.tally.count = c.as_slice-in-Err-write_results.ensures.value ∙ c.in-Ok.ensures in
+    let prints = subst (λ (w : List ℕ). Prints (checked_after w (Err (Fault fault))) held (g.O.Output.written c.print_results-in-Err-write_results.new.output) c.print_results-in-Err-write_results.result) tap
+    (c.print_results-in-Err-write_results.ensures.printed well held is) in
+    (checked_after (tap_file suites c.args.tally.count) (Err (Fault fault)), inr (inr (c.in-Err-write_results.ensures.kept, (fault, refl))), prints)
