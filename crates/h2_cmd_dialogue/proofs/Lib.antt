@@ -1,1 +1,2 @@
 pub mod WeaveLaws
+pub mod PlayLaws

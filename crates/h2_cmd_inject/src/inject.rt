@@ -4,14 +4,14 @@ ghost use Rattle.std.specs.Prelude.{◌≡◌, ◌==◌, false, is_err};
 ghost use Rattle.h2_cmd_inject.specs.Stops.{is_unwritten};
 
 use crate::file::{Dialogue, FileRefusal, chosen};
-use crate::findings::Ended;
-use crate::play::{Course, End};
 use crate::words::{PATIENCE, has_broken, result_text};
 use h2_cmd_args::command::Serve;
 use h2_cmd_batch::{BenchFault, Case, CaseSetup, OwnFault, book_for_words, own_of, print_fault};
 use h2_cmd_book_file::{Files, FilesFault};
 use h2_cmd_cases::{have_words, lines_in, title_of};
 use h2_cmd_check::Title;
+use h2_cmd_dialogue::findings::Ended;
+use h2_cmd_dialogue::play::{Course, End};
 use h2_cmd_dialogue::step::Step;
 use h2_cmd_exchange::link::Link;
 use h2_conn::{Conn, ConnFault};

@@ -1,9 +1,9 @@
 //! The text of a dialogue's result, by version 13 of the Test Anything Protocol. No definition speaks of these texts.
 
-use crate::findings::{Finding, Found};
-use crate::play::End;
 use h2_cmd_check::{Title, result_front};
+use h2_cmd_dialogue::findings::{Finding, Found};
 use h2_cmd_dialogue::limits::LimitFault;
+use h2_cmd_dialogue::play::End;
 use h2_cmd_dialogue::verdict::{Judged, Taken, Wanted, WantedLine};
 use h2_explain_words::names::Code;
 use h2_io::say::{EscapedText, HexOctet, Say, TextBuilder};

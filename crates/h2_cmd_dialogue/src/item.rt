@@ -2,7 +2,7 @@
 
 ghost use Rattle.std.specs.Prelude.{◌≡◌, IfSome, ◌≤◌, length};
 
-use h2_cmd_dialogue::step::Incoming;
+use crate::step::Incoming;
 use h2_explain_words::sent::next_frame;
 use h2_frame::read_head;
 use h2_spec::frames::PREFACE;

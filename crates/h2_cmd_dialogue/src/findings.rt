@@ -1,10 +1,10 @@
 //! What is found in a dialogue that was played: a verdict for each step, up to the first that the client did not go on from.
 
 use crate::play::{Course, End};
-use h2_cmd_dialogue::heard::{Ending, Event, Heard, is_sent, reaction_to};
-use h2_cmd_dialogue::limits::LimitFault;
-use h2_cmd_dialogue::step::{Means, Step};
-use h2_cmd_dialogue::verdict::{ByLine, Duty, Judged, Taken, WantedLine, best_of};
+use crate::heard::{Ending, Event, Heard, is_sent, reaction_to};
+use crate::limits::LimitFault;
+use crate::step::{Means, Step};
+use crate::verdict::{ByLine, Duty, Judged, Taken, WantedLine, best_of};
 use std::alloc::{AllocError, Global};
 
 /// What is found.
