@@ -8,6 +8,7 @@
     --patience SECONDS  how long a silent client is waited for: 3
     --limit SECONDS     how long a dialogue may take: 30
     --program FILE      the program whose `serve` is the server: the repository's
+    --inject            the program weaves and judges by itself, as `serve --inject` does; this script runs the command and compares its exit status
 
 The server is `h2_bench serve`, for each connection one; this script is between it and the client, and lets the octets of a step out behind or instead of what the server
 sends. Nothing but Python and the program is needed. It prints TAP; the status is 1 where a dialogue is `not ok` (TODO does not count), 2 where a file is refused.
@@ -741,6 +742,51 @@ def play(dialogue, port, options, run):
     return connections, status
 
 
+def lines_of_program(process, until):
+    """What the program prints, up to the result of the dialogue; all of it where the program has ended."""
+    said = []
+    reader = threading.Thread(target=lambda: said.extend(process.stdout), daemon=True)
+    reader.start()
+    while reader.is_alive() and time.monotonic() < until and not any(line.startswith(("ok ", "not ok ")) for line in said):
+        time.sleep(0.02)
+    process.kill()
+    reader.join(10)
+    process.wait()
+    return said
+
+
+def said_verdicts(lines):
+    """The verdicts in what `serve --inject` prints."""
+    found, is_open = [], any("# TODO" in line for line in lines)
+    for line in lines:
+        words = line.strip().split(": ", 1)
+        if line.startswith("  - line: "):
+            found.append(Verdict("open" if is_open else "broken", int(words[1]), "", ""))
+        elif line.startswith(("    wanted: ", "    found: ")):
+            found[-1] = found[-1]._replace(**{words[0]: words[1][1:-1]})
+        elif line.startswith(("# allowed: ", "# lingers: ")):
+            seen, _, wanted = words[1].rpartition("; wanted: ")
+            found.append(Verdict(words[0][2:], 0, wanted, seen))
+    return [one._replace(kind="missing") if one.found.startswith("no such item came") else one for one in found]
+
+
+def injected(number, dialogue, options):
+    """The verdicts on a dialogue that `serve --inject` plays while the command runs."""
+    command = ["h2_bench", "serve", "--inject", options.file, "--dialogue", str(number), str(options.port), "100", *ANSWERS]
+    process = subprocess.Popen(command, executable=options.program, stdin=subprocess.DEVNULL, stdout=subprocess.PIPE, text=True, errors="replace")
+    first = process.stdout.readline()
+    assert first.startswith("listening"), first
+    status = run_command(options.command, options.limit + options.patience)[0] if options.command else None
+    lines = lines_of_program(process, time.monotonic() + (options.patience + 5 if options.command else options.limit + 5))
+    found = said_verdicts(lines)
+    if not any(line.startswith(("ok ", "not ok ")) for line in lines):
+        return verdicts(dialogue, [], status)
+    if status not in (None, "killed", 0):
+        nothing = lambda one: one.kind == "broken" and one.found == "goes on" and " stream " in one.wanted
+        found = [one._replace(kind="allowed", found="goes on: nothing was sent, and the command fails") if nothing(one) else one for one in found]
+    return [*found, *verdicts_of_status(dialogue, status)]
+
+
 def runner(options):
     """What makes the client's requests: the command, or somebody else while this waits for the end of the first connection."""
 
@@ -780,6 +826,7 @@ def options_of(words):
     parser.add_argument("--patience", type=float, default=3)
     parser.add_argument("--limit", type=float, default=30)
     parser.add_argument("--program", default=f"{TOP}/h2_bench")
+    parser.add_argument("--inject", action="store_true")
     parser.add_argument("file")
     parser.add_argument("port", type=int)
     parser.add_argument("command", nargs=argparse.REMAINDER)
@@ -802,7 +849,7 @@ def main(words):
     for number, dialogue in chosen:
         if not options.command:
             print(f"# listening {options.port}", flush=True)
-        found = verdicts(dialogue, *play(dialogue, options.port, options, runner(options)))
+        found = injected(number, dialogue, options) if options.inject else verdicts(dialogue, *play(dialogue, options.port, options, runner(options)))
         is_well = is_well and all(one.kind not in WRONG for one in found)
         print(*tap(number, options.file, dialogue, found), sep="\n", flush=True)
     print(f"1..{len(chosen)}")

@@ -157,8 +157,20 @@ count_rule = record (new_rule (codes "COUNT")) { required = true; action = Some 
 abbrev pub with_view : App → App
 with_view app = with_rule (with_rule (with_rule (with_rule (with_rule (with_rule (with_rule app json_rule) color_rule) strict_rule) full_rule) brief_rule) errors_rule) stream_rule
 
+-- the file of the dialogue that the first connection is given, one text
+abbrev pub inject_rule : Rule
+inject_rule = record (new_rule (codes "inject")) { long = Some (codes "inject"); action = Some Set }
+
+-- which dialogue of it
+abbrev pub dialogue_rule : Rule
+dialogue_rule = record (new_rule (codes "dialogue")) { long = Some (codes "dialogue"); action = Some Set; parser = Some (parser.Unsigned 0 4294967295) }
+
+-- a command with the rules of a dialogue
+abbrev pub with_script : App → App
+with_script app = with_rule (with_rule app inject_rule) dialogue_rule
+
 abbrev pub serve_app : App
-serve_app = with_rule (with_rule (with_rule (with_book (with_view (with_rule (with_rule (with_rule (with_limits (new_app (codes "serve"))) explain_rule) times_rule) record_rule))) port_rule) count_rule) answer_rule
+serve_app = with_rule (with_rule (with_rule (with_book (with_view (with_script (with_rule (with_rule (with_rule (with_limits (new_app (codes "serve"))) explain_rule) times_rule) record_rule))) port_rule) count_rule) answer_rule
 
 abbrev pub explain_app : App
 explain_app = with_rule (with_octets (with_book (with_view (with_limits (new_app (codes "explain")))))) answer_rule
@@ -244,12 +256,15 @@ pub record FormAsked : Type 0 where
   pub stream : Option ℕ
 
 -- what is shown of connections that are served: whether they are explained, and how; whether with the time of each line;
--- and the directory where they are recorded, empty where they are not
+-- the directory where they are recorded, empty where they are not; the file of the dialogue that the first one is given, empty
+-- where it is given none, and the number of that dialogue
 pub record ReportAsked : Type 0 where
   pub explain : Bool
   pub view : FormAsked
   pub times : Bool
   pub record_to : Text
+  pub inject : Text
+  pub dialogue : ℕ
 
 pub data Asked : Type 0 where
   batch : BatchAsked → Asked
@@ -352,6 +367,8 @@ report_at rows = record {
   view = form_at rows;
   times = is_set (codes "times") rows;
   record_to = text_at (codes "record") rows;
+  inject = text_at (codes "inject") rows;
+  dialogue = number_at (codes "dialogue") 1 rows;
 }
 
 -- whether a server is to be judged: over a connection, or by octets that were recorded

@@ -33,6 +33,8 @@ report_asked w = record {
   view = record { json = w.json; color = w.color; strict = w.strict; full = w.full; brief = w.brief; errors = w.errors; stream = w.stream };
   times = w.times;
   record_to = w.record_to.now;
+  inject = w.inject.now;
+  dialogue = w.dialogue;
 }
 
 abbrev pub planned : Plan → Asked

@@ -72,7 +72,7 @@ pub struct Explain<'a> {
     pub book: BookWords<'a>,
 }
 
-/// What is shown of connections that are served.
+/// What is shown of connections that are served, and which dialogue the first one is given.
 #[derive(Clone, Copy)]
 pub struct ServeReport<'a> {
     /// Whether each item is explained as soon as it arrives; else the other members say nothing.
@@ -95,6 +95,10 @@ pub struct ServeReport<'a> {
     pub times: bool,
     /// The directory where each connection is recorded; empty where none is.
     pub record_to: &'a str,
+    /// The file of the dialogue that the first connection is given; empty where it is given none.
+    pub inject: &'a str,
+    /// The number of that dialogue, from 1.
+    pub dialogue: u32,
 }
 
 /// How connections are served.
@@ -349,6 +353,8 @@ fn report_from<'a>(matches: &ArgMatches<'a>) -> ServeReport<'a>
         stream: number_given(matches, "stream"),
         times,
         record_to,
+        inject: text_at(matches, "inject"),
+        dialogue: number_at(matches, "dialogue", 1),
     }
 }
 

@@ -126,6 +126,18 @@ const RECORD: Word = Word {
     help: "Explains, and records each connection in this directory: its octets as hex, and a case for check",
 };
 
+const INJECT: Word = Word {
+    name: "inject",
+    kind: Kind::Text,
+    help: "A file of dialogues: the frames of one go out behind the answers of the first connection, or instead, and its client is judged",
+};
+
+const DIALOGUE: Word = Word {
+    name: "dialogue",
+    kind: Kind::Number(4294967295),
+    help: "Which dialogue of the file, from 1; 1 where none is given",
+};
+
 const FULL: Word = Word {
     name: "full",
     kind: Kind::Flag,
@@ -305,8 +317,8 @@ static USAGES: [Usage; 8] = [
         name: "serve",
         about: "Serves connections of a port, one after another",
         words: &[
-            STREAMS, CREDIT, TABLE, WINDOW, FRAME, EXPLAIN, TIMES, RECORD, JSON, COLOR, STRICT,
-            FULL, BRIEF, ERRORS, STREAM, BOOK, WHY, QUIET, PORT, COUNT, ANSWERS,
+            STREAMS, CREDIT, TABLE, WINDOW, FRAME, EXPLAIN, TIMES, RECORD, INJECT, DIALOGUE, JSON,
+            COLOR, STRICT, FULL, BRIEF, ERRORS, STREAM, BOOK, WHY, QUIET, PORT, COUNT, ANSWERS,
         ],
     },
     Usage {

@@ -9,6 +9,7 @@ use crate::peer::TcpPeer;
 use h2_cmd_against::against::judge_server;
 use h2_cmd_args::command::{Against, Debug, Refusal, Serve};
 use h2_cmd_book_file::Files;
+use h2_cmd_inject::inject;
 use h2_cmd_run::{Keeper, NoKeeper, Plan, TcpPort, carry_out, debug_over, serve};
 use h2_host::{Commands, NamedFiles, Noted, ServerOutput, Stopwatch, run_program};
 use h2_host_recording::{recordings_for, refuse_recording};
@@ -49,12 +50,34 @@ fn serve_kept<'t, 'c, W: Write, K: Keeper>(
     (status, noted.is_written())
 }
 
+/// Plays a dialogue, as the words ask for; gives the status, and whether a sentence was written.
+fn inject_over<W: Write>(rt: &HostRuntime, plan: &Serve<'_>, output: &mut W) -> (u8, bool) {
+    let mut files = NamedFiles { rt };
+    let mut stderr = rt.stderr();
+    let mut errors = IntoWrite::new(&mut stderr);
+    let mut noted = Noted::new(&mut errors);
+    let mut written = IntoWrite::new(output);
+    let mut guests = TcpPeer::new(rt, 0);
+    let status = inject(
+        rt.alloc(),
+        plan,
+        &mut guests,
+        &mut files,
+        &mut written,
+        &mut noted,
+    );
+    (status, noted.is_written())
+}
+
 /// Serves, as the words ask for; gives the status, and whether a sentence was written.
 fn serve_over<'x, W: Write>(
     rt: &'x HostRuntime,
     plan: &'x Serve<'_>,
     output: &mut W,
 ) -> (u8, bool) {
+    if !plan.watch.inject.is_empty() {
+        return inject_over(rt, plan, output);
+    }
     if plan.watch.explain && plan.book.why {
         let _ = rt.stderr().write_all(POOLS.as_bytes());
     }

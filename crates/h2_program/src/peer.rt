@@ -1,18 +1,20 @@
-//! Connections to the servers that are judged, over TCP.
+//! Connections over TCP to the servers that are judged, and of the clients that a dialogue is played to.
 
 ghost use Rattle.std.specs.Prelude.{None};
 
 use h2_cmd_against::{Link, LinkRead};
+use h2_cmd_inject::Guests;
 use h2_host::Stopwatch;
 use std::io::{ErrorKind, Read, Write};
-use std::net::{IpAddr, Ipv4Addr, SocketAddr, TcpStream};
+use std::net::{IpAddr, Ipv4Addr, SocketAddr, TcpListener, TcpStream};
 use std::time::Duration;
 
-/// The server on a port of this host, over TCP.
+/// The server on a port of this host, or the clients of a port that is listened on, over TCP.
 #[derive(Drop)]
 pub struct TcpPeer<'x> {
     rt: &'x HostRuntime,
     port: u16,
+    listener: Option<TcpListener>,
     stream: Option<TcpStream>,
     times: Stopwatch<'x, HostRuntime>,
 }
@@ -23,15 +25,42 @@ const WRITE_MILLIS: u64 = 2_000;
 /// The most milliseconds that a case takes.
 const MOST_MILLIS: u64 = 5_000;
 
+/// The most milliseconds that a dialogue takes.
+const DIALOGUE_MILLIS: u64 = 30_000;
+
+/// An address of this host.
+fn local(port: u16) -> SocketAddr {
+    SocketAddr::new(IpAddr::V4(Ipv4Addr::new(127, 0, 0, 1)), port)
+}
+
 impl<'x> TcpPeer<'x> {
     /// Without a connection yet.
     pub fn new(rt: &'x HostRuntime, port: u16) -> TcpPeer<'x> {
         TcpPeer {
             rt,
             port,
+            listener: None,
             stream: None,
             times: Stopwatch::new(rt),
         }
+    }
+
+    /// A new connection, if there is one: of the next client where a port is listened on, else to the server.
+    fn next_stream(&mut self) -> Option<TcpStream> {
+        match &self.listener {
+            Some(listener) => match listener.accept() {
+                Ok((stream, _)) => Some(stream),
+                Err(_) => None,
+            },
+            None => TcpStream::connect(self.rt, local(self.port)).ok(),
+        }
+    }
+}
+
+impl Guests for TcpPeer<'_> {
+    fn listen(&mut self, port: u16) -> bool {
+        self.listener = TcpListener::bind(self.rt, local(port)).ok();
+        self.listener.is_some()
     }
 }
 
@@ -40,8 +69,7 @@ impl Link for TcpPeer<'_> {
 
     fn connect(&mut self) -> bool {
         self.stream = None;
-        let address = SocketAddr::new(IpAddr::V4(Ipv4Addr::new(127, 0, 0, 1)), self.port);
-        let Ok(stream) = TcpStream::connect(self.rt, address) else {
+        let Some(stream) = self.next_stream() else {
             return false;
         };
         let _unset = stream.set_nodelay(true);
@@ -79,8 +107,13 @@ impl Link for TcpPeer<'_> {
     }
 
     fn is_late(&mut self) -> bool {
+        let most = if self.listener.is_some() {
+            DIALOGUE_MILLIS
+        } else {
+            MOST_MILLIS
+        };
         match self.times.millis() {
-            Some(millis) => millis > MOST_MILLIS,
+            Some(millis) => millis > most,
             None => false,
         }
     }

@@ -8,7 +8,7 @@ use crate::{
     Behind, Console, Front, Hexed, Manner, SessionState, TakenInput, WaitingInput, WaitingOutput,
     hex_of,
 };
-use h2_cmd_args::command::{Against, Batch, Check, Devices, Plan, Refusal};
+use h2_cmd_args::command::{Against, Batch, Check, Devices, Plan, Refusal, ServeReport};
 use h2_cmd_book_file::{Files, FilesFault};
 use h2_cmd_messages::{InputSource, has_offsets, is_capture};
 use h2_io::MAX_INPUT;
@@ -130,6 +130,17 @@ fn refusal_of_against(against: &Against<'_>) -> Option<&'static str> {
     refusal_of_aim(against)
 }
 
+/// Why words of `serve` are refused that don't go together, where they don't.
+fn refusal_of_serve(watch: ServeReport<'_>) -> Option<&'static str> {
+    if watch.inject != "" && watch.explain {
+        return Some("error: --inject does not go with --explain and the words that explain\n");
+    }
+    if watch.dialogue == 0 {
+        return Some("error: invalid value for '--dialogue <dialogue>': the first one is 1\n");
+    }
+    None
+}
+
 /// Why words that don't go together are refused, where they don't.
 fn refusal_of(asked: &Result<Plan<'_>, Refusal>, devices: Devices<'_>) -> Option<&'static str> {
     if let Ok(Plan::Check(check)) = asked {
@@ -137,6 +148,9 @@ fn refusal_of(asked: &Result<Plan<'_>, Refusal>, devices: Devices<'_>) -> Option
     }
     if let Ok(Plan::Against(against)) = asked {
         return refusal_of_against(against);
+    }
+    if let Ok(Plan::Serve(serve)) = asked {
+        return refusal_of_serve(serve.watch);
     }
     if let Ok(Plan::Explain(explain)) = asked
         && explain.file != ""

@@ -1,0 +1,2 @@
+pub mod WeaveLaws
+pub mod PlayLaws

@@ -1,0 +1,337 @@
+//! `serve --inject`: a dialogue is read, a port is listened on, and clients are served, the first one with the script.
+
+ghost use Rattle.std.specs.Prelude.{◌≡◌, ◌==◌, false, is_err};
+ghost use Rattle.h2_cmd_inject.specs.Stops.{is_unwritten};
+
+use crate::file::{Dialogue, FileRefusal, chosen};
+use crate::words::{PATIENCE, has_broken, result_text};
+use h2_cmd_args::command::Serve;
+use h2_cmd_batch::{BenchFault, Case, CaseSetup, OwnFault, book_for_words, own_of, print_fault};
+use h2_cmd_book_file::{Files, FilesFault};
+use h2_cmd_cases::{have_words, lines_in, title_of};
+use h2_cmd_check::Title;
+use h2_cmd_dialogue::findings::Ended;
+use h2_cmd_dialogue::play::{Course, End};
+use h2_cmd_dialogue::step::Step;
+use h2_cmd_exchange::link::Link;
+use h2_conn::{Conn, ConnFault};
+use h2_io::{MAX_INPUT, Output};
+use h2_request_book::book::Book;
+use h2_spec::connection::Config;
+use std::alloc::{AllocError, Global};
+use std::str;
+
+/// What listens on a port of 127.0.0.1; then `connect` waits for the next client.
+pub trait Guests: Link {
+    /// Listens on a port. Says whether it could.
+    fn listen(&mut self, port: u16) -> bool
+        ensures { Self.Link.log self.new ≡ Self.Link.log self.old };
+}
+
+/// Why nothing is served, or no more.
+#[derive(Drop)]
+enum Stop {
+    NoMemory,
+    /// This is written to standard error, and the status is 2.
+    Sentence(String),
+    Fault(BenchFault),
+    /// The output failed.
+    NotWritten,
+}
+
+impl From<AllocError> for Stop {
+    fn from(_error: AllocError) -> Stop {
+        Stop::NoMemory
+    }
+}
+
+/// What a dialogue is played with.
+#[derive(Clone, Copy)]
+struct Play<'p> {
+    file: &'p str,
+    number: u64,
+    lines: &'p [&'p [u8]],
+    dialogue: &'p Dialogue,
+}
+
+/// A sentence about a file.
+fn about(alloc: Global, file: &str, why: &str) -> Stop {
+    match format!(in alloc; "{file}: {why}\n") {
+        Ok(text) => Stop::Sentence(text),
+        Err(_) => Stop::NoMemory,
+    }
+}
+
+/// A sentence about a line of a file.
+fn about_line(alloc: Global, file: &str, line: usize, why: &str) -> Stop {
+    match format!(in alloc; "{file}:{line}: {why}\n") {
+        Ok(text) => Stop::Sentence(text),
+        Err(_) => Stop::NoMemory,
+    }
+}
+
+/// Why a file is refused.
+fn refusal(alloc: Global, file: &str, refusal: FileRefusal) -> Stop {
+    match refusal {
+        FileRefusal::NoMemory => Stop::NoMemory,
+        FileRefusal::Line(line, why) => about_line(alloc, file, line, why),
+        FileRefusal::Few(count) => match format!(in alloc; "{file}: it has {count} dialogues\n") {
+            Ok(text) => Stop::Sentence(text),
+            Err(_) => Stop::NoMemory,
+        },
+    }
+}
+
+/// The text of a file of dialogues.
+fn read<F: Files>(alloc: Global, file: &str, files: &mut F) -> Result<Vec<u8>, Stop> {
+    let text = match files.read(alloc, file, MAX_INPUT) {
+        Ok(text) => text,
+        Err(FilesFault::NoMemory) => return Err(Stop::NoMemory),
+        Err(FilesFault::Failed) => return Err(about(alloc, file, "the file can't be read")),
+        Err(FilesFault::TooLong) => {
+            return Err(about(alloc, file, "the file has more than 16777216 octets"));
+        }
+    };
+    match str::from_utf8(text.as_slice()) {
+        Ok(_) => Ok(text),
+        Err(_) => Err(about(alloc, file, "the file is not UTF-8")),
+    }
+}
+
+/// The lines of a dialogue.
+fn lines_of<'p>(play: &Play<'p>) -> &'p [&'p [u8]] {
+    let first = play.dialogue.first;
+    let end = first.saturating_add(play.dialogue.count);
+    play.lines.get(first..end).unwrap_or_default()
+}
+
+/// The limits, the settings and the book that a dialogue says, if it says some.
+fn own<F: Files>(
+    alloc: Global,
+    play: &Play<'_>,
+    files: &mut F,
+) -> Result<Option<CaseSetup>, Stop> {
+    let lines = lines_of(play);
+    if !have_words(lines) {
+        return Ok(None);
+    }
+    let case = Case {
+        file: play.file,
+        lines,
+        number: play.dialogue.first.saturating_add(1),
+    };
+    match own_of(alloc, files, case) {
+        Ok(own) => Ok(Some(own)),
+        Err(OwnFault::NoMemory) => Err(Stop::NoMemory),
+        Err(OwnFault::Refused(words)) => {
+            Err(about_line(alloc, play.file, words.line, words.why.as_str()))
+        }
+    }
+}
+
+/// Writes, and flushes the output so that its reader sees it at once.
+fn print<O: Output>(output: &mut O, text: &[u8]) -> Result<(), Stop>
+    requires writer { O.has_failed output.old ≡ false }
+    ensures flag { O.has_failed output.new ≡ is_unwritten result }
+{
+    match output.write(text) {
+        Ok(()) => {}
+        Err(_) => return Err(Stop::NotWritten),
+    }
+    match output.flush() {
+        Ok(()) => Ok(()),
+        Err(_) => Err(Stop::NotWritten),
+    }
+}
+
+/// Plays the connection of a client. Gives what is known of it, and how it ended.
+fn play_one<'b, L: Link>(
+    alloc: Global,
+    book: &'b Book<Global>,
+    config: Config,
+    steps: &[Step],
+    link: &mut L,
+) -> Result<(Course<'b>, End), Stop> {
+    let mut opening = Vec::new(alloc);
+    let conn = match Conn::new(book, config, &mut opening) {
+        Ok(conn) => conn,
+        Err(ConnFault::BadConfig) => return Err(Stop::Fault(BenchFault::BadConfig)),
+        Err(_) => return Err(Stop::NoMemory),
+    };
+    let mut course = Course::begin(alloc, conn, steps, opening.as_slice())?;
+    let end = course.play(alloc, steps, link, u64::from(PATIENCE).saturating_mul(1000))?;
+    Ok((course, end))
+}
+
+/// Plays a dialogue to the first client, and prints its result. Says whether something is broken.
+fn play_first<L: Link, O: Output>(
+    alloc: Global,
+    book: &Book<Global>,
+    config: Config,
+    play: &Play<'_>,
+    link: &mut L,
+    output: &mut O,
+) -> Result<bool, Stop>
+    requires writer { O.has_failed output.old ≡ false }
+    ensures flag { O.has_failed output.new ≡ is_unwritten result }
+{
+    let steps = play.dialogue.steps.as_slice();
+    let (course, end) = play_one(alloc, book, config, steps, link)?;
+    let ended = Ended {
+        course: &course,
+        end,
+    };
+    let findings = ended.findings(alloc, steps)?;
+    let title = Title {
+        file: play.file,
+        title: title_of(lines_of(play)),
+    };
+    let text = result_text(
+        alloc,
+        play.number,
+        title,
+        play.lines,
+        play.dialogue.first,
+        findings.as_slice(),
+        end,
+    )?;
+    print(output, text.as_slice())?;
+    Ok(has_broken(findings.as_slice()))
+}
+
+/// Waits for the next client.
+fn accept<L: Link>(link: &mut L) -> Result<(), Stop> {
+    if link.connect() {
+        Ok(())
+    } else {
+        Err(Stop::Fault(BenchFault::Socket))
+    }
+}
+
+/// Serves this many clients: the first one has the script, later ones the server alone. Says whether something is broken.
+fn serve_all<L: Link, O: Output>(
+    alloc: Global,
+    book: &Book<Global>,
+    config: Config,
+    play: &Play<'_>,
+    count: u32,
+    link: &mut L,
+    output: &mut O,
+) -> Result<bool, Stop>
+    requires writer { O.has_failed output.old ≡ false }
+    ensures flag { O.has_failed output.new ≡ is_unwritten result }
+{
+    if count == 0 {
+        return Ok(false);
+    }
+    accept(link)?;
+    let is_broken = play_first(alloc, book, config, play, link, output)?;
+    for _later in 1..count {
+        accept(link)?;
+        let _later = play_one(alloc, book, config, &[], link)?;
+    }
+    Ok(is_broken)
+}
+
+/// Listens on a port, prints that, and serves.
+fn listen_and_serve<G: Guests, O: Output>(
+    alloc: Global,
+    book: &Book<Global>,
+    config: Config,
+    play: &Play<'_>,
+    plan: &Serve<'_>,
+    guests: &mut G,
+    output: &mut O,
+) -> Result<bool, Stop>
+    requires writer { O.has_failed output.old ≡ false }
+    ensures flag { O.has_failed output.new ≡ is_unwritten result }
+{
+    match Conn::new(book, config, &mut Vec::new(alloc)) {
+        Ok(_) => {}
+        Err(ConnFault::BadConfig) => return Err(Stop::Fault(BenchFault::BadConfig)),
+        Err(_) => return Err(Stop::NoMemory),
+    }
+    let Ok(port) = u16::try_from(plan.port) else {
+        return Err(Stop::Fault(BenchFault::Socket));
+    };
+    if !guests.listen(port) {
+        return Err(Stop::Fault(BenchFault::Socket));
+    }
+    let line = format!(in alloc; "listening {port}\n")?;
+    print(output, line.as_bytes())?;
+    serve_all(alloc, book, config, play, plan.count, guests, output)
+}
+
+/// The dialogue that a plan names, of a file with these lines.
+fn dialogue_of(alloc: Global, plan: &Serve<'_>, lines: &[&[u8]]) -> Result<Dialogue, Stop> {
+    match chosen(alloc, lines, plan.watch.dialogue as usize) {
+        Ok(dialogue) => Ok(dialogue),
+        Err(fault) => Err(refusal(alloc, plan.watch.inject, fault)),
+    }
+}
+
+/// Serves, as a plan says. Says whether something is broken.
+fn run<F: Files, G: Guests, O: Output, E: Output>(
+    alloc: Global,
+    plan: &Serve<'_>,
+    guests: &mut G,
+    files: &mut F,
+    output: &mut O,
+    errors: &mut E,
+) -> Result<bool, Stop>
+    requires writer { O.has_failed output.old ≡ false }
+    ensures flag { O.has_failed output.new ≡ is_unwritten result }
+{
+    let text = read(alloc, plan.watch.inject, files)?;
+    let lines = lines_in(alloc, text.as_slice())?;
+    let dialogue = dialogue_of(alloc, plan, lines.as_slice())?;
+    let play = Play {
+        file: plan.watch.inject,
+        number: u64::from(plan.watch.dialogue),
+        lines: lines.as_slice(),
+        dialogue: &dialogue,
+    };
+    let own = own(alloc, &play, files)?;
+    let book = match book_for_words(alloc, &plan.book, files, errors) {
+        Ok(book) => book,
+        Err(fault) => return Err(Stop::Fault(fault)),
+    };
+    match &own {
+        None => listen_and_serve(alloc, &book, plan.config, &play, plan, guests, output),
+        Some(own) => {
+            let book = if own.book.len() == 0 {
+                &book
+            } else {
+                &own.book
+            };
+            listen_and_serve(alloc, book, own.config, &play, plan, guests, output)
+        }
+    }
+}
+
+/// Serves clients of a port, as a plan says that names a file of dialogues: the first client has the script of one of them, and
+/// its result is printed; later ones get the server alone. Gives the status: 0 where nothing is broken, 1 where something is, and
+/// after a fault, 2 where the file is refused and a sentence is written to `errors`, 3 where the output failed.
+pub fn inject<F: Files, G: Guests, O: Output, E: Output>(
+    alloc: Global,
+    plan: &Serve<'_>,
+    guests: &mut G,
+    files: &mut F,
+    output: &mut O,
+    errors: &mut E,
+) -> u8
+    requires writer { O.has_failed output.old ≡ false }
+    ensures flag { O.has_failed output.new ≡ (result == 3) }
+{
+    match run(alloc, plan, guests, files, output, errors) {
+        Ok(true) => 1,
+        Ok(false) => 0,
+        Err(Stop::NoMemory) => print_fault(output, BenchFault::NoMemory),
+        Err(Stop::Fault(fault)) => print_fault(output, fault),
+        Err(Stop::NotWritten) => 3,
+        Err(Stop::Sentence(text)) => {
+            let _ = errors.write(text.as_bytes());
+            2
+        }
+    }
+}

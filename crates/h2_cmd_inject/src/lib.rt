@@ -1,0 +1,11 @@
+//! `serve --inject`: one dialogue of a file is played to the first client of a port, and its verdict printed; later clients get
+//! the server alone. The definitions of what goes out, and of the verdict, are those of h2_cmd_dialogue.
+#![tactic(auto)]
+
+mod file;
+mod inject;
+mod script_lines;
+mod words;
+
+pub use h2_cmd_exchange::link::{Link, LinkRead};
+pub use inject::{Guests, inject};
