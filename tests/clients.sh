@@ -1,9 +1,10 @@
 #!/usr/bin/env bash
-# Real HTTP/2 clients against `h2_bench serve`, over 127.0.0.1 alone. It uses the clients that are installed, says
-# which it skips, prints a line PASS or FAIL for each check, and exits with 1 if one fails.
+# Real HTTP/2 clients against `h2_bench serve`, and nghttpd judged by `check --against`, over 127.0.0.1 alone. It uses
+# the programs that are installed, says which it skips, prints a line PASS or FAIL for each check, and exits with 1 if one
+# fails.
 #
-#   tests/clients.sh            all clients
-#   tests/clients.sh curl go    these alone: curl, nghttp, h2load, python, go, node, rude, speed
+#   tests/clients.sh            all
+#   tests/clients.sh curl go    these alone: curl, nghttp, h2load, python, go, node, rude, nghttpd, speed
 #
 # WATCH=1 has each connection explained and recorded: then the case that was recorded has to hold, and what `explain`
 # says of it has to be what `serve --explain` printed.
@@ -11,6 +12,7 @@
 # Debian's packages: curl nghttp2-client nghttp2-server python3-h2 golang-go golang-golang-x-net-dev nodejs.
 # H2_BENCH is the program (default: the repository's h2_bench), PORT the first port that is used (default 18480).
 set -u
+PATH=$PATH:/usr/sbin
 top=$(cd "$(dirname "$(readlink -f "${BASH_SOURCE[0]}")")/.." && pwd)
 bench=${H2_BENCH:-$top/h2_bench}
 port=$((${PORT:-18480} - 1))
@@ -249,8 +251,32 @@ test_rude() {
     stop
 }
 
+# The rules that nghttpd broke, but for those that nghttp2 is known to break (docs/SERVERS.md).
+broken() {
+    "$bench" check --against "$1" "${@:2}" >"$work/verdicts"
+    sed -n 's/^# broken: \([a-z-]*\),.*/\1/p' "$work/verdicts" | grep -vxE 'frame-too-large|initial-window-size-overflow|headers-on-skipped'
+}
+
+# nghttpd, judged by some cases. What a busy machine delays may look broken: then a second run counts.
+test_nghttpd() {
+    mkdir -p "$work/www"
+    echo hello >"$work/www/index.html"
+    local listens found
+    listens=$("$python" -c 'import socket; s = socket.create_server(("127.0.0.1", 0)); print(s.getsockname()[1])')
+    nghttpd --no-tls -a 127.0.0.1 -d "$work/www" "$listens" >/dev/null 2>&1 &
+    server=$!
+    sleep 0.5
+    local cases=("$top"/cases/start.h2 "$top"/cases/frames/*.h2 "$top"/cases/settings/*.h2)
+    found=$(broken "$listens" "${cases[@]}")
+    if [ -n "$found" ]; then found=$(broken "$listens" "${cases[@]}"); fi
+    check "nghttpd: it breaks no rule but those that are known" "" "$found"
+    check "nghttpd: each case has a verdict" "$(cat "${cases[@]}" | grep -c '^;# ')" "$(grep -cE '^(not )?ok ' "$work/verdicts")"
+    check "nghttpd: most are the same" "yes" "$(sed -n 's/^# same \([0-9]*\),.*/\1/p' "$work/verdicts" | awk '{ print ($1 > 70) ? "yes" : $1 }')"
+    stop
+}
+
 test_speed() {
-    mkdir "$work/www"
+    mkdir -p "$work/www"
     echo hello >"$work/www/index.html"
     nghttpd --no-tls -a 127.0.0.1 -d "$work/www" $((port + 2)) >/dev/null 2>&1 &
     local other=$!
@@ -283,6 +309,7 @@ if wants python "$python"; then test_python; fi
 if wants go go; then test_go; fi
 if wants node node; then test_node; fi
 if wants rude "$python"; then test_rude; fi
+if wants nghttpd nghttpd; then test_nghttpd; fi
 if wants speed h2load && wants speed nghttpd; then test_speed; fi
 echo "$passed passed, $failed failed"
 [ "$failed" -eq 0 ]
