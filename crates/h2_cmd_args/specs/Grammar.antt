@@ -170,7 +170,7 @@ abbrev pub with_script : App → App
 with_script app = with_rule (with_rule app inject_rule) dialogue_rule
 
 abbrev pub serve_app : App
-serve_app = with_rule (with_rule (with_rule (with_book (with_view (with_script (with_rule (with_rule (with_rule (with_limits (new_app (codes "serve"))) explain_rule) times_rule) record_rule))) port_rule) count_rule) answer_rule
+serve_app = with_rule (with_rule (with_rule (with_book (with_view (with_script (with_rule (with_rule (with_rule (with_limits (new_app (codes "serve"))) explain_rule) times_rule) record_rule)))) port_rule) count_rule) answer_rule
 
 abbrev pub explain_app : App
 explain_app = with_rule (with_octets (with_book (with_view (with_limits (new_app (codes "explain")))))) answer_rule
