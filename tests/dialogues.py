@@ -228,8 +228,9 @@ def read_file(path, program):
     assert len(frames) == len(reader.users), "each line is one frame"
     for use, frame in zip(reader.users, frames):
         use(frame)
-    for dialogue in reader.dialogues:
+    for number, dialogue in enumerate(reader.dialogues, 1):
         check_words(dialogue, program)
+        dialogue.path, dialogue.number = path, number
     return reader.dialogues
 
 
@@ -770,17 +771,18 @@ def said_verdicts(lines):
     return [one._replace(kind="missing") if one.found.startswith("no such item came") else one for one in found]
 
 
-def injected(number, dialogue, options):
-    """The verdicts on a dialogue that `serve --inject` plays while the command runs."""
-    command = ["h2_bench", "serve", "--inject", options.file, "--dialogue", str(number), str(options.port), "100", *ANSWERS]
+def injected(dialogue, port, options, run):
+    """The verdicts on a dialogue that `serve --inject` plays at a port while `run` runs, as for `play`; no more of a connection is known."""
+    command = ["h2_bench", "serve", "--quiet", "--inject", dialogue.path, "--dialogue", str(dialogue.number), str(port), "100", *ANSWERS]
     process = subprocess.Popen(command, executable=options.program, stdin=subprocess.DEVNULL, stdout=subprocess.PIPE, text=True, errors="replace")
     first = process.stdout.readline()
     assert first.startswith("listening"), first
-    status = run_command(options.command, options.limit + options.patience)[0] if options.command else None
-    lines = lines_of_program(process, time.monotonic() + (options.patience + 5 if options.command else options.limit + 5))
-    found = said_verdicts(lines)
+    status = run(port, None)
+    # A client that is silent is waited for as long as the program has patience, another one as long as a dialogue may take.
+    lines = lines_of_program(process, time.monotonic() + (8 if options.command else options.limit + 8))
     if not any(line.startswith(("ok ", "not ok ")) for line in lines):
         return verdicts(dialogue, [], status)
+    found = said_verdicts(lines)
     if status not in (None, "killed", 0):
         nothing = lambda one: one.kind == "broken" and one.found == "goes on" and " stream " in one.wanted
         found = [one._replace(kind="allowed", found="goes on: nothing was sent, and the command fails") if nothing(one) else one for one in found]
@@ -849,7 +851,10 @@ def main(words):
     for number, dialogue in chosen:
         if not options.command:
             print(f"# listening {options.port}", flush=True)
-        found = injected(number, dialogue, options) if options.inject else verdicts(dialogue, *play(dialogue, options.port, options, runner(options)))
+        if options.inject:
+            found = injected(dialogue, options.port, options, runner(options) if options.command else lambda *_: None)
+        else:
+            found = verdicts(dialogue, *play(dialogue, options.port, options, runner(options)))
         is_well = is_well and all(one.kind not in WRONG for one in found)
         print(*tap(number, options.file, dialogue, found), sep="\n", flush=True)
     print(f"1..{len(chosen)}")

@@ -3,4 +3,4 @@
 # COMMAND is compared with what the dialogue expects. The status is 1 where a dialogue is `not ok`. dialogues/README.md has the files, and the options before FILE.
 #
 #   tools/judge-client.sh FILE PORT COMMAND..
-exec python3 -B "$(dirname "$0")/../tests/dialogues.py" "$@"
+exec python3 -B "$(dirname "$0")/../tests/dialogues.py" --inject "$@"

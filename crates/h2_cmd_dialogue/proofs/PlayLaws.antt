@@ -1,15 +1,17 @@
 -- What happens on a connection, one turn after another.
-use Rattle.std.proofs.Common.{◌≡◌, ◌∙◌, ℕ, ◌+◌, Bool, List, [], ◌∷◌, ◌++◌, flat_map, take, drop, Option, Some, None, refl, ap, sym, subst}
+use Rattle.std.proofs.Common.{◌≡◌, ◌∙◌, ℕ, ◌+◌, Bool, true, false, List, [], ◌∷◌, ◌++◌, flat_map, take, drop, Option, Some, None, refl, ap, sym, subst}
 use Rattle.std.proofs.lemmas.List.{append_assoc, append-nil, take-append-drop}
 use Rattle.std.proofs.lemmas.Grind.{flat_map-append}
 use Rattle.std.proofs.Math.Seq.{take-add}
 use Rattle.h2_conn.specs.Connection.{Connection}
 use Rattle.h2_conn.specs.Runs.{Fed}
-use Rattle.h2_cmd_exchange.specs.Links.{LinkEvent, Sent, Got, happened}
+use Rattle.h2_cmd_exchange.specs.Links.{LinkEvent, Sent, Got, Quiet, Ended, Late, happened, late_if, read_event}
+use Rattle.h2_cmd_exchange.specs.declared.link.LinkRead.{LinkRead}
+use Rattle.h2_cmd_exchange.specs.declared.link.LinkRead.TheVariants as read
 use Rattle.h2_cmd_dialogue.specs.Steps.{Incoming}
 use Rattle.h2_cmd_dialogue.specs.Woven.{Answered, Weaving, after_item, after_items, woven, woven_item}
 use Rattle.h2_cmd_dialogue.specs.declared.step.Step.{Step}
-use Rattle.h2_cmd_dialogue.specs.Plays.{Course, FeedsAll, Goes, Takes, TakesOne, TakesSome, answered, got, happened_all, octets_of, put}
+use Rattle.h2_cmd_dialogue.specs.Plays.{Course, FeedsAll, Goes, Takes, TakesOne, TakesSome, answered, got, happened_all, octets_of, put, with_read}
 
 -- ---- lists
 
@@ -39,10 +41,10 @@ woven-append steps w (e ∷ es) fs =
 
 feeds-append : (es fs : List Answered) (c d f : Connection) → FeedsAll c es d → FeedsAll d fs f → FeedsAll c (es ++ fs) f
 feeds-append [] fs c d f same rest = subst (λ (x : Connection). FeedsAll x fs f) same rest
-feeds-append (e ∷ es) fs c d f x rest = (x.0, (x.1, feeds-append es fs x.0 d f x.2 rest))
+feeds-append (e ∷ es) fs c d f x rest = (x.0, x.1, feeds-append es fs x.0 d f x.2 rest)
 
 pub takes-none : (steps : List Step) (c : Course) → TakesSome steps c [] c
-takes-none steps c = ([], (refl, record { feeds = refl; weaving = refl; out = sym (append-nil c.out); inbox = refl }))
+takes-none steps c = ([], refl, record { feeds = refl; weaving = refl; out = sym (append-nil c.out); inbox = refl })
 
 out-then : (steps : List Step) (c d f : Course) (es fs : List Answered) → Takes steps c es d → Takes steps d fs f → f.out ≡ c.out ++ woven steps c.weaving (es ++ fs)
 out-then steps c d f es fs x y =
@@ -63,18 +65,16 @@ pub takes-more : (steps : List Step) (c d f : Course) (octets : List ℕ) (at n 
     → TakesSome steps d (take n (drop at octets)) f → TakesSome steps c (take (at + n) octets) f
 takes-more steps c d f octets at n x y = (
   x.0 ++ y.0,
-  (
-    flat_map-append (λ (e : Answered). e.octets) x.0 y.0
-    ∙ ap (λ (k : List ℕ). k ++ octets_of y.0) x.1
-    ∙ ap (λ (k : List ℕ). take at octets ++ k) y.1
-    ∙ sym (take-add at n octets),
-    takes-then steps c d f x.0 y.0 x.2 y.2
-  )
+  flat_map-append (λ (e : Answered). e.octets) x.0 y.0
+  ∙ ap (λ (k : List ℕ). k ++ octets_of y.0) x.1
+  ∙ ap (λ (k : List ℕ). take at octets ++ k) y.1
+  ∙ sym (take-add at n octets),
+  takes-then steps c d f x.0 y.0 x.2 y.2,
 )
 
 -- one item with these octets
 pub takes-item : (steps : List Step) (c d : Course) (item : Incoming) (octets : List ℕ) → TakesOne steps c item octets d → TakesSome steps c octets d
-takes-item steps c d item octets x = (answered item octets x.0 ∷ [], (append-nil octets, x.1))
+takes-item steps c d item octets x = (answered item octets x.0 ∷ [], append-nil octets, x.1)
 
 -- an item was fed, and woven
 pub takes-woven : (steps : List Step) (c d : Course) (item : Incoming) (octets sent : List ℕ) (k : Connection) → Fed c.conn octets [] k sent
@@ -82,7 +82,7 @@ pub takes-woven : (steps : List Step) (c d : Course) (item : Incoming) (octets s
 takes-woven steps c d item octets sent k fed same =
     subst (λ (f : Course). TakesOne steps c item octets f) (sym same)
     (sent, record {
-      feeds = (k, (fed, refl));
+      feeds = (k, fed, refl);
       weaving = refl;
       out = ap (λ (o : List ℕ). c.out ++ o) (sym (append-nil (woven_item steps c.weaving item sent)));
       inbox = refl;
@@ -126,6 +126,18 @@ goes-got steps c c' log log' octets same at =
       weaving = refl;
       written = sym (append-nil c.out);
     })
+
+-- something was read
+pub goes-read : (steps : List Step) (c c' : Course) (log log' : Option (List LinkEvent)) (r : LinkRead) (buffer : List ℕ) → c' ≡ with_read c r buffer
+    → log' ≡ happened log (read_event r buffer) → Goes steps c log c' log'
+goes-read steps c c' log log' (read.Octets count) buffer same at = goes-got steps c c' log log' (take count buffer) same at
+goes-read steps c c' log log' read.Quiet buffer same at = subst (λ (d : Course). Goes steps c log d log') (sym same) (goes-still steps c log log' Quiet refl refl at)
+goes-read steps c c' log log' read.Ended buffer same at = subst (λ (d : Course). Goes steps c log d log') (sym same) (goes-still steps c log log' Ended refl refl at)
+
+-- the time was over, or not
+pub goes-late : (steps : List Step) (c : Course) (log log' : Option (List LinkEvent)) (late : Bool) → log' ≡ late_if late log → Goes steps c log c log'
+goes-late steps c log log' true at = goes-still steps c log log' Late refl refl at
+goes-late steps c log log' false at = subst (λ (k : Option (List LinkEvent)). Goes steps c log c k) (sym at) (goes-none steps c log)
 
 -- what was to be written was
 pub goes-put : (steps : List Step) (c c' : Course) (log log' : Option (List LinkEvent)) (done : Bool) → c' ≡ record c { out = [] }

@@ -1,6 +1,8 @@
 -- A connection of a client with a script: what comes is taken item by item, and what goes out for each item is woven.
-use Rattle.std.specs.Prelude.{◌≡◌, ℕ, List, [], ◌∷◌, ◌++◌, flat_map, Option, Some, None}
+use Rattle.std.specs.Prelude.{◌≡◌, ℕ, List, [], ◌∷◌, ◌++◌, flat_map, take, Option, Some, None}
 use Rattle.h2_cmd_exchange.specs.Links.{LinkEvent, Opened, Sent, Got, Quiet, Ended, Late}
+use Rattle.h2_cmd_exchange.specs.declared.link.LinkRead.{LinkRead}
+use Rattle.h2_cmd_exchange.specs.declared.link.LinkRead.TheVariants as read
 use Rattle.h2_conn.specs.Connection.{Connection}
 use Rattle.h2_conn.specs.Runs.{Fed}
 use Rattle.h2_cmd_dialogue.specs.Steps.{Incoming}
@@ -62,6 +64,12 @@ put (Got octets) = []
 put Quiet = []
 put Ended = []
 put Late = []
+
+-- what a read gave came
+abbrev pub with_read : Course → LinkRead → List ℕ → Course
+with_read c (read.Octets count) buffer = record c { inbox = c.inbox ++ take count buffer }
+with_read c read.Quiet buffer = c
+with_read c read.Ended buffer = c
 
 -- what a connection reports, with more events
 abbrev pub happened_all : Option (List LinkEvent) → List LinkEvent → Option (List LinkEvent)

@@ -1,8 +1,8 @@
 //! What is found in a dialogue that was played: a verdict for each step, up to the first that the client did not go on from.
 
-use crate::play::{Course, End};
 use crate::heard::{Ending, Event, Heard, is_sent, reaction_to};
 use crate::limits::LimitFault;
+use crate::play::{Course, End};
 use crate::step::{Means, Step};
 use crate::verdict::{ByLine, Duty, Judged, Taken, WantedLine, best_of};
 use std::alloc::{AllocError, Global};
@@ -90,7 +90,8 @@ pub struct Ended<'c, 'b> {
 impl Ended<'_, '_> {
     /// The place of the first event after a step.
     fn mark(&self, step: usize) -> usize {
-        let watched = &self.course.watched;
+        let course = self.course;
+        let watched = &course.watched;
         match watched.marks.as_slice().get(step) {
             Some(mark) => *mark,
             None => watched.events.len(),
@@ -99,7 +100,8 @@ impl Ended<'_, '_> {
 
     /// What the client did from a step on.
     fn reaction(&self, number: usize, goes_on: bool) -> Taken {
-        let watched = &self.course.watched;
+        let course = self.course;
+        let watched = &course.watched;
         let all = watched.events.as_slice();
         let heard = Heard::of(
             events_between(all, self.mark(number), all.len()),
@@ -110,12 +112,13 @@ impl Ended<'_, '_> {
             waits: watched.limits.is_unanswered(),
             is_later: number.saturating_add(1) < watched.marks.len(),
         };
-        reaction_to(self.course.weaver.base(), goes_on, heard, ending)
+        reaction_to(course.weaver.base(), goes_on, heard, ending)
     }
 
     /// The last line `;<` of a step that does not hold, and whether what it means was sent.
     fn missed_sends(&self, number: usize, step: &Step) -> Option<(usize, bool)> {
-        let events = self.course.watched.events.as_slice();
+        let course = self.course;
+        let events = course.watched.events.as_slice();
         let first = self.mark(number);
         let next = self.mark(number.saturating_add(1));
         let mut missed = None;
@@ -163,8 +166,10 @@ impl Ended<'_, '_> {
         steps: &[Step],
         findings: &mut Vec<Finding>,
     ) -> Result<bool, AllocError> {
+        let course = self.course;
+        let taken = course.weaver.taken();
         for (number, step) in steps.iter().enumerate() {
-            let is_taken = number < self.course.weaver.taken;
+            let is_taken = number < taken;
             if !is_taken && !(step.frames.is_empty() && step.wanted.is_empty()) {
                 push(Judged::Broken, step.line, Found::Missing, findings)?;
                 return Ok(false);
@@ -178,12 +183,13 @@ impl Ended<'_, '_> {
 
     /// Appends what the client did against its limits.
     fn judge_limits(&self, findings: &mut Vec<Finding>) -> Result<(), AllocError> {
-        let limits = &self.course.watched.limits;
-        match limits.fault {
+        let course = self.course;
+        let limits = &course.watched.limits;
+        match limits.fault() {
             Some(fault) => push(Judged::Broken, 0, Found::Limit(fault), findings),
             None => {
-                if limits.late > 0 {
-                    push(Judged::Broken, 0, Found::Late(limits.late), findings)
+                if limits.late() > 0 {
+                    push(Judged::Broken, 0, Found::Late(limits.late()), findings)
                 } else {
                     Ok(())
                 }
@@ -193,7 +199,8 @@ impl Ended<'_, '_> {
 
     /// Whether the client has sent GOAWAY with an error.
     fn has_goaway(&self) -> bool {
-        self.course
+        let course = self.course;
+        course
             .watched
             .events
             .as_slice()

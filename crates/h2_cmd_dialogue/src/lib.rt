@@ -7,6 +7,7 @@
 mod item;
 mod laws;
 
+pub mod cause;
 pub mod findings;
 pub mod heard;
 pub mod limits;

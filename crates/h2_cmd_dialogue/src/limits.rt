@@ -305,6 +305,20 @@ impl Limits {
         Ok(())
     }
 
+    /// The first thing that the client did against its limits.
+    pub fn fault(&self) -> Option<LimitFault>
+        ensures { result ≡ self.now.fault }
+    {
+        self.fault
+    }
+
+    /// How many SETTINGS it has not acknowledged that it had before its last answer to a PING of a step.
+    pub fn late(&self) -> usize
+        ensures { result ≡ self.now.late }
+    {
+        self.late
+    }
+
     /// Whether a request of the client has no whole answer.
     pub fn is_unanswered(&self) -> bool
         ensures { result ≡ nat_lt 0 (length self.now.unanswered) }

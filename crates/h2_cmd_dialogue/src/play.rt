@@ -1,18 +1,18 @@
 //! A connection of a client: what comes is taken item by item, and what goes out for each is woven with the script. Definitions:
 //! `specs/Plays.antt`.
 
-ghost use Rattle.std.specs.Prelude.{◌≡◌, ◌++◌, ◌≤◌, List, [], length, take, Option, IfOk, OnOk};
-ghost use Rattle.h2_cmd_exchange.specs.Links.{LinkEvent};
+ghost use Rattle.std.specs.Prelude.{◌≡◌, ◌++◌, ◌≤◌, List, [], drop, length, take, vec_len, Option, IfOk, OnOk};
+ghost use Rattle.h2_cmd_exchange.specs.Links.{IsWithin, LinkEvent};
 ghost use Rattle.h2_conn.specs.Runs.{Fed};
 ghost use Rattle.h2_cmd_dialogue.specs.Steps.{incoming_of, Start};
 ghost use Rattle.h2_cmd_dialogue.specs.Woven.{after_item, no_steps_taken, woven_item};
 ghost use Rattle.h2_cmd_dialogue.specs.declared.step.Step.{Step};
-ghost use Rattle.h2_cmd_dialogue.specs.Plays.{Goes, TakesOne, TakesSome};
+ghost use Rattle.h2_cmd_dialogue.specs.Plays.{Goes, TakesOne, TakesSome, with_read};
 
-use crate::item::{front_item, is_client};
 use crate::heard::{Event, event_of, push_sends};
+use crate::item::{front_item, is_client};
 use crate::limits::Limits;
-use crate::step::{Incoming, Step, with_request};
+use crate::step::{Incoming, Step};
 use crate::weave::Weaver;
 use h2_cmd_exchange::link::{Link, LinkRead};
 use h2_conn::Conn;
@@ -67,6 +67,8 @@ pub struct Course<'b> {
     pub conn: Conn<'b, Global>,
     pub weaver: Weaver,
     pub watched: Watched,
+    /// All items that came.
+    octets: Vec<u8>,
     /// What came and is no whole item yet.
     inbox: Vec<u8>,
     /// What is to be written.
@@ -171,6 +173,7 @@ impl<'b> Course<'b> {
             conn,
             weaver: Weaver::new(alloc),
             watched: Watched::new(alloc),
+            octets: Vec::new(alloc),
             inbox: Vec::new(alloc),
             out: Vec::new(alloc),
             has_preface: false,
@@ -179,6 +182,18 @@ impl<'b> Course<'b> {
         };
         course.weave(steps, Incoming::Start, opening)?;
         Ok(course)
+    }
+
+    /// The octets of all items that came.
+    pub fn octets(&self) -> &[u8] {
+        self.octets.as_slice()
+    }
+
+    /// What came and is no whole item.
+    pub fn rest(&self) -> &[u8]
+        ensures { result.now ≡ self.now.inbox }
+    {
+        self.inbox.as_slice()
     }
 
     /// An item came, for which the server sends this.
@@ -213,15 +228,24 @@ impl<'b> Course<'b> {
         }
     }
 
-    /// A frame of the client came, of which the script speaks.
-    fn hear(&mut self, steps: &[Step], item: Incoming<'_>) -> Result<(), AllocError>
+    /// An item with these octets came: what the client does with it.
+    fn hear(
+        &mut self,
+        steps: &[Step],
+        octets: &[u8],
+        item: Incoming<'_>,
+    ) -> Result<(), AllocError>
         ensures { self.new ≡ self.old }
     {
+        match self.octets.extend_from_slice(octets) {
+            Ok(()) => {}
+            Err(error) => return Err(error),
+        }
         let Incoming::Frame(frame) = item else {
             return Ok(());
         };
-        let base = with_request(self.weaver.base, item).unwrap_or(0);
-        let taken = steps_taken(steps, self.weaver.taken);
+        let base = self.weaver.base_with(item);
+        let taken = steps_taken(steps, self.weaver.taken());
         self.watched.came(base, taken, frame)
     }
 
@@ -239,7 +263,7 @@ impl<'b> Course<'b> {
             Ok(sent) => sent,
             Err(error) => return Err(error),
         };
-        match self.hear(steps, item) {
+        match self.hear(steps, octets, item) {
             Ok(()) => self.weave(steps, item, sent.as_slice()),
             Err(error) => Err(error),
         }
@@ -286,31 +310,44 @@ impl<'b> Course<'b> {
         Ok(at)
     }
 
+    /// Takes out what came.
+    fn take_inbox(&mut self, alloc: Global) -> Vec<u8>
+        ensures octets { result.items ≡ self.old.inbox }
+        ensures rest { self.new ≡ record self.old { inbox = [] } }
+    {
+        mem::replace(&mut self.inbox, Vec::new(alloc))
+    }
+
+    /// Puts back what came, without this many octets that were taken.
+    fn put_inbox(&mut self, inbox: Vec<u8>, taken: usize)
+        requires { taken ≤ vec_len inbox }
+        ensures { self.new ≡ record self.old { inbox = drop taken inbox.entry.items } }
+    {
+        let mut inbox = inbox;
+        drop_front(&mut inbox, taken);
+        self.inbox = inbox;
+    }
+
     /// Takes all items that are whole. Says whether there were any.
     fn take_all(&mut self, alloc: Global, steps: &[Step]) -> Result<bool, AllocError>
         ensures { OnOk result ((log : Option (List LinkEvent)) → Goes steps.now self.old log self.new log) }
     {
-        let mut inbox = mem::replace(&mut self.inbox, Vec::new(alloc));
+        let inbox = self.take_inbox(alloc);
         match self.take_octets(alloc, steps, inbox.as_slice()) {
             Ok(taken) => {
-                drop_front(&mut inbox, taken);
-                self.inbox = inbox;
+                self.put_inbox(inbox, taken);
                 Ok(taken > 0)
             }
             Err(error) => Err(error),
         }
     }
 
-    /// Reads once. Says whether octets came, or the end.
-    fn read<L: Link>(
-        &mut self,
-        link: &mut L,
-        buffer: &mut [u8; READ_SIZE],
-        millis: u64,
-    ) -> Result<bool, AllocError>
-        ensures { OnOk result ((steps : List Step) → Goes steps self.old (L.log link.old) self.new (L.log link.new)) }
+    /// What a read gave came. Says whether something did, or the end.
+    fn hear_read(&mut self, read: LinkRead, buffer: &[u8]) -> Result<bool, AllocError>
+        requires { IsWithin read (length buffer.now) }
+        ensures { OnOk result (self.new ≡ with_read self.old read buffer.now) }
     {
-        match link.read(millis, buffer) {
+        match read {
             LinkRead::Octets(count) => {
                 self.came = self.came.saturating_add(count);
                 match self.inbox.extend_from_slice(octets_up_to(buffer, count)) {
@@ -323,6 +360,22 @@ impl<'b> Course<'b> {
                 self.is_closed = true;
                 Ok(true)
             }
+        }
+    }
+
+    /// Reads once. Says whether octets came, or the end.
+    fn read<L: Link>(
+        &mut self,
+        link: &mut L,
+        buffer: &mut [u8; READ_SIZE],
+        millis: u64,
+    ) -> Result<bool, AllocError>
+        ensures { OnOk result ((steps : List Step) → Goes steps self.old (L.log link.old) self.new (L.log link.new)) }
+    {
+        let read = link.read(millis, buffer);
+        match self.hear_read(read, buffer) {
+            Ok(came) => Ok(came),
+            Err(error) => Err(error),
         }
     }
 
@@ -383,15 +436,29 @@ impl<'b> Course<'b> {
         self.conn.ended().map(End::ByServer)
     }
 
+    /// What is to be written.
+    fn out(&self) -> &[u8]
+        ensures { result.now ≡ self.now.out }
+    {
+        self.out.as_slice()
+    }
+
+    /// Nothing is to be written any more.
+    fn clear(&mut self)
+        ensures { self.new ≡ record self.old { out = [] } }
+    {
+        self.out.clear();
+    }
+
     /// Writes what is to be written. Says whether the client took it.
     fn write<L: Link>(&mut self, link: &mut L) -> bool
         ensures { (steps : List Step) → Goes steps self.old (L.log link.old) self.new (L.log link.new) }
     {
-        if self.out.is_empty() {
+        if self.out().is_empty() {
             return true;
         }
-        let is_done = link.write_all(self.out.as_slice());
-        self.out.clear();
+        let is_done = link.write_all(self.out());
+        self.clear();
         is_done
     }
 
@@ -432,9 +499,12 @@ impl<'b> Course<'b> {
     ) -> Result<Option<End>, AllocError>
         ensures { OnOk result (Goes steps.now self.old (L.log link.old) self.new (L.log link.new)) }
     {
-        match self.stop(link) {
-            Some(end) => Ok(Some(end)),
-            None => self.take_or_read(alloc, steps, link, buffer, millis),
+        if let Some(end) = self.stop(link) {
+            return Ok(Some(end));
+        }
+        match self.take_or_read(alloc, steps, link, buffer, millis) {
+            Ok(end) => Ok(end),
+            Err(error) => Err(error),
         }
     }
 
@@ -450,15 +520,18 @@ impl<'b> Course<'b> {
         ensures { OnOk result (Goes steps.now self.old (L.log link.old) self.new (L.log link.new)) }
     {
         if !self.write(link) {
-            return match self.read_last(alloc, steps, link, buffer) {
-                Ok(()) => Ok(Some(End::Closed)),
-                Err(error) => Err(error),
-            };
+            match self.read_last(alloc, steps, link, buffer) {
+                Ok(()) => return Ok(Some(End::Closed)),
+                Err(error) => return Err(error),
+            }
         }
         if self.is_closed && self.inbox.is_empty() {
             return Ok(Some(End::Closed));
         }
-        self.turn_on(alloc, steps, link, buffer, millis)
+        match self.turn_on(alloc, steps, link, buffer, millis) {
+            Ok(end) => Ok(end),
+            Err(error) => Err(error),
+        }
     }
 
     /// Plays the connection to its end; a client that is silent for this many milliseconds ends it.

@@ -223,6 +223,23 @@ impl Weaver {
         }
     }
 
+    /// How many steps were taken.
+    pub fn taken(&self) -> usize
+        ensures { result ≡ self.now.taken }
+    {
+        self.taken
+    }
+
+    /// The number that odd streams of the script are raised by, with this item.
+    pub fn base_with(&self, item: Incoming<'_>) -> u32
+        ensures { result ≡ base_of (with_item self.now (incoming_of item.entry)).base }
+    {
+        match with_request(self.base, item) {
+            Some(base) => base,
+            None => 0,
+        }
+    }
+
     /// The number that odd streams of the script are raised by.
     pub fn base(&self) -> u32
         ensures { result ≡ base_of self.now.base }

@@ -12,8 +12,6 @@ pub enum FileRefusal {
     NoMemory,
     /// This line is none of a dialogue, for this reason.
     Line(usize, &'static str),
-    /// It has only this many dialogues.
-    Few(usize),
 }
 
 impl From<AllocError> for FileRefusal {
@@ -176,16 +174,13 @@ fn lines_between<'c, 't>(lines: &'c [&'t [u8]], first: usize, end: usize) -> &'c
     lines.get(first..end).unwrap_or_default()
 }
 
-/// The dialogue with this number, from 1, of a file's lines; all lines are read.
+/// The dialogues of a file's lines.
 ///
-/// # Errors
-///
-/// `Line` for the first line that is none of a dialogue, `Few` where there are fewer dialogues; `NoMemory` may come before.
-pub fn chosen(alloc: Global, lines: &[&[u8]], number: usize) -> Result<Dialogue, FileRefusal> {
+/// `Line` for the first line that is none of a dialogue; `NoMemory` may come before.
+pub fn dialogues_of(alloc: Global, lines: &[&[u8]]) -> Result<Vec<Dialogue>, FileRefusal> {
     check_preamble(lines)?;
     let mut first = preamble_length(lines);
-    let mut found = None;
-    let mut dialogues = 0usize;
+    let mut dialogues = Vec::new(alloc);
     for _dialogue in 0..lines.len() {
         if first >= lines.len() {
             break;
@@ -194,16 +189,10 @@ pub fn chosen(alloc: Global, lines: &[&[u8]], number: usize) -> Result<Dialogue,
         let end = first.saturating_add(count);
         let here = lines_between(lines, first, end);
         let steps = steps_of(alloc, first, here)?;
-        if title_of(here).is_some() {
-            dialogues = dialogues.saturating_add(1);
-            if dialogues == number {
-                found = Some(Dialogue { first, count, steps });
-            }
+        if title_of(here).is_some() && dialogues.push(Dialogue { first, count, steps }).is_err() {
+            return Err(FileRefusal::NoMemory);
         }
         first = end;
     }
-    match found {
-        Some(dialogue) => Ok(dialogue),
-        None => Err(FileRefusal::Few(dialogues)),
-    }
+    Ok(dialogues)
 }

@@ -3,13 +3,14 @@
 ghost use Rattle.std.specs.Prelude.{◌≡◌, ◌==◌, false, is_err};
 ghost use Rattle.h2_cmd_inject.specs.Stops.{is_unwritten};
 
-use crate::file::{Dialogue, FileRefusal, chosen};
-use crate::words::{PATIENCE, has_broken, result_text};
+use crate::file::{Dialogue, FileRefusal, dialogues_of};
+use crate::words::{Ending, PATIENCE, has_broken, result_text};
 use h2_cmd_args::command::Serve;
 use h2_cmd_batch::{BenchFault, Case, CaseSetup, OwnFault, book_for_words, own_of, print_fault};
 use h2_cmd_book_file::{Files, FilesFault};
 use h2_cmd_cases::{have_words, lines_in, title_of};
 use h2_cmd_check::Title;
+use h2_cmd_dialogue::cause::last_cause;
 use h2_cmd_dialogue::findings::Ended;
 use h2_cmd_dialogue::play::{Course, End};
 use h2_cmd_dialogue::step::Step;
@@ -17,6 +18,7 @@ use h2_cmd_exchange::link::Link;
 use h2_conn::{Conn, ConnFault};
 use h2_io::{MAX_INPUT, Output};
 use h2_request_book::book::Book;
+use h2_spec::causes::Cause;
 use h2_spec::connection::Config;
 use std::alloc::{AllocError, Global};
 use std::str;
@@ -75,10 +77,6 @@ fn refusal(alloc: Global, file: &str, refusal: FileRefusal) -> Stop {
     match refusal {
         FileRefusal::NoMemory => Stop::NoMemory,
         FileRefusal::Line(line, why) => about_line(alloc, file, line, why),
-        FileRefusal::Few(count) => match format!(in alloc; "{file}: it has {count} dialogues\n") {
-            Ok(text) => Stop::Sentence(text),
-            Err(_) => Stop::NoMemory,
-        },
     }
 }
 
@@ -163,6 +161,20 @@ fn play_one<'b, L: Link>(
     Ok((course, end))
 }
 
+/// The cause of the server's error, where that ended a connection.
+fn cause_if(
+    alloc: Global,
+    book: &Book<Global>,
+    config: Config,
+    end: End,
+    course: &Course<'_>,
+) -> Result<Option<Cause>, AllocError> {
+    match end {
+        End::ByServer(_) => last_cause(alloc, book, config, course.octets()),
+        End::Closed | End::Silent | End::NoFrames | End::TooMuch | End::Late => Ok(None),
+    }
+}
+
 /// Plays a dialogue to the first client, and prints its result. Says whether something is broken.
 fn play_first<L: Link, O: Output>(
     alloc: Global,
@@ -186,6 +198,11 @@ fn play_first<L: Link, O: Output>(
         file: play.file,
         title: title_of(lines_of(play)),
     };
+    let ending = Ending {
+        end,
+        cause: cause_if(alloc, book, config, end, &course)?,
+        rest: course.rest(),
+    };
     let text = result_text(
         alloc,
         play.number,
@@ -193,7 +210,7 @@ fn play_first<L: Link, O: Output>(
         play.lines,
         play.dialogue.first,
         findings.as_slice(),
-        end,
+        ending,
     )?;
     print(output, text.as_slice())?;
     Ok(has_broken(findings.as_slice()))
@@ -262,12 +279,51 @@ fn listen_and_serve<G: Guests, O: Output>(
     serve_all(alloc, book, config, play, plan.count, guests, output)
 }
 
-/// The dialogue that a plan names, of a file with these lines.
-fn dialogue_of(alloc: Global, plan: &Serve<'_>, lines: &[&[u8]]) -> Result<Dialogue, Stop> {
-    match chosen(alloc, lines, plan.watch.dialogue as usize) {
-        Ok(dialogue) => Ok(dialogue),
-        Err(fault) => Err(refusal(alloc, plan.watch.inject, fault)),
+/// The dialogues of a file with these lines.
+fn dialogues_in(alloc: Global, file: &str, lines: &[&[u8]]) -> Result<Vec<Dialogue>, Stop> {
+    match dialogues_of(alloc, lines) {
+        Ok(dialogues) => Ok(dialogues),
+        Err(fault) => Err(refusal(alloc, file, fault)),
     }
+}
+
+/// The dialogue that a plan names, of a file with these lines.
+fn play_of<'p>(
+    alloc: Global,
+    plan: &'p Serve<'_>,
+    lines: &'p [&'p [u8]],
+    dialogues: &'p [Dialogue],
+) -> Result<Play<'p>, Stop> {
+    let number = plan.watch.dialogue;
+    let Some(dialogue) = dialogues.get((number as usize).saturating_sub(1)) else {
+        return Err(about(alloc, plan.watch.inject, "it has fewer dialogues"));
+    };
+    Ok(Play {
+        file: plan.watch.inject,
+        number: u64::from(number),
+        lines,
+        dialogue,
+    })
+}
+
+/// Refuses the first dialogue whose words are refused.
+fn check_words<F: Files>(
+    alloc: Global,
+    file: &str,
+    lines: &[&[u8]],
+    dialogues: &[Dialogue],
+    files: &mut F,
+) -> Result<(), Stop> {
+    for dialogue in dialogues {
+        let play = Play {
+            file,
+            number: 0,
+            lines,
+            dialogue,
+        };
+        let _own = own(alloc, &play, files)?;
+    }
+    Ok(())
 }
 
 /// Serves, as a plan says. Says whether something is broken.
@@ -284,13 +340,10 @@ fn run<F: Files, G: Guests, O: Output, E: Output>(
 {
     let text = read(alloc, plan.watch.inject, files)?;
     let lines = lines_in(alloc, text.as_slice())?;
-    let dialogue = dialogue_of(alloc, plan, lines.as_slice())?;
-    let play = Play {
-        file: plan.watch.inject,
-        number: u64::from(plan.watch.dialogue),
-        lines: lines.as_slice(),
-        dialogue: &dialogue,
-    };
+    let lines = lines.as_slice();
+    let dialogues = dialogues_in(alloc, plan.watch.inject, lines)?;
+    check_words(alloc, plan.watch.inject, lines, dialogues.as_slice(), files)?;
+    let play = play_of(alloc, plan, lines, dialogues.as_slice())?;
     let own = own(alloc, &play, files)?;
     let book = match book_for_words(alloc, &plan.book, files, errors) {
         Ok(book) => book,

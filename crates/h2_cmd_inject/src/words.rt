@@ -6,13 +6,28 @@ use h2_cmd_dialogue::limits::LimitFault;
 use h2_cmd_dialogue::play::End;
 use h2_cmd_dialogue::verdict::{Judged, Taken, Wanted, WantedLine};
 use h2_explain_words::names::Code;
-use h2_io::say::{EscapedText, HexOctet, Say, TextBuilder};
+use h2_io::say::{EscapedText, Hex, HexOctet, Say, TextBuilder};
 use h2_io::say_all;
+use h2_spec::causes::Cause;
 use h2_spec::frames::type_name;
+use h2_spec::octets::first_octets;
 use std::alloc::{AllocError, Global};
 
 /// How many seconds a silent client is waited for.
 pub const PATIENCE: u32 = 3;
+
+/// How many octets that are no frames are shown.
+const SHOWN: usize = 24;
+
+/// How a connection ended, as it is said.
+#[derive(Clone, Copy)]
+pub struct Ending<'p> {
+    pub end: End,
+    /// The cause of the server's error, if that ended it.
+    pub cause: Option<Cause>,
+    /// What came and is no whole item.
+    pub rest: &'p [u8],
+}
 
 /// The text of a line, behind its mark.
 fn text_at<'t>(lines: &[&'t [u8]], line: usize) -> &'t [u8] {
@@ -43,13 +58,26 @@ fn say_wanted(lines: &[&[u8]], finding: Finding, out: &mut TextBuilder) {
     }
 }
 
+/// Why the server ended a connection, in words.
+fn say_cause(code: u32, cause: Option<Cause>, out: &mut TextBuilder) {
+    match cause {
+        Some(cause) => cause.name().say(out),
+        None => Code(code).say(out),
+    }
+}
+
 /// How a connection ended, in words.
-fn say_end(end: End, out: &mut TextBuilder) {
-    match end {
+fn say_end(ending: Ending<'_>, out: &mut TextBuilder) {
+    match ending.end {
         End::Closed => "closed".say(out),
         End::Silent => "silent".say(out),
-        End::ByServer(code) => say_all!(out; "ended by the server: ", Code(code)),
-        End::NoFrames => "octets that are no frames of a client".say(out),
+        End::ByServer(code) => {
+            "ended by the server: ".say(out);
+            say_cause(code, ending.cause, out);
+        }
+        End::NoFrames => {
+            say_all!(out; "octets that are no frames: ", Hex(first_octets(ending.rest, SHOWN)));
+        }
         End::TooMuch => "the client has sent more than 16777216 octets".say(out),
         End::Late => "the dialogue has not ended in its time".say(out),
     }
@@ -71,10 +99,18 @@ fn why_allowed(wanted: Wanted, taken: Taken) -> &'static str {
     }
 }
 
+/// That a client goes on, in words. Where an error of a stream is wanted, it may end by itself, and its command fail.
+fn going_on(wanted: Wanted, end: End) -> &'static str {
+    match (wanted, end) {
+        (Wanted::Stream(_, _), End::Silent) => "goes on, and the connection stays open",
+        _ => "goes on",
+    }
+}
+
 /// What a client did, in words.
-fn say_taken(line: WantedLine, taken: Taken, out: &mut TextBuilder) {
+fn say_taken(line: WantedLine, taken: Taken, end: End, out: &mut TextBuilder) {
     match taken {
-        Taken::GoesOn => "goes on".say(out),
+        Taken::GoesOn => going_on(line.wanted, end).say(out),
         Taken::Connection(code) => say_all!(out; "connection ", Code(code)),
         Taken::Stream(stream, code) => say_all!(out; "stream ", stream, " ", Code(code)),
         Taken::Closed => "closed".say(out),
@@ -106,18 +142,18 @@ fn say_limit(fault: LimitFault, out: &mut TextBuilder) {
 }
 
 /// What was found, in words.
-fn say_found(finding: Finding, end: End, out: &mut TextBuilder) {
+fn say_found(finding: Finding, ending: Ending<'_>, out: &mut TextBuilder) {
     match finding.found {
-        Found::Reaction(line, taken) => say_taken(line, taken, out),
+        Found::Reaction(line, taken) => say_taken(line, taken, ending.end, out),
         Found::Sends(true) => "it is sent".say(out),
         Found::Sends(false) => "-".say(out),
         Found::Missing => {
             "no such item came; ".say(out);
-            say_end(end, out);
+            say_end(ending, out);
         }
         Found::Limit(fault) => say_limit(fault, out),
         Found::Late(count) => say_all!(out; count, " SETTINGS frames are not acknowledged"),
-        Found::Ended(end) => say_end(end, out),
+        Found::Ended(_) => say_end(ending, out),
         Found::Lingers => say_all!(out; "open after ", PATIENCE, " s"),
     }
 }
@@ -147,7 +183,7 @@ pub fn has_broken(findings: &[Finding]) -> bool {
 }
 
 /// A verdict in YAML.
-fn say_verdict(lines: &[&[u8]], first: usize, finding: Finding, end: End, out: &mut TextBuilder) {
+fn say_verdict(lines: &[&[u8]], first: usize, finding: Finding, ending: Ending<'_>, out: &mut TextBuilder) {
     let line = if finding.line == 0 {
         first.saturating_add(1)
     } else {
@@ -156,7 +192,7 @@ fn say_verdict(lines: &[&[u8]], first: usize, finding: Finding, end: End, out: &
     say_all!(out; "  - line: ", line, "\n    wanted: \"");
     say_wanted(lines, finding, out);
     "\"\n    found: \"".say(out);
-    say_found(finding, end, out);
+    say_found(finding, ending, out);
     "\"\n".say(out);
 }
 
@@ -165,26 +201,26 @@ fn say_verdicts(
     lines: &[&[u8]],
     first: usize,
     findings: &[Finding],
-    end: End,
+    ending: Ending<'_>,
     out: &mut TextBuilder,
 ) {
     let has_broken = has_broken(findings);
     "  ---\n".say(out);
     for finding in findings {
         if is_shown(finding, has_broken) {
-            say_verdict(lines, first, *finding, end, out);
+            say_verdict(lines, first, *finding, ending, out);
         }
     }
     "  ...\n".say(out);
 }
 
 /// A note in a comment: another reaction that is allowed, or that the connection is still open.
-fn say_note(lines: &[&[u8]], finding: Finding, end: End, out: &mut TextBuilder) {
+fn say_note(lines: &[&[u8]], finding: Finding, ending: Ending<'_>, out: &mut TextBuilder) {
     match finding.found {
         Found::Lingers => "# lingers: ".say(out),
         _ => "# allowed: ".say(out),
     }
-    say_found(finding, end, out);
+    say_found(finding, ending, out);
     "; wanted: ".say(out);
     say_wanted(lines, finding, out);
     "\n".say(out);
@@ -200,7 +236,7 @@ pub fn result_text(
     lines: &[&[u8]],
     first: usize,
     findings: &[Finding],
-    end: End,
+    ending: Ending<'_>,
 ) -> Result<Vec<u8>, AllocError> {
     let has_broken = has_broken(findings);
     let is_open = findings.iter().any(|finding| is_unsettled(finding));
@@ -214,11 +250,11 @@ pub fn result_text(
         "\n".say(&mut out);
     }
     if has_broken || is_open {
-        say_verdicts(lines, first, findings, end, &mut out);
+        say_verdicts(lines, first, findings, ending, &mut out);
     }
     for finding in findings {
         if matches!(finding.judged, Judged::Allowed) {
-            say_note(lines, *finding, end, &mut out);
+            say_note(lines, *finding, ending, &mut out);
         }
     }
     let rest = out.into_octets()?;

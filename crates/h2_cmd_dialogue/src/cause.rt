@@ -1,0 +1,44 @@
+//! Why the server ended a connection.
+
+ghost use Rattle.std.specs.Prelude.{◌≡◌, [], IfOk};
+ghost use Rattle.h2_conn.specs.Connection.{going};
+ghost use Rattle.h2_spec.specs.State.{opening};
+
+use h2_conn::{Conn, ConnFault};
+use h2_request_book::book::Book;
+use h2_spec::causes::Cause;
+use h2_spec::connection::Config;
+use h2_spec::octets::octets_from;
+use std::alloc::{AllocError, Global};
+
+/// A new connection.
+fn open(book: &Book<Global>, config: Config, alloc: Global) -> Result<Conn<'_, Global>, ConnFault>
+    ensures { IfOk result (λ conn. conn ≡ going (opening book.now config) []) }
+{
+    Conn::new(book, config, &mut Vec::new(alloc))
+}
+
+/// The cause of the last item's error, if it is one, where these octets come to a server: they are taken once more.
+///
+/// `AllocError` where memory is refused.
+pub fn last_cause(
+    alloc: Global,
+    book: &Book<Global>,
+    config: Config,
+    octets: &[u8],
+) -> Result<Option<Cause>, AllocError> {
+    let Ok(mut conn) = open(book, config, alloc) else {
+        return Err(AllocError);
+    };
+    let mut cause = None;
+    let mut rest = octets;
+    for _item in 0..octets.len() {
+        let mut sent = Vec::new(alloc);
+        let Some(taken) = conn.take_and_report(rest, &mut sent)? else {
+            return Ok(cause);
+        };
+        cause = taken.cause;
+        rest = octets_from(rest, taken.used.min(rest.len()));
+    }
+    Ok(cause)
+}
