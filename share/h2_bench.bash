@@ -11,7 +11,7 @@ _h2_bench() {
         dis) words="--in --raw --quiet --help" ;;
         table) words="--in --quiet --help" ;;
         debug) words="--streams --credit --table --window --frame --book --why --quiet --in --raw --prompt --help" ;;
-        serve) words="--streams --credit --table --window --frame --explain --times --record --json --color --strict --full --brief --errors --stream --book --why --quiet --help" ;;
+        serve) words="--streams --credit --table --window --frame --explain --times --record --inject --dialogue --json --color --strict --full --brief --errors --stream --book --why --quiet --help" ;;
         explain) words="--streams --credit --table --window --frame --json --color --strict --full --brief --errors --stream --book --why --quiet --in --raw --help" ;;
         check) words="--streams --credit --table --window --frame --book --bless --in-place --junit --against --wait --path --authority --judge --quiet --help" ;;
     esac
@@ -21,7 +21,7 @@ _h2_bench() {
         mapfile -t COMPREPLY < <(compgen -W "dot line" -- "$current")
     else
         case ${COMP_WORDS[1]}:$before in
-            play:* | asm:* | dis:* | table:* | debug:* | explain:* | check:* | *:--book | *:--in | *:--junit) mapfile -t COMPREPLY < <(compgen -f -- "$current") ;;
+            play:* | asm:* | dis:* | table:* | debug:* | explain:* | check:* | *:--book | *:--in | *:--inject | *:--junit) mapfile -t COMPREPLY < <(compgen -f -- "$current") ;;
             help:help) mapfile -t COMPREPLY < <(compgen -W "play asm dis table debug serve explain check" -- "$current") ;;
         esac
     fi

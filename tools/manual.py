@@ -15,7 +15,7 @@ import sys
 
 TOP = os.path.dirname(os.path.dirname(os.path.abspath(__file__)))
 SHARE = f"{TOP}/share"
-FILES = ("--book", "--in", "--junit")
+FILES = ("--book", "--in", "--inject", "--junit")
 ENVIRONMENT = [
     ("NO_COLOR", "Where it is set and not empty, explain has no colours on a terminal."),
     ("TERM", "Where it is dumb, the same."),
