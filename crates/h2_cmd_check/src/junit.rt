@@ -208,7 +208,7 @@ fn put_skipped(mark: &[u8], file: &[u8], shown: &[u8], line: &[u8], out: &mut Gr
 }
 
 /// Puts a line of what was found last, before this end of its result.
-fn put_found(end: &str, line: &[u8], out: &mut Growing)
+fn put_found(end: &[u8], line: &[u8], out: &mut Growing)
     ensures { Gains (found_text end.now line.now) out.old out.new }
 {
     if end.is_empty() {
@@ -222,7 +222,7 @@ fn put_found(end: &str, line: &[u8], out: &mut Growing)
 /// results, as it is and as TAP shows it.
 fn put_line(
     kind: TapLine,
-    end: &str,
+    end: &[u8],
     file: &[u8],
     shown: &[u8],
     line: &[u8],
@@ -248,19 +248,19 @@ fn put_line(
             out.text("><failure message=\"what it expects does not hold\">\n");
         }
         TapLine::Found => put_found(end, line, out),
-        TapLine::End => out.text(end),
+        TapLine::End => out.put(end),
         TapLine::Mark => {}
     }
 }
 
 /// The end of the result above the line after one of this kind.
-fn end_after(end: &'static str, kind: TapLine) -> &'static str
+fn end_after(end: &'static [u8], kind: TapLine) -> &'static [u8]
     ensures { result.now ≡ end_after end.now kind }
 {
     match kind {
-        TapLine::Passed | TapLine::Skipped => "",
-        TapLine::Doubtful => "</skipped></testcase>\n",
-        TapLine::Failed => "</failure></testcase>\n",
+        TapLine::Passed | TapLine::Skipped => b"",
+        TapLine::Doubtful => b"</skipped></testcase>\n",
+        TapLine::Failed => b"</failure></testcase>\n",
         TapLine::Found | TapLine::End | TapLine::Mark => end,
     }
 }
@@ -269,7 +269,7 @@ fn end_after(end: &'static str, kind: TapLine) -> &'static str
 fn put_lines(file: &[u8], shown: &[u8], lines: &[&[u8]], out: &mut Growing)
     ensures { Gains (xml_lines [] file.now shown.now (map (λ l. l.now) lines.now)) out.old out.new }
 {
-    let mut end = "";
+    let mut end: &'static [u8] = b"";
     for line in lines {
         let kind = kind_of(line);
         put_line(kind, end, file, shown, line, out);

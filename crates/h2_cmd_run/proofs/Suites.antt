@@ -5,6 +5,7 @@ use Rattle.std.specs.Io.KnownBytes.{Appends}
 use Rattle.h2_cmd_book_file.specs.Entries.{Directory}
 use Rattle.h2_cmd_check.specs.JUnit.{FileResults, results_in}
 use Rattle.h2_cmd_check.specs.declared.junit.Suite.{Suite}
+use Rattle.h2_cmd_batch.specs.Results.{ChangesAlone}
 use Rattle.h2_cmd_batch.specs.declared.case_setup.CaseSetup.{CaseSetup}
 use Rattle.h2_cmd_run.specs.CheckProgram.{AreReported, Reports, Subject, subjects_of}
 use Rattle.h2_cmd_run.specs.JUnitProgram.{AreSuites}
@@ -50,6 +51,11 @@ pub suites-ended : (d : Directory) (s : CaseSetup) (names : List (Bor (List ℕ)
 suites-ended d s names i t₀ t all suites h so_far =
     subst (λ (w : List FileResults). AreSuites d s t₀ all w t) (append-nil (map results_in suites))
     (so_far [] t (subst (λ (ns : List (Bor (List ℕ))). AreSuites d s t (map (λ n. n.now) ns) [] t) (sym (drop_all i names h)) (refl, refl)))
+
+-- ---- files
+
+pub none-changed : (d d' : Directory) (file : List ℕ) → d' ≡ d → ChangesAlone file d d'
+none-changed d d' file same = λ path other. ap (λ (f : Directory). f path) same
 
 -- ---- the output
 
