@@ -27,7 +27,7 @@ import subprocess
 import sys
 
 MADE = "docs/RULES.md"
-MADE_ELSEWHERE = "docs/CLIENTS.md"
+MADE_ELSEWHERE = ("docs/CLIENTS.md", "docs/SERVERS.md")
 TABLE = "docs/TABLE.md"
 Row = collections.namedtuple("Row", "variant name server section client client_section least connection stream also open_connection open_stream open_also sentence said")
 
@@ -481,7 +481,7 @@ def check(made, wrong, known):
         wrong.append(f"{MADE} is not what tools/docs.py writes: run it")
     if os.path.getsize("README.md") > 8192:
         wrong.append("README.md has more than 8 KB")
-    by_hand = sum(os.path.getsize(page) for page in glob.glob("docs/*.md") if page not in (MADE, MADE_ELSEWHERE))
+    by_hand = sum(os.path.getsize(page) for page in glob.glob("docs/*.md") if page not in (MADE, *MADE_ELSEWHERE))
     if by_hand > 120 * 1024:
         wrong.append(f"the pages of docs that are written by hand have {by_hand} octets, more than 120 KB")
     passed, all_words = 3 * len(rows_of("causes")) + len(rows_of("ignored")) + 4, words_of(known)

@@ -7,7 +7,7 @@ An example begins with `$ `, in a block that is indented by four spaces; or it i
 
 A line that ends in ` ..` is compared up to there, and ends its example. A command with no output shown is run and not compared. `serve` runs beside the commands
 behind it, at a port that is free, and its lines are those that begin with `connection` or a number and a colon; where curl is not installed, it and what follows it in its example are left
-out. Other commands that name port 8080 have a free one too. An output that differs is shown; the last line is `N passed, M failed`, an example each.
+out; so is what follows nghttpd, whose versions differ (tests/clients.sh judges it). Other commands that name port 8080 have a free one too. An output that differs is shown; the last line is `N passed, M failed`, an example each.
 
     tools/run-examples.py [--program FILE] [--unproved]     FILE is the proved program of this repository unless it is named; --unproved leaves out the examples
                                                             with a limit on memory, which a program built without proof does not start within
@@ -102,8 +102,8 @@ def printed_at_port(commands):
 
 def outputs_of(block):
     """What each command of a block prints; of `serve` and the commands behind it only where curl is installed."""
-    if not shutil.which("curl"):
-        block = list(itertools.takewhile(lambda pair: "curl " not in pair[0], block))
+    left_out = ("nghttpd ",) if shutil.which("curl") else ("nghttpd ", "curl ")
+    block = list(itertools.takewhile(lambda pair: not any(word in pair[0] for word in left_out), block))
     at = next((at for at, pair in enumerate(block) if " serve " in pair[0] and pair[0].endswith("&")), len(block))
     outputs = printed_at_port([command for command, _ in block[:at]])[:at]
     if at < len(block) and shutil.which("curl"):
