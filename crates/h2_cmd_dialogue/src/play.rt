@@ -321,7 +321,7 @@ impl<'b> Course<'b> {
     /// Puts back what came, without this many octets that were taken.
     fn put_inbox(&mut self, inbox: Vec<u8>, taken: usize)
         requires { taken ≤ vec_len inbox }
-        ensures { self.new ≡ record self.old { inbox = drop taken inbox.entry.items } }
+        ensures { self.new ≡ record self.old { inbox = drop taken inbox.items } }
     {
         let mut inbox = inbox;
         drop_front(&mut inbox, taken);
@@ -544,7 +544,7 @@ impl<'b> Course<'b> {
         link: &mut L,
         millis: u64,
     ) -> Result<End, AllocError>
-        ensures goes { OnOk result (Goes steps.now self.old (L.log link.old) self.new (L.log link.new)) }
+        ensures { OnOk result (Goes steps.now self.old (L.log link.old) self.new (L.log link.new)) }
     {
         let mut buffer = [0u8; READ_SIZE];
         for _turn in 0..TURNS {

@@ -8,4 +8,4 @@ returns-then-is_empty g c = λ steps. goes-none steps c.args.self.now (g.L.Link.
 
 pub returns : goal.returns
 returns g c = λ steps. goes-put steps c.args.self.now c.clear.new.self (g.L.Link.log c.args.link.now) (g.L.Link.log c.write_all-is_done.new.self) c.write_all-is_done.result c.clear.ensures
-    (c.write_all-is_done.ensures ∙ ap (λ (o : List ℕ). happened (g.L.Link.log c.args.link.now) (Sent o c.write_all-is_done.result)) c.out-write_all.ensures)
+    (c.write_all-is_done.ensures ∙ ap (λ (o : List ℕ). happened (g.L.Link.log c.args.link.now) (Sent o c.write_all-is_done.result)) c.out-2.ensures)
