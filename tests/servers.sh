@@ -13,7 +13,7 @@
 set -u -o pipefail
 cd "$(dirname "$(readlink -f "${BASH_SOURCE[0]}")")/.."
 top=$PWD
-program=$(readlink -f "$1")
+program=$(readlink -f "${1:?the first word is the program}")
 shift
 names=(nghttpd node go h2o nginx haproxy apache)
 kept=out/servers
