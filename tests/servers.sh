@@ -13,7 +13,11 @@
 set -u -o pipefail
 cd "$(dirname "$(readlink -f "${BASH_SOURCE[0]}")")/.."
 top=$PWD
-program=$(readlink -f "$1")
+if ! program=$(command -v "${1-}"); then
+    echo "tests/servers.sh: the first word is the program, such as release/h2_bench" >&2
+    exit 2
+fi
+program=$(readlink -f "$program")
 shift
 names=(nghttpd node go h2o nginx haproxy apache)
 kept=out/servers
