@@ -53,7 +53,7 @@ complete -c h2_bench -n '__fish_seen_subcommand_from serve' -l frame -x -d 'SETT
 complete -c h2_bench -n '__fish_seen_subcommand_from serve' -l explain -d 'Explains each item as soon as it arrives, each line after the number of its connection; so do --brief, --errors, --stream, --json, --strict, --times and --record'
 complete -c h2_bench -n '__fish_seen_subcommand_from serve' -l times -d 'Explains, with the milliseconds since the connection was accepted before each line and in the record'
 complete -c h2_bench -n '__fish_seen_subcommand_from serve' -l record -x -d 'Explains, and records each connection in this directory: its octets as hex, and a case for check'
-complete -c h2_bench -n '__fish_seen_subcommand_from serve' -l inject -r -F -d 'A file of dialogues: the frames of one go out behind the answers of the first connection, or instead, and its client is judged'
+complete -c h2_bench -n '__fish_seen_subcommand_from serve' -l inject -r -F -d 'A file of dialogues: the frames of one go out after the answers of the first connection, or instead, and its client is judged'
 complete -c h2_bench -n '__fish_seen_subcommand_from serve' -l dialogue -x -d 'Which dialogue of the file, from 1; 1 where none is given'
 complete -c h2_bench -n '__fish_seen_subcommand_from serve' -l json -d 'Writes one JSON object a line'
 complete -c h2_bench -n '__fish_seen_subcommand_from serve' -l color -d 'Colours the lines of the text by what they say'

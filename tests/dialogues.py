@@ -175,7 +175,7 @@ class Reader:
 
     def marked(self, number, text):
         if not re.match(r";[@+<!$-] ", text):
-            raise Refused(number, "a mark of a dialogue is ;# ;@ ;+ ;- ;< ;! or ;$, and a space behind it")
+            raise Refused(number, "a mark of a dialogue is ;# ;@ ;+ ;- ;< ;! or ;$, and a space after it")
         if text[1] in "+-":
             self.dialogue(number).steps.append(Step(number, text))
         elif text[1] == "@":

@@ -202,7 +202,7 @@ wait_rule = record (new_rule (codes "wait")) { long = Some (codes "wait"); actio
 abbrev pub path_rule : Rule
 path_rule = record (new_rule (codes "path")) { long = Some (codes "path"); action = Some Set }
 
--- what requests have in place of localhost, one text
+-- what requests have instead of localhost, one text
 abbrev pub authority_rule : Rule
 authority_rule = record (new_rule (codes "authority")) { long = Some (codes "authority"); action = Some Set }
 

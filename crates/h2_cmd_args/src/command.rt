@@ -146,7 +146,7 @@ pub struct Against<'a> {
     pub wait: u32,
     /// The method of the requests that go to another path, `=`, and that path; empty where none does.
     pub path: &'a str,
-    /// What requests have in place of `localhost`; empty where that stays.
+    /// What requests have instead of `localhost`; empty where that stays.
     pub authority: &'a str,
     /// Whether octets are judged that were recorded: those of the first file and of the second.
     pub judge: bool,

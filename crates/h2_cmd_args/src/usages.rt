@@ -129,7 +129,7 @@ const RECORD: Word = Word {
 const INJECT: Word = Word {
     name: "inject",
     kind: Kind::Text,
-    help: "A file of dialogues: the frames of one go out behind the answers of the first connection, or instead, and its client is judged",
+    help: "A file of dialogues: the frames of one go out after the answers of the first connection, or instead, and its client is judged",
 };
 
 const DIALOGUE: Word = Word {

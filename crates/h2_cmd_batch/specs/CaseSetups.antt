@@ -47,7 +47,7 @@ abbrev pub setup_said : Directory → (file : List ℕ) → Option (List (List �
 setup_said files file None = None
 setup_said files file (Some words) = setup_asked files file (asked_of words)
 
--- what the words of a case say, behind those before them
+-- what the words of a case say, after those before them
 abbrev pub setup_worded : Directory → (file : List ℕ) → (lines : List (List ℕ)) → Option CaseSetup
 setup_worded files file lines = setup_said files file (with_case_words first_words lines)
 

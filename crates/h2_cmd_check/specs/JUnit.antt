@@ -39,7 +39,7 @@ abbrev pub directive_of : List ℕ → List ℕ
 directive_of [] = []
 directive_of (octet ∷ octets) = if starts_with nat_eq (octet ∷ octets) (codes " # ") then octet ∷ octets else directive_of octets
 
--- what it says behind this mark
+-- what it says after this mark
 abbrev pub words_behind : (mark line : List ℕ) → Option (List ℕ)
 words_behind mark line = behind mark (directive_of line)
 
@@ -83,7 +83,7 @@ title_or file (Some title) = title
 abbrev pub case_front : (file : List ℕ) → Option (List ℕ) → List ℕ
 case_front file title = codes "<testcase classname=\"" ++ xml_text file ++ codes "\" name=\"" ++ xml_text (title_or file title) ++ codes "\""
 
--- why a result is no verdict: what its directive says behind this mark
+-- why a result is no verdict: what its directive says after this mark
 abbrev pub reason_behind : (mark line : List ℕ) → List ℕ
 reason_behind mark line = unwrap_or (words_behind mark line) []
 

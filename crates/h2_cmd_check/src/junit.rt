@@ -106,7 +106,7 @@ fn directive_of(line: &[u8]) -> &[u8]
     rest
 }
 
-/// What the directive of a result says behind this mark.
+/// What the directive of a result says after this mark.
 fn words_behind<'l>(mark: &[u8], line: &'l [u8]) -> Option<&'l [u8]>
     ensures { option_map (λ t. t.now) result ≡ words_behind mark.now line.now }
 {
@@ -187,7 +187,7 @@ fn put_case(file: &[u8], title: Option<&[u8]>, out: &mut Growing)
     out.text("\"");
 }
 
-/// Why a result is no verdict: what its directive says behind this mark.
+/// Why a result is no verdict: what its directive says after this mark.
 fn reason_behind<'l>(mark: &[u8], line: &'l [u8]) -> &'l [u8]
     ensures { result.now ≡ reason_behind mark.now line.now }
 {
@@ -220,14 +220,7 @@ fn put_found(end: &[u8], line: &[u8], out: &mut Growing)
 
 /// Puts the XML of a line of TAP of this kind last, where the result above has this end. The file is the one with these
 /// results, as it is and as TAP shows it.
-fn put_line(
-    kind: TapLine,
-    end: &[u8],
-    file: &[u8],
-    shown: &[u8],
-    line: &[u8],
-    out: &mut Growing,
-)
+fn put_line(kind: TapLine, end: &[u8], file: &[u8], shown: &[u8], line: &[u8], out: &mut Growing)
     ensures { Gains (xml_as kind end.now file.now shown.now line.now) out.old out.new }
 {
     match kind {

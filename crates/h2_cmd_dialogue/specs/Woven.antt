@@ -119,7 +119,7 @@ step_if base (Some s) item = if names base s.awaited item then Some s else None
 abbrev pub next_step : List Step → Weaving → Incoming → Option Step
 next_step steps w item = step_if (base_of w.base) (slice_get steps w.taken) item
 
--- what goes out: what the server sends; with a step its frames behind that, or instead of it
+-- what goes out: what the server sends; with a step its frames after that, or instead of it
 abbrev pub written : Weaving → Option Step → List ℕ → List ℕ
 written w None sent = kept w.reset sent
 written w (Some s) sent = (if s.is_instead then [] else kept w.reset sent) ++ script_octets (base_of w.base) s

@@ -18,7 +18,7 @@ fn open(book: &Book<Global>, config: Config, alloc: Global) -> Result<Conn<'_, G
     Conn::new(book, config, &mut Vec::new(alloc))
 }
 
-/// The cause of the last item's error, if it is one, where these octets come to a server: they are taken once more.
+/// The cause of the last item's error, if it is one, where a server receives these octets: they are taken once more.
 ///
 /// `AllocError` where memory is refused.
 pub fn last_cause(

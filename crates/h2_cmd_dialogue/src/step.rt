@@ -62,7 +62,7 @@ pub struct Step {
     /// The number of its first line in the file, from 1.
     pub line: usize,
     pub awaited: Awaited,
-    /// Whether its frames go out instead of what the server sends for the item; else behind that.
+    /// Whether its frames go out instead of what the server sends for the item; else after that.
     pub is_instead: bool,
     pub frames: Vec<ScriptFrame>,
     /// What the client does then; a PING follows the frames where there is such a line.

@@ -104,11 +104,7 @@ fn lines_of<'p>(play: &Play<'p>) -> &'p [&'p [u8]] {
 }
 
 /// The limits, the settings and the book that a dialogue says, if it says some.
-fn own<F: Files>(
-    alloc: Global,
-    play: &Play<'_>,
-    files: &mut F,
-) -> Result<Option<CaseSetup>, Stop> {
+fn own<F: Files>(alloc: Global, play: &Play<'_>, files: &mut F) -> Result<Option<CaseSetup>, Stop> {
     let lines = lines_of(play);
     if !have_words(lines) {
         return Ok(None);

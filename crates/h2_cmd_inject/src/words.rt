@@ -29,7 +29,7 @@ pub struct Ending<'p> {
     pub rest: &'p [u8],
 }
 
-/// The text of a line, behind its mark.
+/// The text of a line, after its mark.
 fn text_at<'t>(lines: &[&'t [u8]], line: usize) -> &'t [u8] {
     match lines.get(line.saturating_sub(1)) {
         Some(text) => text.get(3..).unwrap_or_default(),
@@ -183,7 +183,13 @@ pub fn has_broken(findings: &[Finding]) -> bool {
 }
 
 /// A verdict in YAML.
-fn say_verdict(lines: &[&[u8]], first: usize, finding: Finding, ending: Ending<'_>, out: &mut TextBuilder) {
+fn say_verdict(
+    lines: &[&[u8]],
+    first: usize,
+    finding: Finding,
+    ending: Ending<'_>,
+    out: &mut TextBuilder,
+) {
     let line = if finding.line == 0 {
         first.saturating_add(1)
     } else {

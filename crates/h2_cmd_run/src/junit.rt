@@ -109,7 +109,14 @@ fn print_suites<F: Files, O: Output, E: Output>(
         Ok(xml) => xml,
         Err(_) => return print_fault(output, BenchFault::NoMemory),
     };
-    match write_results(alloc, plan.junit, xml.as_slice(), plan.book.why, files, errors) {
+    match write_results(
+        alloc,
+        plan.junit,
+        xml.as_slice(),
+        plan.book.why,
+        files,
+        errors,
+    ) {
         Ok(()) => print_results(output, tap.as_slice(), Ok(tally.all_hold)),
         Err(fault) => print_results(output, tap.as_slice(), Err(PrintFault::Fault(fault))),
     }

@@ -20,7 +20,7 @@ use std::str;
 #[derive(Drop)]
 struct Peer<'p> {
     call: &'p Call<'p>,
-    /// What is left of the octets that it sends now.
+    /// The rest of the octets that it sends now.
     rest: &'p [u8],
     /// How often it sends the second piece after them.
     repeats: u64,
@@ -132,8 +132,7 @@ fn text_of(
     let printed = str::from_utf8(output.octets.as_slice()).unwrap_or("no text");
     format!(in alloc;
         "status {status}, at most {} octets in {} ms, printed {printed:?}",
-        peer.most,
-        peer.slowest
+        peer.most, peer.slowest
     )
 }
 
