@@ -76,10 +76,10 @@ aimed_part a false part = without_path a part
 
 -- ---- lines
 
--- a string is open after a text; `open`: one was before it
-abbrev pub is_open : (open : Bool) → List ℕ → Bool
-is_open open [] = open
-is_open open (octet ∷ octets) = is_open (if octet == 34 || octet == 39 then not open else open) octets
+-- a string is open after a text; `inside`: one was before it
+abbrev pub is_open : (inside : Bool) → List ℕ → Bool
+is_open inside [] = inside
+is_open inside (octet ∷ octets) = is_open (if octet == 34 || octet == 39 then not inside else inside) octets
 
 -- the request of these instructions goes to another path
 abbrev pub is_moved : Aimed → (parts : List (List ℕ)) → Bool

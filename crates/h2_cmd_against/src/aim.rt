@@ -126,7 +126,7 @@ fn put_value(front: &[u8], value: &[u8], out: &mut Vec<u8>) -> Result<(), AllocE
 
 /// Appends an instruction whose request has the path of the case.
 fn put_unmoved(aim: Aim<'_>, part: &[u8], out: &mut Vec<u8>) -> Result<(), AllocError>
-    ensures { OnOk result (out.new.items ≡ out.old.items ++ without_path (aimed_by aim) part.now) }
+    ensures { OnOk result (out.new.items ≡ out.old.items ++ without_path (aimed_by aim.entry) part.now) }
 {
     if aim.authority.is_empty() {
         return out.extend_from_slice(part);
@@ -144,7 +144,7 @@ fn put_part(
     part: &[u8],
     out: &mut Vec<u8>,
 ) -> Result<(), AllocError>
-    ensures { OnOk result (out.new.items ≡ out.old.items ++ aimed_part (aimed_by aim) is_moved part.now) }
+    ensures { OnOk result (out.new.items ≡ out.old.items ++ aimed_part (aimed_by aim.entry) is_moved part.now) }
 {
     if !is_moved {
         return put_unmoved(aim, part, out);
@@ -159,13 +159,13 @@ fn put_part(
 fn is_open(text: &[u8]) -> bool
     ensures { result ≡ is_open false text.now }
 {
-    let mut open = false;
+    let mut inside = false;
     for octet in text {
         if *octet == b'"' || *octet == b'\'' {
-            open = !open;
+            inside = !inside;
         }
     }
-    open
+    inside
 }
 
 /// Whether one of these instructions is cut inside a string.
@@ -184,7 +184,7 @@ fn say_method(parts: &[&[u8]], method: &[u8]) -> bool
 
 /// Whether the request of these instructions goes to another path.
 fn is_moved(aim: Aim<'_>, parts: &[&[u8]]) -> bool
-    ensures { result ≡ is_moved (aimed_by aim) (map (λ p. p.now) parts.now) }
+    ensures { result ≡ is_moved (aimed_by aim.entry) (map (λ p. p.now) parts.now) }
 {
     !aim.path.is_empty() && say_method(parts, aim.method)
 }
@@ -196,7 +196,7 @@ fn put_parts(
     parts: &[&[u8]],
     out: &mut Vec<u8>,
 ) -> Result<(), AllocError>
-    ensures { OnOk result (out.new.items ≡ out.old.items ++ aimed_parts (aimed_by aim) is_moved 104 (map (λ p. p.now) parts.now)) }
+    ensures { OnOk result (out.new.items ≡ out.old.items ++ aimed_parts (aimed_by aim.entry) is_moved 104 (map (λ p. p.now) parts.now)) }
 {
     let mut lead = b'h';
     for part in parts {
@@ -225,7 +225,7 @@ fn block_line(
     front: &[u8],
     parts: &[&[u8]],
 ) -> Result<Vec<u8>, AllocError>
-    ensures { IfOk result (λ out. out.items ≡ aimed_block (aimed_by aim) line.now front.now (map (λ p. p.now) parts.now)) }
+    ensures { IfOk result (λ out. out.items ≡ aimed_block (aimed_by aim.entry) line.now front.now (map (λ p. p.now) parts.now)) }
 {
     if are_open(parts) {
         return Vec::from_slice(alloc, line);
@@ -237,7 +237,7 @@ fn block_line(
 
 /// The octets of a line as it goes out.
 fn line_octets(alloc: Global, aim: Aim<'_>, line: &[u8]) -> Result<Vec<u8>, AllocError>
-    ensures { IfOk result (λ octets. octets.items ≡ octets_of_lines (aimed_line (aimed_by aim) line.now ∷ [])) }
+    ensures { IfOk result (λ octets. octets.items ≡ octets_of_lines (aimed_line (aimed_by aim.entry) line.now ∷ [])) }
 {
     match cut(line, b'h') {
         Some((front, rest)) => {
@@ -251,7 +251,7 @@ fn line_octets(alloc: Global, aim: Aim<'_>, line: &[u8]) -> Result<Vec<u8>, Allo
 
 /// The octets of lines, of which each goes out by itself.
 fn lines_octets(alloc: Global, aim: Aim<'_>, lines: &[&[u8]]) -> Result<Vec<u8>, AllocError>
-    ensures { IfOk result (λ octets. octets.items ≡ octets_of_lines (map (aimed_line (aimed_by aim)) (map (λ l. l.now) lines.now))) }
+    ensures { IfOk result (λ octets. octets.items ≡ octets_of_lines (map (aimed_line (aimed_by aim.entry)) (map (λ l. l.now) lines.now))) }
 {
     let mut octets = Vec::new(alloc);
     for line in lines {
@@ -265,7 +265,7 @@ fn lines_octets(alloc: Global, aim: Aim<'_>, lines: &[&[u8]]) -> Result<Vec<u8>,
 ///
 /// `AllocError` where memory is refused.
 pub fn aimed_octets(alloc: Global, aim: Aim<'_>, lines: &[&[u8]]) -> Result<Vec<u8>, AllocError>
-    ensures { IfOk result (λ octets. octets.items ≡ aimed_octets (aimed_by aim) (map (λ l. l.now) lines.now)) }
+    ensures { IfOk result (λ octets. octets.items ≡ aimed_octets (aimed_by aim.entry) (map (λ l. l.now) lines.now)) }
 {
     if aim.path.is_empty() && aim.authority.is_empty() {
         return octets_in(alloc, lines);

@@ -82,7 +82,7 @@ fn refuse(
     why: Refusal,
     so_far: &mut SoFar,
 ) -> Result<(), AllocError>
-    ensures { OnOk result (Adds case.entry.file.now (title_in (map (λ l. l.now) case.entry.lines.now)) [] (Refused why.entry) so_far.old so_far.new) }
+    ensures { OnOk result (Adds case.entry.file.now (title_in (map (λ l. l.now) case.entry.lines.now)) [] (Refused why) so_far.old so_far.new) }
 {
     add(alloc, case, &[], &CaseEnd::Refused(why), so_far)
 }

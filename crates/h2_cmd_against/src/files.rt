@@ -74,7 +74,7 @@ fn refuse_file(
     why: Refusal,
     so_far: &mut SoFar,
 ) -> Result<(), AllocError>
-    ensures { OnOk result (RefusesFile why.entry file.now so_far.old so_far.new) }
+    ensures { OnOk result (RefusesFile why file.now so_far.old so_far.new) }
 {
     let title = Title { file, title: None };
     so_far.add(alloc, title, &[], &CaseEnd::Refused(why))

@@ -41,7 +41,7 @@ fn request_script(is_post: bool) -> &'static [u8]
 
 /// Its octets, as they go out.
 fn request(alloc: Global, aim: Aim<'_>, is_post: bool) -> Result<Vec<u8>, AllocError>
-    ensures { IfOk result (λ octets. octets.items ≡ request (aimed_by aim) is_post) }
+    ensures { IfOk result (λ octets. octets.items ≡ request (aimed_by aim.entry) is_post) }
 {
     let lines = lines_in(alloc, request_script(is_post))?;
     aimed_octets(alloc, aim, lines.as_slice())
@@ -83,7 +83,7 @@ fn asked<L: Link>(
     link: &mut L,
     is_post: bool,
 ) -> Result<Option<Played>, AllocError>
-    ensures { IfOk result (λ played. Asks (aimed_by aim) is_post (L.log link.old) played (L.log link.new)) }
+    ensures { IfOk result (λ played. Asks (aimed_by aim.entry) is_post (L.log link.old) played (L.log link.new)) }
 {
     let octets = request(alloc, aim, is_post)?;
     if !link.connect() {
@@ -100,7 +100,7 @@ fn status_of_post<L: Link>(
     aim: Aim<'_>,
     link: &mut L,
 ) -> Result<u32, AllocError>
-    ensures { IfOk result (λ status. AsksPost (aimed_by aim) (L.log link.old) status (L.log link.new)) }
+    ensures { IfOk result (λ status. AsksPost (aimed_by aim.entry) (L.log link.old) status (L.log link.new)) }
 {
     match asked(alloc, aim, link, true)? {
         Some(played) => Ok(status_among(played.reading.events())),
@@ -127,7 +127,7 @@ fn server_by_get<L: Link>(
     aim: Aim<'_>,
     link: &mut L,
 ) -> Result<Option<Server>, AllocError>
-    ensures { IfOk result (λ server. AsksGet (aimed_by aim) (L.log link.old) server (L.log link.new)) }
+    ensures { IfOk result (λ server. AsksGet (aimed_by aim.entry) (L.log link.old) server (L.log link.new)) }
 {
     match asked(alloc, aim, link, false)? {
         Some(played) => Ok(Some(server_of(alloc, &played)?)),
@@ -143,7 +143,7 @@ pub fn survey<L: Link>(
     aim: Aim<'_>,
     link: &mut L,
 ) -> Result<Option<Server>, AllocError>
-    ensures { IfOk result (λ server. Surveys (aimed_by aim) (L.log link.old) server (L.log link.new)) }
+    ensures { IfOk result (λ server. Surveys (aimed_by aim.entry) (L.log link.old) server (L.log link.new)) }
 {
     match server_by_get(alloc, aim, link)? {
         Some(server) => {

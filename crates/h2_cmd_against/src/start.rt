@@ -70,8 +70,8 @@ fn surveyed_server<L: Link>(
     aim: Aim<'_>,
     link: &mut L,
 ) -> Result<Server, BenchFault>
-    ensures known { IfOk result (λ server. Surveys (aimed_by aim) (L.log link.old) (Some server) (L.log link.new)) }
-    ensures fault { IfErr result (λ fault. (fault ≡ NoMemory) ⊎ ((fault ≡ Socket) × Surveys (aimed_by aim) (L.log link.old) None (L.log link.new))) }
+    ensures known { IfOk result (λ server. Surveys (aimed_by aim.entry) (L.log link.old) (Some server) (L.log link.new)) }
+    ensures fault { IfErr result (λ fault. (fault ≡ NoMemory) ⊎ ((fault ≡ Socket) × Surveys (aimed_by aim.entry) (L.log link.old) None (L.log link.new))) }
 {
     match survey(alloc, aim, link) {
         Ok(Some(server)) => Ok(server),
@@ -93,9 +93,9 @@ pub fn server_for<F: Files, L: Link>(
     files: &mut F,
     link: &mut L,
 ) -> Result<Server, BenchFault>
-    ensures known { F.is_printed files.old ≡ true → IfOk result (λ server. Knows (aimed_by aim) is_recorded (F.file files.old) (map (λ n. n.now) names.now)
+    ensures known { F.is_printed files.old ≡ true → IfOk result (λ server. Knows (aimed_by aim.entry) is_recorded (F.file files.old) (map (λ n. n.now) names.now)
         (L.log link.old) server (L.log link.new)) }
-    ensures fault { IfErr result (λ fault. (fault ≡ NoMemory) ⊎ Misses (aimed_by aim) is_recorded (L.log link.old) fault (L.log link.new)) }
+    ensures fault { IfErr result (λ fault. (fault ≡ NoMemory) ⊎ Misses (aimed_by aim.entry) is_recorded (L.log link.old) fault (L.log link.new)) }
     ensures same_printed { F.is_printed files.new ≡ F.is_printed files.old }
     ensures same_files { F.file files.new ≡ F.file files.old }
 {
