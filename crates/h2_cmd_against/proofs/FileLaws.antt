@@ -51,7 +51,7 @@ pub cases-unread : (file : Option (List ℕ)) → file ≡ None → cases_with f
 cases-unread file is = rw is refl
 
 pub cases-long : (file : Option (List ℕ)) → IsSomeAnd file (λ octets. most < length octets) → cases_with file ≡ Err TooLong ∷ []
-cases-long None h = refl
+cases-long None h = absurd h
 cases-long (Some octets) h = rw (lt-ltb most (length octets) h) refl
 
 pub no-text : (octets : List ℕ) → (IsUtf8 octets → ⊥) → is_utf8 octets ≡ false
