@@ -138,12 +138,7 @@ fn put_unmoved(aim: Aim<'_>, part: &[u8], out: &mut Vec<u8>) -> Result<(), Alloc
 }
 
 /// Appends an instruction as it goes out; `is_moved`: the path of its request changes.
-fn put_part(
-    aim: Aim<'_>,
-    is_moved: bool,
-    part: &[u8],
-    out: &mut Vec<u8>,
-) -> Result<(), AllocError>
+fn put_part(aim: Aim<'_>, is_moved: bool, part: &[u8], out: &mut Vec<u8>) -> Result<(), AllocError>
     ensures { OnOk result (out.new.items ≡ out.old.items ++ aimed_part (aimed_by aim.entry) is_moved part.now) }
 {
     if !is_moved {

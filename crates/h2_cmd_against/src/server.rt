@@ -95,11 +95,7 @@ fn asked<L: Link>(
 }
 
 /// The status that a POST gets; 0 for none.
-fn status_of_post<L: Link>(
-    alloc: Global,
-    aim: Aim<'_>,
-    link: &mut L,
-) -> Result<u32, AllocError>
+fn status_of_post<L: Link>(alloc: Global, aim: Aim<'_>, link: &mut L) -> Result<u32, AllocError>
     ensures { IfOk result (λ status. AsksPost (aimed_by aim.entry) (L.log link.old) status (L.log link.new)) }
 {
     match asked(alloc, aim, link, true)? {

@@ -65,11 +65,7 @@ fn recorded_server<F: Files>(
 }
 
 /// What is known of a server that listens.
-fn surveyed_server<L: Link>(
-    alloc: Global,
-    aim: Aim<'_>,
-    link: &mut L,
-) -> Result<Server, BenchFault>
+fn surveyed_server<L: Link>(alloc: Global, aim: Aim<'_>, link: &mut L) -> Result<Server, BenchFault>
     ensures known { IfOk result (λ server. Surveys (aimed_by aim.entry) (L.log link.old) (Some server) (L.log link.new)) }
     ensures fault { IfErr result (λ fault. (fault ≡ NoMemory) ⊎ ((fault ≡ Socket) × Surveys (aimed_by aim.entry) (L.log link.old) None (L.log link.new))) }
 {

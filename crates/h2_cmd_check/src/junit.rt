@@ -220,14 +220,7 @@ fn put_found(end: &[u8], line: &[u8], out: &mut Growing)
 
 /// Puts the XML of a line of TAP of this kind last, where the result above has this end. The file is the one with these
 /// results, as it is and as TAP shows it.
-fn put_line(
-    kind: TapLine,
-    end: &[u8],
-    file: &[u8],
-    shown: &[u8],
-    line: &[u8],
-    out: &mut Growing,
-)
+fn put_line(kind: TapLine, end: &[u8], file: &[u8], shown: &[u8], line: &[u8], out: &mut Growing)
     ensures { Gains (xml_as kind end.now file.now shown.now line.now) out.old out.new }
 {
     match kind {

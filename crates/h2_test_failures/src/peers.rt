@@ -132,8 +132,7 @@ fn text_of(
     let printed = str::from_utf8(output.octets.as_slice()).unwrap_or("no text");
     format!(in alloc;
         "status {status}, at most {} octets in {} ms, printed {printed:?}",
-        peer.most,
-        peer.slowest
+        peer.most, peer.slowest
     )
 }
 
