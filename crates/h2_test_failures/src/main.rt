@@ -15,7 +15,6 @@ mod feeds;
 mod heap;
 mod line;
 mod openings;
-mod peers;
 mod programs;
 mod refusing;
 mod scripted;

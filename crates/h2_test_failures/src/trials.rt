@@ -1,7 +1,7 @@
 //! Which trial a line names, and each failure in turn.
 
 use crate::line::Call;
-use crate::{bounds, debuggers, drives, feeds, heap, openings, peers, programs, scripts, sessions};
+use crate::{bounds, debuggers, drives, feeds, heap, openings, programs, scripts, sessions};
 use std::alloc::{AllocError, Global};
 
 /// What a trial found.
@@ -129,7 +129,6 @@ fn of_memory(alloc: Global, verb: &str, call: &Call<'_>, turn: u64) -> Result<Re
         "disassemble" => scripts::disassembled(alloc, call, turn),
         "grant" => heap::granted(alloc, turn),
         "grow" => heap::grown(alloc, turn),
-        "judge" => peers::tried(alloc, call),
         "room" => bounds::room(alloc, call),
         "fits" => bounds::fits(alloc, call),
         "lends" => bounds::lends(alloc, call),
