@@ -66,9 +66,9 @@ pub takes-more : (steps : List Step) (c d f : Course) (octets : List ℕ) (at n 
 takes-more steps c d f octets at n x y = (
   x.0 ++ y.0,
   flat_map-append (λ (e : Answered). e.octets) x.0 y.0
-  ∙ ap (λ (k : List ℕ). k ++ octets_of y.0) x.1
-  ∙ ap (λ (k : List ℕ). take at octets ++ k) y.1
-  ∙ sym (take-add at n octets),
+      ∙ ap (λ (k : List ℕ). k ++ octets_of y.0) x.1
+      ∙ ap (λ (k : List ℕ). take at octets ++ k) y.1
+      ∙ sym (take-add at n octets),
   takes-then steps c d f x.0 y.0 x.2 y.2,
 )
 
@@ -80,13 +80,15 @@ takes-item steps c d item octets x = (answered item octets x.0 ∷ [], append-ni
 pub takes-woven : (steps : List Step) (c d : Course) (item : Incoming) (octets sent : List ℕ) (k : Connection) → Fed c.conn octets [] k sent
     → d ≡ record c { conn = k; weaving = after_item steps c.weaving item; out = c.out ++ woven_item steps c.weaving item sent } → TakesOne steps c item octets d
 takes-woven steps c d item octets sent k fed same =
-    subst (λ (f : Course). TakesOne steps c item octets f) (sym same)
-    (sent, record {
-      feeds = (k, fed, refl);
-      weaving = refl;
-      out = ap (λ (o : List ℕ). c.out ++ o) (sym (append-nil (woven_item steps c.weaving item sent)));
-      inbox = refl;
-    })
+    subst (λ (f : Course). TakesOne steps c item octets f) (sym same) (
+      sent,
+      record {
+        feeds = (k, fed, refl);
+        weaving = refl;
+        out = ap (λ (o : List ℕ). c.out ++ o) (sym (append-nil (woven_item steps c.weaving item sent)));
+        inbox = refl;
+      },
+    )
 
 -- ---- turns
 

@@ -29,7 +29,7 @@ woven-nothing w [] none = refl
 woven-nothing w (e ∷ es) none =
     let next : next_step [] (with_item w e.item) e.item ≡ None = nothing-next (with_item w e.item) e.item in
     let head : woven_item [] w e.item e.sent ≡ e.sent =
-        ap (λ (s : Option Step). written (with_item w e.item) s e.sent) next ∙ ap (λ (r : List ℕ). kept r e.sent) none in
+    ap (λ (s : Option Step). written (with_item w e.item) s e.sent) next ∙ ap (λ (r : List ℕ). kept r e.sent) none in
     let same : after_item [] w e.item ≡ with_item w e.item = ap (later (with_item w e.item)) next in
     let tail : woven [] (after_item [] w e.item) es ≡ sent_by_server es = woven-nothing (after_item [] w e.item) es (ap (λ (v : Weaving). v.reset) same ∙ none) in
     ap₂ (λ (xs ys : List ℕ). xs ++ ys) head tail

@@ -68,9 +68,12 @@ fn goes_on(lines: &[WantedLine]) -> bool {
 /// The verdict where a line `;<` of a step does not hold.
 fn missed_line(lines: &[WantedLine]) -> Judged {
     match lines.first() {
-        Some(WantedLine {
-            duty: Duty::Must, ..
-        }) => Judged::Broken,
+        Some(
+            WantedLine {
+                duty: Duty::Must,
+                ..
+            },
+        ) => Judged::Broken,
         _ => Judged::Allowed,
     }
 }
@@ -103,10 +106,7 @@ impl Ended<'_, '_> {
         let course = self.course;
         let watched = &course.watched;
         let all = watched.events.as_slice();
-        let heard = Heard::of(
-            events_between(all, self.mark(number), all.len()),
-            goes_on,
-        );
+        let heard = Heard::of(events_between(all, self.mark(number), all.len()), goes_on);
         let ending = Ending {
             is_closed: matches!(self.end, End::Closed),
             waits: watched.limits.is_unanswered(),
@@ -161,11 +161,7 @@ impl Ended<'_, '_> {
     }
 
     /// Appends the verdicts on steps. Says whether the client went on from all of them.
-    fn judge_steps(
-        &self,
-        steps: &[Step],
-        findings: &mut Vec<Finding>,
-    ) -> Result<bool, AllocError> {
+    fn judge_steps(&self, steps: &[Step], findings: &mut Vec<Finding>) -> Result<bool, AllocError> {
         let course = self.course;
         let taken = course.weaver.taken();
         for (number, step) in steps.iter().enumerate() {

@@ -228,7 +228,5 @@ pub fn reaction_to(base: u32, goes_on: bool, heard: Heard, ending: Ending) -> Ta
 pub fn is_sent(line: usize, events: &[Event]) -> bool
     ensures { result ≡ is_sent line events.now }
 {
-    events
-        .iter()
-        .any(|event| matches!(event, Event::Sends(number) if *number == line))
+    events.iter().any(|event| matches!(event, Event::Sends(number) if *number == line))
 }

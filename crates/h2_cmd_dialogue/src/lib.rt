@@ -4,12 +4,11 @@
 //! SETTINGS let it do), `specs/Verdicts.antt`.
 #![tactic(auto)]
 
-mod item;
-mod laws;
-
 pub mod cause;
 pub mod findings;
 pub mod heard;
+mod item;
+mod laws;
 pub mod limits;
 pub mod play;
 pub mod step;

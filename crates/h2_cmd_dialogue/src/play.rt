@@ -99,12 +99,7 @@ impl Watched {
     }
 
     /// A frame of the client came, after these steps.
-    fn came(
-        &mut self,
-        base: u32,
-        steps: &[Step],
-        frame: FrameRef<'_>,
-    ) -> Result<(), AllocError> {
+    fn came(&mut self, base: u32, steps: &[Step], frame: FrameRef<'_>) -> Result<(), AllocError> {
         if let Some(event) = event_of(frame) {
             match self.events.push(event) {
                 Ok(()) => {}
@@ -167,7 +162,11 @@ impl<'b> Course<'b> {
         opening: &[u8],
     ) -> Result<Course<'b>, AllocError>
         ensures { IfOk result (λ course. course ≡ record {
-            conn = conn.entry; weaving = after_item steps.now no_steps_taken Start; inbox = []; out = woven_item steps.now no_steps_taken Start opening.now }) }
+          conn = conn.entry;
+          weaving = after_item steps.now no_steps_taken Start;
+          inbox = [];
+          out = woven_item steps.now no_steps_taken Start opening.now;
+        }) }
     {
         let mut course = Course {
             conn,
@@ -197,14 +196,11 @@ impl<'b> Course<'b> {
     }
 
     /// An item came, for which the server sends this.
-    fn weave(
-        &mut self,
-        steps: &[Step],
-        item: Incoming<'_>,
-        sent: &[u8],
-    ) -> Result<(), AllocError>
+    fn weave(&mut self, steps: &[Step], item: Incoming<'_>, sent: &[u8]) -> Result<(), AllocError>
         ensures { OnOk result (self.new ≡ record self.old {
-            weaving = after_item steps.now self.old.weaving (incoming_of item.entry); out = self.old.out ++ woven_item steps.now self.old.weaving (incoming_of item.entry) sent.now }) }
+          weaving = after_item steps.now self.old.weaving (incoming_of item.entry);
+          out = self.old.out ++ woven_item steps.now self.old.weaving (incoming_of item.entry) sent.now;
+        }) }
     {
         let before = self.out.len();
         match self.weaver.weave(steps, item, sent, &mut self.out) {
@@ -229,12 +225,7 @@ impl<'b> Course<'b> {
     }
 
     /// An item with these octets came: what the client does with it.
-    fn hear(
-        &mut self,
-        steps: &[Step],
-        octets: &[u8],
-        item: Incoming<'_>,
-    ) -> Result<(), AllocError>
+    fn hear(&mut self, steps: &[Step], octets: &[u8], item: Incoming<'_>) -> Result<(), AllocError>
         ensures { self.new ≡ self.old }
     {
         match self.octets.extend_from_slice(octets) {

@@ -173,7 +173,12 @@ fn put_resets(base: u32, frames: &[ScriptFrame], reset: &mut Vec<u32>) -> Result
 }
 
 /// Appends a frame that the server sends, unless the script has reset its stream.
-fn put_kept(reset: &[u32], frame: FrameRef<'_>, octets: &[u8], out: &mut Vec<u8>) -> Result<(), AllocError>
+fn put_kept(
+    reset: &[u32],
+    frame: FrameRef<'_>,
+    octets: &[u8],
+    out: &mut Vec<u8>,
+) -> Result<(), AllocError>
     ensures { OnOk result (out.new.items ≡ out.old.items ++ kept_frame reset.now frame.entry.head octets.now) }
 {
     if reset.contains(&frame.head.stream) {

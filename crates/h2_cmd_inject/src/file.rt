@@ -38,9 +38,7 @@ const NO_MARK: LineRefusal = LineRefusal::Because(
 fn last_step(steps: &mut Vec<Step>) -> Result<&mut Step, LineRefusal> {
     match steps.last_mut() {
         Some(step) => Ok(step),
-        None => Err(LineRefusal::Because(
-            "a step begins with a line ;+ ITEM or ;- ITEM",
-        )),
+        None => Err(LineRefusal::Because("a step begins with a line ;+ ITEM or ;- ITEM")),
     }
 }
 
@@ -189,7 +187,15 @@ pub fn dialogues_of(alloc: Global, lines: &[&[u8]]) -> Result<Vec<Dialogue>, Fil
         let end = first.saturating_add(count);
         let here = lines_between(lines, first, end);
         let steps = steps_of(alloc, first, here)?;
-        if title_of(here).is_some() && dialogues.push(Dialogue { first, count, steps }).is_err() {
+        if title_of(here).is_some()
+            && dialogues
+                .push(Dialogue {
+                    first,
+                    count,
+                    steps,
+                })
+                .is_err()
+        {
             return Err(FileRefusal::NoMemory);
         }
         first = end;

@@ -21,8 +21,7 @@ impl From<AllocError> for LineRefusal {
     }
 }
 
-const NO_ITEM: LineRefusal =
-    LineRefusal::Because("an item is start, pong, or NAME FLAGS STREAM");
+const NO_ITEM: LineRefusal = LineRefusal::Because("an item is start, pong, or NAME FLAGS STREAM");
 
 /// The frame of a line that `asm` reads, if it is one.
 fn read_frame(alloc: Global, line: &[u8]) -> Result<Option<ScriptFrame>, AllocError> {
@@ -48,9 +47,7 @@ pub fn frame_of(alloc: Global, line: &[u8]) -> Result<ScriptFrame, LineRefusal> 
     }
     match read_frame(alloc, line)? {
         Some(frame) => Ok(frame),
-        None => Err(LineRefusal::Because(
-            "not a line of a script; asm says what is wrong with it",
-        )),
+        None => Err(LineRefusal::Because("not a line of a script; asm says what is wrong with it")),
     }
 }
 
@@ -166,9 +163,7 @@ pub fn wanted_of(line: usize, text: &[u8]) -> Result<WantedLine, LineRefusal> {
     };
     match wanted_in(rest) {
         Some(wanted) => Ok(WantedLine { line, duty, wanted }),
-        None => Err(LineRefusal::Because(
-            "a reaction is -, connection CODE or stream N CODE",
-        )),
+        None => Err(LineRefusal::Because("a reaction is -, connection CODE or stream N CODE")),
     }
 }
 

@@ -183,7 +183,13 @@ pub fn has_broken(findings: &[Finding]) -> bool {
 }
 
 /// A verdict in YAML.
-fn say_verdict(lines: &[&[u8]], first: usize, finding: Finding, ending: Ending<'_>, out: &mut TextBuilder) {
+fn say_verdict(
+    lines: &[&[u8]],
+    first: usize,
+    finding: Finding,
+    ending: Ending<'_>,
+    out: &mut TextBuilder,
+) {
     let line = if finding.line == 0 {
         first.saturating_add(1)
     } else {
