@@ -1,7 +1,7 @@
 -- Why nothing is served, or no more.
 use Rattle.std.specs.Prelude.{Bool, true, false, Result, Ok, Err}
-use Rattle.h2_cmd_inject.specs.declared.inject.Stop.{Stop}
-use Rattle.h2_cmd_inject.specs.declared.inject.Stop.TheVariants.{NoMemory, Sentence, Fault, NotWritten}
+use Rattle.h2_cmd_inject.specs.declared.serving.Stop.{Stop}
+use Rattle.h2_cmd_inject.specs.declared.serving.Stop.TheVariants.{NoMemory, Sentence, Fault, NotWritten}
 
 abbrev pub is_written : Stop → Bool
 is_written NoMemory = false

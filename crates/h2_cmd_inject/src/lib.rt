@@ -3,9 +3,9 @@
 #![tactic(auto)]
 
 mod file;
-mod inject;
 mod script_lines;
+mod serving;
 mod words;
 
 pub use h2_cmd_exchange::link::{Link, LinkRead};
-pub use inject::{Guests, inject};
+pub use serving::{Guests, inject};

@@ -1,11 +1,12 @@
 //! `serve --inject`: a dialogue is read, a port is listened on, and clients are served, the first one with the script.
 
-ghost use Rattle.std.specs.Prelude.{◌≡◌, ◌==◌, false, is_err};
-ghost use Rattle.h2_cmd_inject.specs.Stops.{is_unwritten};
+ghost use Rattle.std.specs.Prelude.{◌≡◌, ◌==◌, false, is_err, IfErr};
+ghost use Rattle.h2_cmd_inject.specs.Stops.{is_unwritten, is_written};
+ghost use Rattle.h2_cmd_inject.specs.declared.serving.Stop.TheVariants.{NoMemory};
 
 use crate::file::{Dialogue, FileRefusal, dialogues_of};
 use crate::words::{Ending, PATIENCE, has_broken, result_text};
-use h2_cmd_args::command::Serve;
+use h2_cmd_args::command::{Serve, ServeReport};
 use h2_cmd_batch::{BenchFault, Case, CaseSetup, OwnFault, book_for_words, own_of, print_fault};
 use h2_cmd_book_file::{Files, FilesFault};
 use h2_cmd_cases::{have_words, lines_in, title_of};
@@ -42,6 +43,8 @@ enum Stop {
 }
 
 impl From<AllocError> for Stop {
+    ghost from_gives = { λ _ stop. stop ≡ NoMemory };
+
     fn from(_error: AllocError) -> Stop {
         Stop::NoMemory
     }
@@ -49,10 +52,10 @@ impl From<AllocError> for Stop {
 
 /// What a dialogue is played with.
 #[derive(Clone, Copy)]
-struct Play<'p> {
+struct Play<'p, 't> {
     file: &'p str,
     number: u64,
-    lines: &'p [&'p [u8]],
+    lines: &'p [&'t [u8]],
     dialogue: &'p Dialogue,
 }
 
@@ -97,14 +100,18 @@ fn read<F: Files>(alloc: Global, file: &str, files: &mut F) -> Result<Vec<u8>, S
 }
 
 /// The lines of a dialogue.
-fn lines_of<'p>(play: &Play<'p>) -> &'p [&'p [u8]] {
+fn lines_of<'p, 't>(play: Play<'p, 't>) -> &'p [&'t [u8]] {
     let first = play.dialogue.first;
     let end = first.saturating_add(play.dialogue.count);
     play.lines.get(first..end).unwrap_or_default()
 }
 
 /// The limits, the settings and the book that a dialogue says, if it says some.
-fn own<F: Files>(alloc: Global, play: &Play<'_>, files: &mut F) -> Result<Option<CaseSetup>, Stop> {
+fn own<F: Files>(
+    alloc: Global,
+    play: Play<'_, '_>,
+    files: &mut F,
+) -> Result<Option<CaseSetup>, Stop> {
     let lines = lines_of(play);
     if !have_words(lines) {
         return Ok(None);
@@ -145,7 +152,9 @@ fn play_one<'b, L: Link>(
     config: Config,
     steps: &[Step],
     link: &mut L,
-) -> Result<(Course<'b>, End), Stop> {
+) -> Result<(Course<'b>, End), Stop>
+    ensures { IfErr result (λ stop. is_written stop ≡ false) }
+{
     let mut opening = Vec::new(alloc);
     let conn = match Conn::new(book, config, &mut opening) {
         Ok(conn) => conn,
@@ -176,7 +185,7 @@ fn play_first<L: Link, O: Output>(
     alloc: Global,
     book: &Book<Global>,
     config: Config,
-    play: &Play<'_>,
+    play: Play<'_, '_>,
     link: &mut L,
     output: &mut O,
 ) -> Result<bool, Stop>
@@ -226,7 +235,7 @@ fn serve_all<L: Link, O: Output>(
     alloc: Global,
     book: &Book<Global>,
     config: Config,
-    play: &Play<'_>,
+    play: Play<'_, '_>,
     count: u32,
     link: &mut L,
     output: &mut O,
@@ -251,7 +260,7 @@ fn listen_and_serve<G: Guests, O: Output>(
     alloc: Global,
     book: &Book<Global>,
     config: Config,
-    play: &Play<'_>,
+    play: Play<'_, '_>,
     plan: &Serve<'_>,
     guests: &mut G,
     output: &mut O,
@@ -283,31 +292,24 @@ fn dialogues_in(alloc: Global, file: &str, lines: &[&[u8]]) -> Result<Vec<Dialog
     }
 }
 
-/// The dialogue that a plan names, of a file with these lines.
-fn play_of<'p>(
+/// The dialogue that a plan names, of those of its file.
+fn dialogue_of<'p>(
     alloc: Global,
-    plan: &'p Serve<'_>,
-    lines: &'p [&'p [u8]],
+    watch: ServeReport<'_>,
     dialogues: &'p [Dialogue],
-) -> Result<Play<'p>, Stop> {
-    let number = plan.watch.dialogue;
-    let Some(dialogue) = dialogues.get((number as usize).saturating_sub(1)) else {
-        return Err(about(alloc, plan.watch.inject, "it has fewer dialogues"));
-    };
-    Ok(Play {
-        file: plan.watch.inject,
-        number: u64::from(number),
-        lines,
-        dialogue,
-    })
+) -> Result<&'p Dialogue, Stop> {
+    match dialogues.get((watch.dialogue as usize).saturating_sub(1)) {
+        Some(dialogue) => Ok(dialogue),
+        None => Err(about(alloc, watch.inject, "it has fewer dialogues")),
+    }
 }
 
 /// Refuses the first dialogue whose words are refused.
-fn check_words<F: Files>(
+fn check_words<'p, F: Files>(
     alloc: Global,
-    file: &str,
-    lines: &[&[u8]],
-    dialogues: &[Dialogue],
+    file: &'p str,
+    lines: &'p [&[u8]],
+    dialogues: &'p [Dialogue],
     files: &mut F,
 ) -> Result<(), Stop> {
     for dialogue in dialogues {
@@ -317,7 +319,7 @@ fn check_words<F: Files>(
             lines,
             dialogue,
         };
-        let _own = own(alloc, &play, files)?;
+        let _own = own(alloc, play, files)?;
     }
     Ok(())
 }
@@ -339,21 +341,26 @@ fn run<F: Files, G: Guests, O: Output, E: Output>(
     let lines = lines.as_slice();
     let dialogues = dialogues_in(alloc, plan.watch.inject, lines)?;
     check_words(alloc, plan.watch.inject, lines, dialogues.as_slice(), files)?;
-    let play = play_of(alloc, plan, lines, dialogues.as_slice())?;
-    let own = own(alloc, &play, files)?;
+    let play = Play {
+        file: plan.watch.inject,
+        number: u64::from(plan.watch.dialogue),
+        lines,
+        dialogue: dialogue_of(alloc, plan.watch, dialogues.as_slice())?,
+    };
+    let own = own(alloc, play, files)?;
     let book = match book_for_words(alloc, &plan.book, files, errors) {
         Ok(book) => book,
         Err(fault) => return Err(Stop::Fault(fault)),
     };
     match &own {
-        None => listen_and_serve(alloc, &book, plan.config, &play, plan, guests, output),
+        None => listen_and_serve(alloc, &book, plan.config, play, plan, guests, output),
         Some(own) => {
             let book = if own.book.len() == 0 {
                 &book
             } else {
                 &own.book
             };
-            listen_and_serve(alloc, book, own.config, &play, plan, guests, output)
+            listen_and_serve(alloc, book, own.config, play, plan, guests, output)
         }
     }
 }
