@@ -180,10 +180,11 @@ pub fn dialogues_of(alloc: Global, lines: &[&[u8]]) -> Result<Vec<Dialogue>, Fil
     let mut first = preamble_length(lines);
     let mut dialogues = Vec::new(alloc);
     for _dialogue in 0..lines.len() {
-        if first >= lines.len() {
+        let rest = lines_between(lines, first, lines.len());
+        if rest.is_empty() {
             break;
         }
-        let count = case_length(lines_between(lines, first, lines.len()));
+        let count = case_length(rest);
         let end = first.saturating_add(count);
         let here = lines_between(lines, first, end);
         let steps = steps_of(alloc, first, here)?;

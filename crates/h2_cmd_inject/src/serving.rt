@@ -1,6 +1,6 @@
 //! `serve --inject`: a dialogue is read, a port is listened on, and clients are served, the first one with the script.
 
-ghost use Rattle.std.specs.Prelude.{◌≡◌, ◌==◌, false, is_err, IfErr};
+ghost use Rattle.std.specs.Prelude.{◌≡◌, ◌==◌, false, is_err};
 ghost use Rattle.h2_cmd_inject.specs.Stops.{is_unwritten, is_written};
 ghost use Rattle.h2_cmd_inject.specs.declared.serving.Stop.TheVariants.{NoMemory};
 
@@ -60,7 +60,9 @@ struct Play<'p, 't> {
 }
 
 /// A sentence about a file.
-fn about(alloc: Global, file: &str, why: &str) -> Stop {
+fn about(alloc: Global, file: &str, why: &str) -> Stop
+    ensures { is_written result ≡ false }
+{
     match format!(in alloc; "{file}: {why}\n") {
         Ok(text) => Stop::Sentence(text),
         Err(_) => Stop::NoMemory,
@@ -68,7 +70,9 @@ fn about(alloc: Global, file: &str, why: &str) -> Stop {
 }
 
 /// A sentence about a line of a file.
-fn about_line(alloc: Global, file: &str, line: usize, why: &str) -> Stop {
+fn about_line(alloc: Global, file: &str, line: usize, why: &str) -> Stop
+    ensures { is_written result ≡ false }
+{
     match format!(in alloc; "{file}:{line}: {why}\n") {
         Ok(text) => Stop::Sentence(text),
         Err(_) => Stop::NoMemory,
@@ -76,7 +80,9 @@ fn about_line(alloc: Global, file: &str, line: usize, why: &str) -> Stop {
 }
 
 /// Why a file is refused.
-fn refusal(alloc: Global, file: &str, refusal: FileRefusal) -> Stop {
+fn refusal(alloc: Global, file: &str, refusal: FileRefusal) -> Stop
+    ensures { is_written result ≡ false }
+{
     match refusal {
         FileRefusal::NoMemory => Stop::NoMemory,
         FileRefusal::Line(line, why) => about_line(alloc, file, line, why),
@@ -84,7 +90,9 @@ fn refusal(alloc: Global, file: &str, refusal: FileRefusal) -> Stop {
 }
 
 /// The text of a file of dialogues.
-fn read<F: Files>(alloc: Global, file: &str, files: &mut F) -> Result<Vec<u8>, Stop> {
+fn read<F: Files>(alloc: Global, file: &str, files: &mut F) -> Result<Vec<u8>, Stop>
+    ensures { is_unwritten result ≡ false }
+{
     let text = match files.read(alloc, file, MAX_INPUT) {
         Ok(text) => text,
         Err(FilesFault::NoMemory) => return Err(Stop::NoMemory),
@@ -111,7 +119,9 @@ fn own<F: Files>(
     alloc: Global,
     play: Play<'_, '_>,
     files: &mut F,
-) -> Result<Option<CaseSetup>, Stop> {
+) -> Result<Option<CaseSetup>, Stop>
+    ensures { is_unwritten result ≡ false }
+{
     let lines = lines_of(play);
     if !have_words(lines) {
         return Ok(None);
@@ -153,7 +163,7 @@ fn play_one<'b, L: Link>(
     steps: &[Step],
     link: &mut L,
 ) -> Result<(Course<'b>, End), Stop>
-    ensures { IfErr result (λ stop. is_written stop ≡ false) }
+    ensures { is_unwritten result ≡ false }
 {
     let mut opening = Vec::new(alloc);
     let conn = match Conn::new(book, config, &mut opening) {
@@ -222,7 +232,9 @@ fn play_first<L: Link, O: Output>(
 }
 
 /// Waits for the next client.
-fn accept<L: Link>(link: &mut L) -> Result<(), Stop> {
+fn accept<L: Link>(link: &mut L) -> Result<(), Stop>
+    ensures { is_unwritten result ≡ false }
+{
     if link.connect() {
         Ok(())
     } else {
@@ -285,7 +297,9 @@ fn listen_and_serve<G: Guests, O: Output>(
 }
 
 /// The dialogues of a file with these lines.
-fn dialogues_in(alloc: Global, file: &str, lines: &[&[u8]]) -> Result<Vec<Dialogue>, Stop> {
+fn dialogues_in(alloc: Global, file: &str, lines: &[&[u8]]) -> Result<Vec<Dialogue>, Stop>
+    ensures { is_unwritten result ≡ false }
+{
     match dialogues_of(alloc, lines) {
         Ok(dialogues) => Ok(dialogues),
         Err(fault) => Err(refusal(alloc, file, fault)),
@@ -297,7 +311,9 @@ fn dialogue_of<'p>(
     alloc: Global,
     watch: ServeReport<'_>,
     dialogues: &'p [Dialogue],
-) -> Result<&'p Dialogue, Stop> {
+) -> Result<&'p Dialogue, Stop>
+    ensures { is_unwritten result ≡ false }
+{
     match dialogues.get((watch.dialogue as usize).saturating_sub(1)) {
         Some(dialogue) => Ok(dialogue),
         None => Err(about(alloc, watch.inject, "it has fewer dialogues")),
@@ -311,7 +327,9 @@ fn check_words<'p, F: Files>(
     lines: &'p [&[u8]],
     dialogues: &'p [Dialogue],
     files: &mut F,
-) -> Result<(), Stop> {
+) -> Result<(), Stop>
+    ensures { is_unwritten result ≡ false }
+{
     for dialogue in dialogues {
         let play = Play {
             file,
