@@ -10,6 +10,7 @@ import concurrent.futures
 import contextlib
 import glob
 import io
+import itertools
 import os
 import re
 import socket
@@ -73,6 +74,10 @@ class Client:
                     self.has_left = not got
                     for frame in frames:
                         self.take(frame) if not self.has_left else None
+                # A socket that is closed with octets in it resets the connection, maybe before the server has read all.
+                self.socket.shutdown(socket.SHUT_WR)
+                while self.socket.recv(1 << 16):
+                    pass
             except OSError:
                 pass
         return 0
@@ -160,10 +165,16 @@ def found(dialogue, kind, reaction, status=None, how=None, client=Client, **more
     return under_test.verdicts(dialogue, *under_test.play(dialogue, 0, how or options(), run))
 
 
+# Below the ports that Linux gives to clients.
+PORTS = itertools.count(10000 + os.getpid() % 10000)
+
+
 def free_port():
-    with socket.socket() as one:
-        one.bind(("127.0.0.1", 0))
-        return one.getsockname()[1]
+    """A port that nothing listens on, and that no other call was given. It is not bound to see that: a process that another thread begins would hold it for a while."""
+    for port in PORTS:
+        with socket.socket() as one:
+            if one.connect_ex(("127.0.0.1", port)):
+                return port
 
 
 def obeys(_, wanted):
