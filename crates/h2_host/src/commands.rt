@@ -2,6 +2,7 @@
 
 ghost use Rattle.std.specs.Prelude.{◌≡◌, false};
 
+use crate::ending::Ending;
 use h2_cmd_args::command::{Against, Debug, Plan, Refusal, Serve};
 use h2_cmd_book_file::Files;
 use h2_io::{Input, Output};
@@ -39,9 +40,9 @@ pub trait Commands {
         requires reader { I.has_failed input.old ≡ false }
         requires writer { O.has_failed output.old ≡ false };
 
-    /// Serves, as the words ask for; gives the exit status, and whether a sentence says why already.
-    fn serve<W: Write>(&self, rt: &HostRuntime, plan: &Serve<'_>, output: &mut W) -> (u8, bool);
+    /// Serves, as the words ask for.
+    fn serve<W: Write>(&self, rt: &HostRuntime, plan: &Serve<'_>, output: &mut W) -> Ending;
 
-    /// Judges a server, as the words ask for; gives the exit status, and whether a sentence says why already.
-    fn against<W: Write>(&self, rt: &HostRuntime, plan: &Against<'_>, output: &mut W) -> (u8, bool);
+    /// Judges a server, as the words ask for.
+    fn against<W: Write>(&self, rt: &HostRuntime, plan: &Against<'_>, output: &mut W) -> Ending;
 }

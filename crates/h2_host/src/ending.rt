@@ -9,7 +9,6 @@ use h2_cmd_args::command::{Check, Plan, Refusal};
 use h2_cmd_messages::{InputSource, say_unread};
 use h2_io::MAX_INPUT;
 use std::io::{ErrorKind, Write};
-use std::net::{IpAddr, Ipv4Addr, SocketAddr, TcpListener};
 use std::rt::Files;
 
 /// How a command ended.
@@ -17,10 +16,24 @@ use std::rt::Files;
 pub struct Ending {
     /// The exit status.
     pub status: u8,
-    /// Whether a sentence was written already, for the book.
+    /// Whether a sentence says why already.
     pub is_said: bool,
-    /// Why the output was not written.
+    /// Why the port could not be listened on, where it could not.
+    pub unbound: Option<ErrorKind>,
+    /// Why the output was not written, where it was not.
     pub unwritten: Option<ErrorKind>,
+}
+
+impl Ending {
+    /// This status, and whether a sentence says why already.
+    pub fn of(status: u8, is_said: bool) -> Ending {
+        Ending {
+            status,
+            is_said,
+            unbound: None,
+            unwritten: None,
+        }
+    }
 }
 
 /// The octets of a file that was read already. A pipe can't be read again, and is not.
@@ -49,7 +62,7 @@ fn outcome_of<'o, C: Commands>(given: &'o Given<'_, '_, C>, ending: Ending) -> O
         seen: given.taken.seen(),
         count: given.taken.count(),
         is_cut: given.taken.is_cut(),
-        failure: given.taken.failure(),
+        failure: ending.unbound.or(given.taken.failure()),
         unwritten: ending.unwritten,
     }
 }
@@ -91,28 +104,6 @@ fn say_of_file(
     }
 }
 
-/// Why a port can't be listened on now, if it can't.
-fn failure_of_port(rt: &HostRuntime, port: u32) -> Option<ErrorKind> {
-    let port = u16::try_from(port).ok()?;
-    let address = SocketAddr::new(IpAddr::V4(Ipv4Addr::LOCALHOST), port);
-    match TcpListener::bind(rt, address) {
-        Ok(_) => None,
-        Err(error) => Some(error.kind()),
-    }
-}
-
-/// Says why nothing is served, or no more.
-fn say_of_server(
-    rt: &HostRuntime,
-    plan: &Plan<'_>,
-    port: u32,
-    outcome: Outcome<'_>,
-    out: &mut h2_cmd_messages::TextBuilder,
-) {
-    let failure = failure_of_port(rt, port);
-    say_outcome(rt.alloc(), plan, Outcome { failure, ..outcome }, out);
-}
-
 /// Says which files of cases can't be read, and why.
 fn say_of_cases(rt: &HostRuntime, check: &Check<'_>, out: &mut h2_cmd_messages::TextBuilder) {
     for path in check.files.as_slice() {
@@ -136,9 +127,6 @@ fn say_of_plan(
             say_of_cases(rt, check, out);
         }
         Plan::Against(_) => {}
-        Plan::Serve(serve) if outcome.status == 1 && !outcome.is_said => {
-            say_of_server(rt, plan, serve.port, outcome, out);
-        }
         _ => say_outcome(rt.alloc(), plan, outcome, out),
     }
 }

@@ -23,6 +23,7 @@ pub use devices::hexed::{Hexed, hex_of};
 pub use devices::stopwatch::Stopwatch;
 pub use devices::taken::{Front, TakenInput};
 pub use devices::waiting::{WaitingInput, WaitingOutput};
+pub use ending::Ending;
 pub use program::run_program;
 pub use prompt::console::{Behind, Console, Manner, OctetsExplainer};
 pub use prompt::session_output::{Noted, SessionOutput};

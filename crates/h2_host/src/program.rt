@@ -106,7 +106,7 @@ fn run_session<C: Commands, O: Output, E: Output>(
     )
 }
 
-/// Does what the words ask for over an input; gives the status, and whether a sentence was written for the book.
+/// Does what the words ask for over an input.
 fn carry_out_over<C: Commands, W: Write>(
     rt: &HostRuntime,
     commands: &C,
@@ -114,14 +114,14 @@ fn carry_out_over<C: Commands, W: Write>(
     devices: Devices<'_>,
     given: &mut Given<'_, '_, C>,
     output: &mut W,
-) -> (u8, bool) {
+) -> Ending {
     let mut stderr = rt.stderr();
     let mut errors = IntoWrite::new(&mut stderr);
     let mut noted = Noted::new(&mut errors);
     let mut output = IntoWrite::new(output);
     if is_session(asked) {
         let status = run_session(rt, commands, asked, devices, given, &mut output, &mut noted);
-        return (status, noted.is_written());
+        return Ending::of(status, noted.is_written());
     }
     let mut files = NamedFiles { rt };
     let mut input = FromRead::new(&mut given.taken);
@@ -133,7 +133,7 @@ fn carry_out_over<C: Commands, W: Write>(
         &mut output,
         &mut noted,
     );
-    (status, noted.is_written())
+    Ending::of(status, noted.is_written())
 }
 
 /// Writes why the words are refused, with status 2.
@@ -156,19 +156,19 @@ fn run_over<'w, C: Commands>(
 ) -> ExitCode {
     let state = SessionState::new();
     let mut given = input_of(rt, commands, asked, devices, case, &state);
-    let (status, is_said) = match &*asked {
+    let ended = match &*asked {
         Ok(Plan::Serve(plan)) => commands.serve(rt, plan, gathered),
         Ok(Plan::Against(plan)) => commands.against(rt, plan, gathered),
         _ => carry_out_over(rt, commands, asked, devices, &mut given, gathered),
     };
     let status = match gathered.flush() {
-        Ok(()) => status,
+        Ok(()) => ended.status,
         Err(_) => 3,
     };
     let ending = Ending {
         status,
-        is_said,
         unwritten: gathered.get_ref().failure(),
+        ..ended
     };
     if !devices.quiet {
         end(rt, words, asked, &given, ending);

@@ -11,7 +11,7 @@ use h2_cmd_args::command::{Against, Debug, Refusal, Serve};
 use h2_cmd_book_file::Files;
 use h2_cmd_inject::inject;
 use h2_cmd_run::{Keeper, NoKeeper, Plan, TcpPort, carry_out, debug_over, serve};
-use h2_host::{Commands, NamedFiles, Noted, ServerOutput, Stopwatch, run_program};
+use h2_host::{Commands, Ending, NamedFiles, Noted, ServerOutput, Stopwatch, run_program};
 use h2_host_recording::{recordings_for, refuse_recording};
 use h2_io::{Input, IntoWrite, Output};
 use std::alloc::Global;
@@ -22,15 +22,14 @@ use std::process::ExitCode;
 const POOLS: &str =
     "one connection is served after another: a further one hangs until the one before has ended; --streams 1000 here, in haproxy http-reuse always and nbthread 1, in Go StrictMaxConcurrentStreams keep a client to one.\n";
 
-/// Serves, as the words ask for, and gives each connection to `keeper`; gives the status, and whether a sentence was
-/// written for the book.
+/// Serves, as the words ask for, and gives each connection to `keeper`.
 fn serve_kept<'t, 'c, W: Write, K: Keeper>(
     rt: &HostRuntime,
     plan: &Serve<'_>,
     times: Option<&'t Stopwatch<'c, HostRuntime>>,
     keeper: &mut K,
     output: &mut W,
-) -> (u8, bool) {
+) -> Ending {
     let mut files = NamedFiles { rt };
     let mut stderr = rt.stderr();
     let mut errors = IntoWrite::new(&mut stderr);
@@ -47,11 +46,14 @@ fn serve_kept<'t, 'c, W: Write, K: Keeper>(
         &mut written,
         &mut noted,
     );
-    (status, noted.is_written())
+    Ending {
+        unbound: port.failure(),
+        ..Ending::of(status, noted.is_written())
+    }
 }
 
-/// Plays a dialogue, as the words ask for; gives the status, and whether a sentence was written.
-fn inject_over<W: Write>(rt: &HostRuntime, plan: &Serve<'_>, output: &mut W) -> (u8, bool) {
+/// Plays a dialogue, as the words ask for.
+fn inject_over<W: Write>(rt: &HostRuntime, plan: &Serve<'_>, output: &mut W) -> Ending {
     let mut files = NamedFiles { rt };
     let mut stderr = rt.stderr();
     let mut errors = IntoWrite::new(&mut stderr);
@@ -66,15 +68,14 @@ fn inject_over<W: Write>(rt: &HostRuntime, plan: &Serve<'_>, output: &mut W) -> 
         &mut written,
         &mut noted,
     );
-    (status, noted.is_written())
+    Ending {
+        unbound: guests.failure(),
+        ..Ending::of(status, noted.is_written())
+    }
 }
 
-/// Serves, as the words ask for; gives the status, and whether a sentence was written.
-fn serve_over<'x, W: Write>(
-    rt: &'x HostRuntime,
-    plan: &'x Serve<'_>,
-    output: &mut W,
-) -> (u8, bool) {
+/// Serves, as the words ask for.
+fn serve_over<'x, W: Write>(rt: &'x HostRuntime, plan: &'x Serve<'_>, output: &mut W) -> Ending {
     if !plan.watch.inject.is_empty() {
         return inject_over(rt, plan, output);
     }
@@ -90,12 +91,12 @@ fn serve_over<'x, W: Write>(
     match recordings_for(rt, plan, times) {
         None => serve_kept(rt, plan, times, &mut NoKeeper, output),
         Some(Ok(mut records)) => serve_kept(rt, plan, times, &mut records, output),
-        Some(Err(error)) => (refuse_recording(rt, plan, &error, output), true),
+        Some(Err(error)) => Ending::of(refuse_recording(rt, plan, &error, output), true),
     }
 }
 
-/// Judges a server, as the words ask for; gives the status, and whether a sentence was written.
-fn judge_over<W: Write>(rt: &HostRuntime, plan: &Against<'_>, output: &mut W) -> (u8, bool) {
+/// Judges a server, as the words ask for.
+fn judge_over<W: Write>(rt: &HostRuntime, plan: &Against<'_>, output: &mut W) -> Ending {
     let mut files = NamedFiles { rt };
     let mut stderr = rt.stderr();
     let mut errors = IntoWrite::new(&mut stderr);
@@ -111,7 +112,7 @@ fn judge_over<W: Write>(rt: &HostRuntime, plan: &Against<'_>, output: &mut W) ->
         &mut written,
         &mut noted,
     );
-    (status, noted.is_written())
+    Ending::of(status, noted.is_written())
 }
 
 /// The commands as h2_cmd_run has them.
@@ -144,16 +145,11 @@ impl Commands for Program {
         debug_over(alloc, debug, line, files, input, output, errors)
     }
 
-    fn serve<W: Write>(&self, rt: &HostRuntime, plan: &Serve<'_>, output: &mut W) -> (u8, bool) {
+    fn serve<W: Write>(&self, rt: &HostRuntime, plan: &Serve<'_>, output: &mut W) -> Ending {
         serve_over(rt, plan, output)
     }
 
-    fn against<W: Write>(
-        &self,
-        rt: &HostRuntime,
-        plan: &Against<'_>,
-        output: &mut W,
-    ) -> (u8, bool) {
+    fn against<W: Write>(&self, rt: &HostRuntime, plan: &Against<'_>, output: &mut W) -> Ending {
         judge_over(rt, plan, output)
     }
 }

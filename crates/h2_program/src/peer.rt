@@ -15,6 +15,7 @@ pub struct TcpPeer<'x> {
     rt: &'x HostRuntime,
     port: u16,
     listener: Option<TcpListener>,
+    failure: Option<ErrorKind>,
     stream: Option<TcpStream>,
     times: Stopwatch<'x, HostRuntime>,
 }
@@ -40,9 +41,15 @@ impl<'x> TcpPeer<'x> {
             rt,
             port,
             listener: None,
+            failure: None,
             stream: None,
             times: Stopwatch::new(rt),
         }
+    }
+
+    /// Why the port could not be listened on, where it could not.
+    pub fn failure(&self) -> Option<ErrorKind> {
+        self.failure
     }
 
     /// A new connection, if there is one: of the next client where a port is listened on, else to the server.
@@ -59,8 +66,16 @@ impl<'x> TcpPeer<'x> {
 
 impl Guests for TcpPeer<'_> {
     fn listen(&mut self, port: u16) -> bool {
-        self.listener = TcpListener::bind(self.rt, local(port)).ok();
-        self.listener.is_some()
+        match TcpListener::bind(self.rt, local(port)) {
+            Ok(listener) => {
+                self.listener = Some(listener);
+                true
+            }
+            Err(error) => {
+                self.failure = Some(error.kind());
+                false
+            }
+        }
     }
 }
 

@@ -107,6 +107,7 @@ impl Listener for TcpClients<'_> {
 pub struct TcpPort<'n, N> {
     net: &'n N,
     listener: Option<TcpListener>,
+    failure: Option<ErrorKind>,
 }
 
 impl<'n, N: Net<Listener = TcpListener, Stream = TcpStream>> TcpPort<'n, N> {
@@ -115,7 +116,13 @@ impl<'n, N: Net<Listener = TcpListener, Stream = TcpStream>> TcpPort<'n, N> {
         TcpPort {
             net,
             listener: None,
+            failure: None,
         }
+    }
+
+    /// Why it could not be listened on, where it could not.
+    pub fn failure(&self) -> Option<ErrorKind> {
+        self.failure
     }
 }
 
@@ -139,10 +146,15 @@ impl<N: Net<Listener = TcpListener, Stream = TcpStream>> Listener for TcpPort<'_
 impl<N: Net<Listener = TcpListener, Stream = TcpStream>> Port for TcpPort<'_, N> {
     fn listen(&mut self, host: [u8; 4], port: u16) -> Result<(), PortFault> {
         let address = SocketAddr::new(IpAddr::V4(Ipv4Addr::from(host)), port);
-        let Ok(listener) = TcpListener::bind(self.net, address) else {
-            return Err(PortFault);
-        };
-        self.listener = Some(listener);
-        Ok(())
+        match TcpListener::bind(self.net, address) {
+            Ok(listener) => {
+                self.listener = Some(listener);
+                Ok(())
+            }
+            Err(error) => {
+                self.failure = Some(error.kind());
+                Err(PortFault)
+            }
+        }
     }
 }
