@@ -33,10 +33,11 @@ fn say_seen(seen: Reaction, out: &mut TextBuilder) {
         Reaction::Served => say_all!(out; "an answer"),
         Reaction::Either => say_all!(out; "an answer as a lawful request gets it"),
         Reaction::Refused => say_observed(Observed::Answer, out),
-        Reaction::Quiet | Reaction::Waiting => say_all!(out; "nothing"),
+        Reaction::Quiet | Reaction::Pending | Reaction::Waiting => say_all!(out; "nothing"),
         Reaction::Silent | Reaction::SilentWaiting => say_all!(out; "nothing, not even for PING"),
         Reaction::Missing => say_all!(out; "no answer"),
-        Reaction::Closed => say_observed(Observed::Close, out),
+        Reaction::Closed | Reaction::AfterGoaway => say_observed(Observed::Close, out),
+        Reaction::TimedOut => say_observed(Observed::ConnectionError(4), out),
     }
 }
 
@@ -95,10 +96,40 @@ fn verdict_word(verdict: Verdict) -> &'static str {
     }
 }
 
+/// Whether nothing was seen that an item asks for.
+fn is_nothing(seen: Option<Reaction>) -> bool {
+    match seen {
+        Some(
+            Reaction::Quiet
+            | Reaction::Pending
+            | Reaction::Waiting
+            | Reaction::Silent
+            | Reaction::SilentWaiting
+            | Reaction::Missing,
+        ) => true,
+        _ => false,
+    }
+}
+
+/// What was seen beside an item, in words: RST_STREAM that is not for it instead of nothing.
+fn say_found(finding: &Finding, out: &mut TextBuilder) {
+    match (finding.elsewhere, finding.seen) {
+        (Some((stream, code)), seen) if is_nothing(seen) => {
+            say_all!(out; "RST_STREAM on stream ", stream, " with ", Code(code))
+        }
+        (_, Some(seen)) => say_seen(seen, out),
+        (_, None) => say_all!(out; "as wanted"),
+    }
+}
+
 /// Why a reaction is allowed that this server does not have, in words.
 fn why_allowed(own: Option<Observed>, seen: Option<Reaction>) -> &'static str {
     match (own, seen) {
         (_, Some(Reaction::One(Observed::Close))) => "the end without GOAWAY, RFC 9113 5.4.1",
+        (_, Some(Reaction::AfterGoaway)) => "the client has sent GOAWAY, RFC 9113 6.8",
+        (_, Some(Reaction::TimedOut)) => {
+            "the server's SETTINGS are not acknowledged, RFC 9113 6.5.3"
+        }
         (Some(Observed::StreamError(_)), Some(Reaction::One(Observed::ConnectionError(_)))) => {
             "a connection error for a stream error, RFC 9113 5.4.1"
         }
@@ -146,10 +177,7 @@ fn say_finding(sent: &Sent, finding: &Finding, out: &mut TextBuilder) {
     "\n    open: ".say(out);
     say_reactions(row.duties.conforming.open, out);
     "\n    seen: ".say(out);
-    match finding.seen {
-        Some(seen) => say_seen(seen, out),
-        None => "as wanted".say(out),
-    }
+    say_found(finding, out);
     if let Verdict::Allowed = finding.verdict {
         say_all!(out; "\n    why: ", why_allowed(finding.own, finding.seen));
     }
