@@ -108,6 +108,13 @@ def garbage(wire):
     silent(wire)
 
 
+def trickling(wire):
+    wire.sendall(SETTINGS + ACK)
+    while True:
+        wire.sendall(PONG)
+        time.sleep(0.005)
+
+
 def endless(wire):
     wire.sendall(SETTINGS)
     while True:
@@ -120,6 +127,7 @@ HOSTILE = [
     (slow, "broken 1", "rule: ping, RFC 9113 6.7"),
     (cut, "doubtful 1", "seen: the end of the connection"),
     (garbage, "broken 1", "seen: no answer"),
+    (trickling, "skipped 1", "# SKIP it took more than 5 s, or more than 16 MiB came"),
     (endless, "skipped 1", "# SKIP it took more than 5 s, or more than 16 MiB came"),
 ]
 
@@ -132,7 +140,7 @@ def scripted_servers(program, case):
             output, errors, status = check(program, "--against", str(server.port), case)
             seconds = time.monotonic() - begun
             expect(f"a server that is {play.__name__}", counted in output and said in output and status == ("broken 1" in counted), (status, output, errors))
-            expect(f"a server that is {play.__name__} is judged in 20 s", seconds < 20, seconds)
+            expect(f"a server that is {play.__name__} is judged in 30 s", seconds < 30, seconds)
     most = resource.getrusage(resource.RUSAGE_CHILDREN).ru_maxrss // 1024
     expect("servers are judged in 128 MiB", most < 128, f"{most} MiB")
 
@@ -174,8 +182,8 @@ GOAWAY = "GOAWAY 00 0 x0000000000000000"
 ERROR = script.octets("GOAWAY 00 0 x0000000000000001")
 # What a server does, the lines of a case after PREFACE and SETTINGS, how it is counted, and what is said.
 DOINGS = [
-    ("closes after GOAWAY", at(6, None), [GOAWAY, PING], "allowed 1", "why: the client has sent GOAWAY, RFC 9113 6.8"),
-    ("closes at GOAWAY", at(7, None), [GOAWAY], "allowed 1", "why: the client has sent GOAWAY, RFC 9113 6.8"),
+    ("closes after GOAWAY", at(6, None), [GOAWAY, PING], "allowed 1", "why: goaway, RFC 9113 6.8: the client ends its use of the connection"),
+    ("closes at GOAWAY", at(7, None), [GOAWAY], "allowed 1", "why: goaway, RFC 9113 6.8: the client ends its use of the connection"),
     ("closes where all is lawful", at(6, None), [PING], "doubtful 1", "seen: the end of the connection"),
     ("ends by an error after GOAWAY", at(6, ERROR), [GOAWAY, PING], "broken 1", "seen: connection error PROTOCOL_ERROR"),
     ("says nothing of content that is too short, and answers PING", polite, [POST, "DATA 01 1 x61"], "doubtful 1", "seen: nothing"),
