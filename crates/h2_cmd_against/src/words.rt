@@ -8,6 +8,7 @@ use h2_explain_text::others::no_errors;
 use h2_explain_words::names::Code;
 use h2_io::say::{Say, TextBuilder};
 use h2_io::say_all;
+use h2_spec::accepted::Accepted;
 use h2_spec::conforming::{Codes, Observed, Reactions};
 use h2_spec::rules::ServerDuty;
 use std::alloc::{AllocError, Global};
@@ -126,10 +127,6 @@ fn say_found(finding: &Finding, out: &mut TextBuilder) {
 fn why_allowed(own: Option<Observed>, seen: Option<Reaction>) -> &'static str {
     match (own, seen) {
         (_, Some(Reaction::One(Observed::Close))) => "the end without GOAWAY, RFC 9113 5.4.1",
-        (_, Some(Reaction::AfterGoaway)) => "the client has sent GOAWAY, RFC 9113 6.8",
-        (_, Some(Reaction::TimedOut)) => {
-            "the server's SETTINGS are not acknowledged, RFC 9113 6.5.3"
-        }
         (Some(Observed::StreamError(_)), Some(Reaction::One(Observed::ConnectionError(_)))) => {
             "a connection error for a stream error, RFC 9113 5.4.1"
         }
@@ -141,6 +138,21 @@ fn why_allowed(own: Option<Observed>, seen: Option<Reaction>) -> &'static str {
             "an answer for a malformed request, RFC 9113 8.1.1"
         }
         _ => "the row of the rule has it",
+    }
+}
+
+/// Why a reaction is allowed beside an item whose row does not have it: the name, the section and the sentence of another row.
+fn say_row(accepted: Accepted, out: &mut TextBuilder) {
+    let row = accepted.row();
+    say_all!(out; row.name, ", ", row.section, ": ", row.sentence);
+}
+
+/// Why a reaction is allowed, in words.
+fn say_why(finding: &Finding, out: &mut TextBuilder) {
+    match finding.seen {
+        Some(Reaction::AfterGoaway) => say_row(Accepted::Goaway, out),
+        Some(Reaction::TimedOut) => say_row(Accepted::SettingsNotAcknowledged, out),
+        seen => say_all!(out; why_allowed(finding.own, seen)),
     }
 }
 
@@ -179,7 +191,8 @@ fn say_finding(sent: &Sent, finding: &Finding, out: &mut TextBuilder) {
     "\n    seen: ".say(out);
     say_found(finding, out);
     if let Verdict::Allowed = finding.verdict {
-        say_all!(out; "\n    why: ", why_allowed(finding.own, finding.seen));
+        "\n    why: ".say(out);
+        say_why(finding, out);
     }
     "\n".say(out);
 }

@@ -78,10 +78,10 @@ fn have_close(stream: u32, items: &[Sent]) -> bool
 }
 
 /// The window of a new stream that the client gives after these, or, where there are none, this one.
-fn window_after(window: u32, items: &[Sent]) -> u32
-    ensures { result ≡ window_after window items.now }
+fn window_after(before: u32, items: &[Sent]) -> u32
+    ensures { result ≡ window_after before items.now }
 {
-    let mut window = window;
+    let mut window = before;
     for item in items {
         window = item.window;
     }
@@ -100,10 +100,10 @@ fn with_increment(count: u64, stream: u32, item: &Sent) -> u64
 }
 
 /// How many octets WINDOW_UPDATE lets be sent besides on a stream, with those before.
-fn increments_on(count: u64, stream: u32, items: &[Sent]) -> u64
-    ensures { result ≡ increments_on count stream items.now }
+fn increments_on(before: u64, stream: u32, items: &[Sent]) -> u64
+    ensures { result ≡ increments_on before stream items.now }
 {
-    let mut count = count;
+    let mut count = before;
     for item in items {
         count = with_increment(count, stream, item);
     }

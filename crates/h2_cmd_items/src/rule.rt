@@ -5,11 +5,11 @@ ghost use Rattle.std.specs.Prelude.{◌≡◌};
 ghost use Rattle.h2_spec.specs.Causes.Rules.{row_shown};
 ghost use Rattle.h2_cmd_items.specs.Rules.{IsRowOf, IsRowWithoutError};
 
+use crate::run::Run;
 use h2_explain_item::diagnosis::accepted::{all_listed, is_accepted};
 use h2_explain_item::diagnosis::special::{
     case_of_error, case_of_reason, rule_of_cause, rule_of_reason,
 };
-use crate::run::Run;
 use h2_explain_item::diagnosis::warning::opens_stream;
 use h2_explain_item::item::Explained;
 use h2_explain_text::account::Account;

@@ -60,7 +60,7 @@ impl Run {
         self.block.extend_from_slice(fragment_of(item))
     }
 
-    /// Whether so many idle streams had PRIORITY that a server may take it for a flood.
+    /// Whether idle streams had PRIORITY often enough for a flood.
     pub fn is_flood(&self) -> bool {
         FLOOD <= self.priorities
     }
@@ -71,7 +71,7 @@ impl Run {
     }
 }
 
-/// How many octets the shortest spelling of a value has; the prefix has room for less than `full` (RFC 7541, 5.1).
+/// How many octets the shortest spelling of a value has; one of less than `full` is in the prefix alone (RFC 7541, 5.1).
 fn integer_length(full: u64, value: u64) -> usize {
     if value < full {
         return 1;
@@ -96,7 +96,7 @@ fn string_length(string: RawString<'_>) -> usize {
     integer_length(127, octets as u64).saturating_add(octets)
 }
 
-/// What the prefix of an index in a literal has room for, and one (RFC 7541, 6.2).
+/// The least index that is not in the prefix of a literal alone (RFC 7541, 6.2).
 fn full_of(mode: Mode) -> u64 {
     match mode {
         Mode::IncrementalIndexing => 63,

@@ -1,11 +1,14 @@
 -- The verdict on a server beside an item: what it does is what this server does, or what the rule of the item lets a server
 -- do, or what is open, or none of these (RFC 9113, 5.4 and 8.1.1).
 use Rattle.std.specs.Prelude.{ℕ, ◌==◌, ◌&&◌, ◌||◌, Bool, true, false, not, nat_le, nat_lt, if◌then◌else◌, is_some, Option, Some, None}
+use Rattle.h2_spec.specs.declared.accepted.Accepted.{Accepted}
+use Rattle.h2_spec.specs.declared.accepted.Accepted.TheVariants.{Goaway, SettingsNotAcknowledged}
 use Rattle.h2_spec.specs.declared.conforming.Conforming.{Conforming}
 use Rattle.h2_spec.specs.declared.conforming.Observed.{Observed}
 use Rattle.h2_spec.specs.declared.conforming.Observed.TheVariants.{ConnectionError, StreamError, Close, Answer, Ignore, Accept, Wait, Http1}
 use Rattle.h2_spec.specs.declared.conforming.Permission.{Permission}
 use Rattle.h2_spec.specs.declared.conforming.Permission.TheVariants as permitted
+use Rattle.h2_spec.specs.Causes.AcceptedWords.{accepted_row}
 use Rattle.h2_spec.specs.Causes.Conforming.{allows}
 use Rattle.h2_cmd_judge.specs.Events.{is_behind, plus}
 use Rattle.h2_cmd_judge.specs.declared.event.Condition.{Condition}
@@ -37,6 +40,10 @@ at_most_open permitted.Allowed = permitted.Open
 at_most_open permitted.Open = permitted.Open
 at_most_open permitted.NotAllowed = permitted.NotAllowed
 
+-- whether a reaction is allowed where something is accepted
+abbrev pub accepted_permission : Accepted → Observed → Permission
+accepted_permission accepted seen = allows (accepted_row accepted).conforming seen
+
 -- whether a reaction is permitted: of what looks the same, the best
 abbrev pub permission : Conforming → Reaction → Permission
 permission rule (One seen) = allows rule seen
@@ -54,8 +61,8 @@ permission rule Missing = allows rule Ignore
 -- an endpoint can end a connection at any time (RFC 9113, 5.4.1)
 permission rule Closed = better (allows rule Close) permitted.Open
 -- after the client's GOAWAY it may end it (6.8), and with SETTINGS_TIMEOUT where its SETTINGS are not acknowledged (6.5.3)
-permission rule AfterGoaway = permitted.Allowed
-permission rule TimedOut = permitted.Allowed
+permission rule AfterGoaway = accepted_permission Goaway Close
+permission rule TimedOut = accepted_permission SettingsNotAcknowledged (ConnectionError 4)
 
 -- the verdict by a permission
 abbrev pub by_permission : Permission → Verdict

@@ -1,9 +1,10 @@
 //! The verdict on a server beside an item. Definitions: `specs/Judges.antt`.
 
 ghost use Rattle.std.specs.Prelude.{◌≡◌};
-ghost use Rattle.h2_cmd_judge.specs.Judges.{answer_reaction, at_most_open, better, by_permission, error_of, error_verdict, excuse, excused_if, is_closed_before, is_closed_behind, is_dead, is_error, is_missing, is_other_state, is_over_behind, is_same_error, is_timeout, judged, lacks_acknowledgement, lacks_answer, lawful_reaction, lawful_verdict, permission, quiet, reaction_with, softened, undue_end, undue_error, verdict_by, why_unseen, without_error, worse};
+ghost use Rattle.h2_cmd_judge.specs.Judges.{accepted_permission, answer_reaction, at_most_open, better, by_permission, error_of, error_verdict, excuse, excused_if, is_closed_before, is_closed_behind, is_dead, is_error, is_missing, is_other_state, is_over_behind, is_same_error, is_timeout, judged, lacks_acknowledgement, lacks_answer, lawful_reaction, lawful_verdict, permission, quiet, reaction_with, softened, undue_end, undue_error, verdict_by, why_unseen, without_error, worse};
 
 use crate::event::{Condition, Item, Shown};
+use h2_spec::accepted::Accepted;
 use h2_spec::conforming::{Conforming, Observed, Permission};
 
 /// How a connection with a server ended.
@@ -120,7 +121,11 @@ impl Reaction {
             Reaction::SilentWaiting => rule.allows(Observed::Wait),
             Reaction::Missing => rule.allows(Observed::Ignore),
             Reaction::Closed => better(rule.allows(Observed::Close), Permission::Open),
-            Reaction::AfterGoaway | Reaction::TimedOut => Permission::Allowed,
+            Reaction::AfterGoaway => accepted_permission(Accepted::Goaway, Observed::Close),
+            Reaction::TimedOut => accepted_permission(
+                Accepted::SettingsNotAcknowledged,
+                Observed::ConnectionError(4),
+            ),
         }
     }
 
@@ -144,6 +149,14 @@ impl Reaction {
             | Reaction::TimedOut => false,
         }
     }
+}
+
+/// Whether a reaction is allowed where something is accepted.
+fn accepted_permission(accepted: Accepted, seen: Observed) -> Permission
+    ensures { result ≡ accepted_permission accepted seen }
+{
+    let row = accepted.row();
+    row.duties.conforming.allows(seen)
 }
 
 /// The better of two permissions.
