@@ -7,6 +7,7 @@ ghost use Rattle.h2_cmd_items.specs.SentItems.{AddsSent, AreItems, AreSent, IsSe
 ghost use Rattle.h2_cmd_items.specs.declared.items.ItemsFault.TheVariants.{BadConfig, NoMemory};
 
 use crate::rule::{has_protocol, is_left, is_post, row_of};
+use crate::run::Run;
 use crate::sent::{Sent, narrow, sent_of};
 use h2_cmd_judge::event::Seen;
 use h2_cmd_judge::frames::ServerFrames;
@@ -15,7 +16,6 @@ use h2_explain_item::item::{Explained, part_in};
 use h2_explain_step::explainer::ItemExplainer;
 use h2_explain_step::taking::{moment_at, stream_of_next};
 use h2_explain_text::account::Account;
-use h2_explain_text::others::ended_fields;
 use h2_request_book::book::Book;
 use h2_spec::connection::Config;
 use h2_spec::octets::{first_octets, octets_from};
@@ -56,6 +56,8 @@ struct Taking {
     /// The number of its first item, or of the last item.
     low: u32,
     is_post: bool,
+    /// What came with the items so far.
+    run: Run,
 }
 
 /// The number of the first item of a block.
@@ -83,6 +85,7 @@ impl Taking {
                 opens: false,
                 low: 0,
                 is_post: false,
+                run: Run::new(alloc),
             }),
             Err(error) => Err(error),
         }
@@ -93,7 +96,7 @@ impl Taking {
         ensures { IsSentOf item.now (low_if self.now.opens self.now.low (narrow item.now.number)) result }
     {
         let low = low_if(self.opens, self.low, narrow(item.number));
-        let row = row_of(item, account, ended_fields(account, &explainer.reader));
+        let row = row_of(item, account, &explainer.reader, &self.run);
         let fields = explainer.reader.fields();
         let left = is_left(item, account, row, fields);
         sent_of(item, low, row, left, has_protocol(fields))
@@ -157,6 +160,10 @@ impl Taking {
             before,
             after: moment_at(conn, stream),
         };
+        match self.run.note(&item) {
+            Ok(()) => {}
+            Err(error) => return Err(error),
+        }
         let mut account = Account::new(alloc);
         match explainer.account(alloc, conn, &item, &mut account) {
             Ok(()) => {}

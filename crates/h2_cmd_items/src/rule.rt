@@ -5,19 +5,26 @@ ghost use Rattle.std.specs.Prelude.{◌≡◌};
 ghost use Rattle.h2_spec.specs.Causes.Rules.{row_shown};
 ghost use Rattle.h2_cmd_items.specs.Rules.{IsRowOf, IsRowWithoutError};
 
+use crate::run::Run;
 use h2_explain_item::diagnosis::accepted::{all_listed, is_accepted};
 use h2_explain_item::diagnosis::special::{
     case_of_error, case_of_reason, rule_of_cause, rule_of_reason,
 };
+use h2_explain_item::diagnosis::warning::opens_stream;
 use h2_explain_item::item::Explained;
 use h2_explain_text::account::Account;
-use h2_explain_words::spelled::SpelledField;
+use h2_explain_text::others::ended_fields;
+use h2_explain_words::spelled::{BlockReader, SpelledField};
 use h2_frame::Part;
 use h2_spec::accepted::Accepted;
 use h2_spec::causes::Cause;
 use h2_spec::conforming::Least;
 use h2_spec::frames::FrameType;
 use h2_spec::rules::Row;
+use h2_spec::streams::is_live;
+
+/// How many octets of fields each server should take: RFC 9110, 4.1, recommends that of a URI alone.
+const SUPPORTED: usize = 8_000;
 
 /// What is lawful, by the frame.
 fn lawful(item: &Explained<'_>) -> Accepted {
@@ -29,6 +36,30 @@ fn lawful(item: &Explained<'_>) -> Accepted {
     }
 }
 
+/// The same of an item that ends a field block.
+fn lawful_block(item: &Explained<'_>, reader: &BlockReader) -> Accepted {
+    if !reader.updates().is_empty() {
+        Accepted::SizeUpdates
+    } else if is_live(item.before.stream.kind) {
+        Accepted::Trailers
+    } else {
+        Accepted::Lawful
+    }
+}
+
+/// What a server may refuse of an item that ends a field block, though nothing in its fields is wrong.
+fn refusable(item: &Explained<'_>, reader: &BlockReader, run: &Run) -> Option<Accepted> {
+    if opens_stream(item) && run.is_flood() {
+        Some(Accepted::SkippedPriorityFlood)
+    } else if SUPPORTED < reader.size() {
+        Some(Accepted::LargeFieldSection)
+    } else if run.has_long_integer() {
+        Some(Accepted::LongInteger)
+    } else {
+        None
+    }
+}
+
 /// Whether a row lets a server refuse.
 fn may_refuse(row: Row) -> bool {
     match row.duties.conforming.least {
@@ -37,13 +68,14 @@ fn may_refuse(row: Row) -> bool {
     }
 }
 
-/// What is accepted of an item: the first that lets a server refuse it, else the last.
-fn accepted_of(
+/// What is accepted of an item beside this: the first that lets a server refuse it, else the last.
+fn accepted_besides(
     item: &Explained<'_>,
     account: &Account,
     fields: Option<&[SpelledField]>,
+    other: Accepted,
 ) -> Accepted {
-    let mut found = lawful(item);
+    let mut found = other;
     for accepted in all_listed() {
         if !may_refuse(found.row()) && is_accepted(*accepted, item, account.warnings, fields) {
             found = *accepted;
@@ -52,27 +84,56 @@ fn accepted_of(
     found
 }
 
+/// What is accepted of an item that ends a field block.
+fn accepted_block(
+    item: &Explained<'_>,
+    account: &Account,
+    fields: &[SpelledField],
+    reader: &BlockReader,
+    run: &Run,
+) -> Accepted {
+    let found = accepted_besides(item, account, Some(fields), lawful_block(item, reader));
+    match refusable(item, reader, run) {
+        Some(other) if !may_refuse(found.row()) => other,
+        _ => found,
+    }
+}
+
+/// What is accepted of an item.
+fn accepted_of(
+    item: &Explained<'_>,
+    account: &Account,
+    reader: &BlockReader,
+    run: &Run,
+) -> Accepted {
+    match ended_fields(account, reader) {
+        Some(fields) => accepted_block(item, account, fields, reader, run),
+        None => accepted_besides(item, account, None, lawful(item)),
+    }
+}
+
 /// The row of an item that is no error.
 fn row_without_error(
     item: &Explained<'_>,
     account: &Account,
-    fields: Option<&[SpelledField]>,
+    reader: &BlockReader,
+    run: &Run,
 ) -> Row
     ensures { IsRowWithoutError item.now.ignored item.now (row_shown result) }
 {
     match item.ignored {
         Some(reason) => rule_of_reason(reason, case_of_reason(item, account.facts)),
-        None => accepted_of(item, account, fields).row(),
+        None => accepted_of(item, account, reader, run).row(),
     }
 }
 
-/// The row of an item's rule; `fields` are those of the block that it ends, if it ends one.
-pub fn row_of(item: &Explained<'_>, account: &Account, fields: Option<&[SpelledField]>) -> Row
+/// The row of an item's rule; `reader` has read its field block, and `run` noted the items up to it.
+pub fn row_of(item: &Explained<'_>, account: &Account, reader: &BlockReader, run: &Run) -> Row
     ensures { IsRowOf item.now result }
 {
     match item.cause {
         Some(cause) => rule_of_cause(cause, case_of_error(item, account.facts)),
-        None => row_without_error(item, account, fields),
+        None => row_without_error(item, account, reader, run),
     }
 }
 
