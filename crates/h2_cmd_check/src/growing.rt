@@ -57,6 +57,19 @@ impl Growing {
         }
     }
 
+    /// Puts an octet last.
+    fn push(&mut self, octet: u8)
+        ensures { Gains (octet ∷ []) self.old self.new }
+    {
+        if self.refused {
+            return;
+        }
+        match self.octets.push(octet) {
+            Ok(()) => {}
+            Err(_) => self.refused = true,
+        }
+    }
+
     /// Puts a text last.
     pub(crate) fn text(&mut self, text: &str)
         ensures { Gains text.now self.old self.new }
@@ -98,7 +111,7 @@ impl Growing {
         if octet == b'\\' || octet == b'#' {
             self.put(&[b'\\', octet]);
         } else if is_printable(octet) {
-            self.put(&[octet]);
+            self.push(octet);
         } else {
             self.put(b"\\");
             self.digits(octet);
