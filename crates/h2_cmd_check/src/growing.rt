@@ -32,6 +32,22 @@ impl Growing {
         }
     }
 
+    /// No part yet, with memory for this many octets. Where that is refused, no part is taken.
+    pub(crate) fn with_capacity(alloc: Global, count: usize) -> Growing
+        ensures { result.octets.items ≡ [] }
+    {
+        match Vec::with_capacity(alloc, count) {
+            Ok(octets) => Growing {
+                octets,
+                refused: false,
+            },
+            Err(_) => Growing {
+                octets: Vec::new(alloc),
+                refused: true,
+            },
+        }
+    }
+
     /// The text.
     ///
     /// `AllocError` where memory for a part was refused.
