@@ -726,7 +726,8 @@ impl<'t, 'b> Walk<'t, 'b> {
     {
         match &self.debugger {
             CaseDebugger::Present(boxed) => {
-                let (reply, debugger) = (Reply::Shown, boxed.as_ref());
+                let reply = Reply::Shown;
+                let debugger = boxed.as_ref();
                 string_of(alloc, &ReplyText { reply, debugger })
             }
             CaseDebugger::Absent | CaseDebugger::Left(_) => conn.show(alloc),
