@@ -607,10 +607,8 @@ pub fn parse_command<'a>(alloc: Global, words: &'a Words) -> Result<Command<'a>,
     ensures devices { IfOk result (λ command. devices_of words.entry.now ≡ Some (devices_asked command.devices)) }
     ensures refused { IfErr result (Refuses (asked_of words.entry.now)) }
 {
-    match matches_of(alloc, words) {
-        Ok(matches) => command_in(alloc, &matches),
-        Err(refusal) => Err(refusal),
-    }
+    let matches = matches_of(alloc, words)?;
+    command_in(alloc, &matches)
 }
 
 /// What the words ask for, apart from devices. They are refused as `parse_command` refuses them.
@@ -618,8 +616,6 @@ pub fn parse<'a>(alloc: Global, words: &'a Words) -> Result<Plan<'a>, Refusal>
     ensures ok { IfOk result (λ plan. asked_of words.entry.now ≡ Some (planned plan)) }
     ensures refused { IfErr result (Refuses (asked_of words.entry.now)) }
 {
-    match parse_command(alloc, words) {
-        Ok(Command { plan, .. }) => Ok(plan),
-        Err(refusal) => Err(refusal),
-    }
+    let Command { plan, .. } = parse_command(alloc, words)?;
+    Ok(plan)
 }

@@ -83,8 +83,5 @@ impl Report {
 pub fn whole(text: Result<String, BenchFault>) -> Result<Report, BenchFault>
     ensures { (t : Printed) → Meets text t → Gives result t }
 {
-    match text {
-        Ok(text) => Ok(Report::Script(text)),
-        Err(fault) => Err(fault),
-    }
+    Ok(Report::Script(text?))
 }

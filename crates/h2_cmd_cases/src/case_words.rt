@@ -114,10 +114,8 @@ pub fn idle_place(alloc: Global, lines: &[&[u8]]) -> Result<Option<usize>, Alloc
     ensures first { IfOk result (λ place. IfSome place (λ n. n ≡ before_idle (map (λ l. l.now) lines.now))) }
 {
     for (place, line) in lines.iter().enumerate() {
-        match says_idle(alloc, line) {
-            Ok(true) => return Ok(Some(place)),
-            Ok(false) => {}
-            Err(error) => return Err(error),
+        if says_idle(alloc, line)? {
+            return Ok(Some(place));
         }
     }
     Ok(None)
@@ -153,10 +151,7 @@ pub fn add_case_words(alloc: Global, lines: &[&[u8]], words: &mut Words) -> Resu
         ⊎ (with_case_words words.old (map (λ l. l.now) lines.now) ≡ None)) }
 {
     for line in lines {
-        match add_line_words(alloc, line, words) {
-            Ok(()) => {}
-            Err(fault) => return Err(fault),
-        }
+        add_line_words(alloc, line, words)?;
     }
     Ok(())
 }

@@ -168,13 +168,9 @@ fn take_octet(
 {
     let next = next_place(place, octet);
     if !is_between(place) && is_between(next) {
-        return match add_word(words, word.as_slice()) {
-            Ok(()) => {
-                word.clear();
-                Ok(next)
-            }
-            Err(fault) => Err(fault),
-        };
+        add_word(words, word.as_slice())?;
+        word.clear();
+        return Ok(next);
     }
     match add_octet(word, place, octet) {
         Ok(()) => Ok(next),
@@ -212,10 +208,7 @@ pub fn add_words(alloc: Global, line: &[u8], words: &mut Words) -> Result<(), Sh
     let mut place = WordPlace::Between;
     let mut word = Vec::new(alloc);
     for octet in line {
-        match take_octet(words, &mut word, place, *octet) {
-            Ok(next) => place = next,
-            Err(fault) => return Err(fault),
-        }
+        place = take_octet(words, &mut word, place, *octet)?;
     }
     add_last(words, place, word.as_slice())
 }

@@ -39,10 +39,7 @@ pub fn add_answer<A: Allocator + Copy>(
     ensures err { IfErr result (λ fault. (fault ≡ NoMemory)
         ⊎ (with_answer book.old word.now ≡ Err (fault_number fault))) }
 {
-    let entry = match parse_answer(alloc, word) {
-        Ok(entry) => entry,
-        Err(fault) => return Err(fault),
-    };
+    let entry = parse_answer(alloc, word)?;
     match book.add(entry) {
         Ok(()) => Ok(()),
         Err(fault) => Err(refused_by(fault)),

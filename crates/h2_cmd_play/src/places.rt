@@ -167,10 +167,7 @@ fn write_items<A: Allocator + Copy, O: Output>(
             Ok(Some(used)) => {
                 at += used;
                 place += 1;
-                match write_place(output, shown, place, sent.as_slice(), conn) {
-                    Ok(()) => {}
-                    Err(why) => return Err(why),
-                }
+                write_place(output, shown, place, sent.as_slice(), conn)?;
             }
             Ok(None) => return Ok(()),
             Err(_) => return Err(PlacesFault::NoMemory),
@@ -200,8 +197,6 @@ pub fn write_places<A: Allocator + Copy, O: Output>(
     ensures flag { O.has_failed output.new ≡ not_written result }
     ensures name { O.name output.new ≡ O.name output.old }
 {
-    match write_place(output, shown, 0, sent, conn) {
-        Ok(()) => write_items(alloc, conn, octets, shown, output),
-        Err(why) => Err(why),
-    }
+    write_place(output, shown, 0, sent, conn)?;
+    write_items(alloc, conn, octets, shown, output)
 }

@@ -37,16 +37,11 @@ fn feed_pieces<'b, A: Allocator + Copy, O: Outgoing<'b, A>>(
     let mut at = 0usize;
     for length in lengths {
         let count = (octets.len() - at).min(*length);
-        match conn.feed(octets_at(octets, at, count), out) {
-            Ok(_) => {}
-            Err(fault) => return Err(fault),
-        }
+        conn.feed(octets_at(octets, at, count), out)?;
         at += count;
     }
-    match conn.feed(octets_from(octets, at), out) {
-        Ok(_) => Ok(()),
-        Err(fault) => Err(fault),
-    }
+    conn.feed(octets_from(octets, at), out)?;
+    Ok(())
 }
 
 /// Feeds a connection the octets in pieces of these lengths, then what remains; where memory is refused, `out` is cut
@@ -97,10 +92,8 @@ pub fn open_and_feed<'b, A: Allocator + Copy, O: Outgoing<'b, A>>(
 {
     let before = out.len();
     let mut conn = Conn::new(book, config, out)?;
-    match feed_or_cut(&mut conn, octets, lengths, before, out) {
-        Ok(()) => Ok(conn),
-        Err(fault) => Err(fault),
-    }
+    feed_or_cut(&mut conn, octets, lengths, before, out)?;
+    Ok(conn)
 }
 
 /// The view of a connection's state; where memory for it is refused, `out` is cut to a length.

@@ -69,10 +69,7 @@ fn settings_applied(
     let mut now = from;
     for place in 0..part.count() {
         let (id, value) = part.pair_at(place);
-        match one_setting(greatest, from, now, id, value) {
-            Ok(next) => now = next,
-            Err(cause) => return Err(cause),
-        }
+        now = one_setting(greatest, from, now, id, value)?;
     }
     Ok(now)
 }

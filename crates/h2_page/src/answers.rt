@@ -66,8 +66,6 @@ pub(crate) fn book_in<A: Allocator + Copy>(alloc: A, text: &[u8]) -> Result<Book
         let fault = AnswerFault::NoMemory;
         return Err(RefusedLine { line: 0, fault });
     };
-    match add_lines(alloc, &mut book, lines.as_slice()) {
-        Ok(()) => Ok(book),
-        Err(refused) => Err(refused),
-    }
+    add_lines(alloc, &mut book, lines.as_slice())?;
+    Ok(book)
 }

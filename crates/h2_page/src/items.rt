@@ -77,16 +77,15 @@ fn take_why<A: Allocator + Copy>(
     ensures { IfOk result (TakesAnyWhy conn.old.state octets.now conn.new) }
 {
     let mut sent = Vec::new(alloc);
-    match conn.take_and_report(octets, &mut sent) {
-        Ok(Some(taken)) => Ok(Some(TakenWhy {
-            used: taken.used,
-            phase: conn.counts().phase,
-            cause: taken.cause,
-            ignored: taken.ignored,
-        })),
-        Ok(None) => Ok(None),
-        Err(refused) => Err(refused),
-    }
+    let Some(taken) = conn.take_and_report(octets, &mut sent)? else {
+        return Ok(None);
+    };
+    Ok(Some(TakenWhy {
+        used: taken.used,
+        phase: conn.counts().phase,
+        cause: taken.cause,
+        ignored: taken.ignored,
+    }))
 }
 
 /// Takes each item of a connection over the octets, from place 1 on, until none is left that is shown, and writes why
@@ -115,10 +114,7 @@ pub(crate) fn write_whys<A: Allocator + Copy, O: Output>(
             Ok(Some(taken)) => {
                 at += taken.used;
                 place += 1;
-                match write_why(output, shown, place, taken) {
-                    Ok(()) => {}
-                    Err(why) => return Err(why),
-                }
+                write_why(output, shown, place, taken)?;
             }
             Ok(None) => return Ok(()),
             Err(_) => return Err(PlacesFault::NoMemory),

@@ -35,17 +35,12 @@ fn assemble_lines<A: Allocator + Copy>(alloc: A, text: &[u8]) -> Result<Vec<u8, 
     let mut rest = text;
     let mut number = 1;
     while let Some((line, more)) = cut(rest, b'\n') {
-        match add_at(alloc, line, number, &mut out) {
-            Ok(()) => {}
-            Err(fault) => return Err(fault),
-        }
+        add_at(alloc, line, number, &mut out)?;
         rest = more;
         number += 1;
     }
-    match add_at(alloc, rest, number, &mut out) {
-        Ok(()) => Ok(out),
-        Err(fault) => Err(fault),
-    }
+    add_at(alloc, rest, number, &mut out)?;
+    Ok(out)
 }
 
 /// Appends the octets of the line of this number.

@@ -86,10 +86,7 @@ fn serve_next<L: Listener, O: Output>(
         Err(_) => return Err(ServeFault::Socket),
     };
     let mut out = Outbox::new(alloc);
-    let mut conn = match open(book, config, &mut out) {
-        Ok(conn) => conn,
-        Err(fault) => return Err(fault),
-    };
+    let mut conn = open(book, config, &mut out)?;
     let end = drive(&mut conn, &mut out, &mut wire, TURNS);
     listener.close(wire);
     print(output, &EndLine { number, end })
@@ -130,15 +127,9 @@ pub fn serve_over<L: Listener, O: Output>(
     ensures flag { O.has_failed output.new ≡ not_written result }
     ensures name { O.name output.new ≡ O.name output.old }
 {
-    match open(book, config, &mut Vec::new(alloc)) {
-        Ok(_) => {}
-        Err(fault) => return Err(fault),
-    }
+    open(book, config, &mut Vec::new(alloc))?;
     for served in 0..count {
-        match serve_next(alloc, listener, book, config, served + 1, output) {
-            Ok(()) => {}
-            Err(fault) => return Err(fault),
-        }
+        serve_next(alloc, listener, book, config, served + 1, output)?;
     }
     Ok(())
 }
@@ -216,9 +207,6 @@ pub fn listen_and_serve<P: Port, O: Output>(
     ensures flag { O.has_failed output.new ≡ not_written result }
     ensures name { O.name output.new ≡ O.name output.old }
 {
-    match listen(net, port, output) {
-        Ok(()) => {}
-        Err(fault) => return Err(fault),
-    }
+    listen(net, port, output)?;
     serve_over(alloc, net, book, config, count, output)
 }

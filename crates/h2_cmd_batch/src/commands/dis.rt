@@ -15,10 +15,7 @@ use std::alloc::Global;
 pub fn dis_text(alloc: Global, input: &[u8]) -> Result<String, BenchFault>
     ensures { Meets result (printed_dis (octets_spelled input.now)) }
 {
-    let octets = match read_hex(alloc, input) {
-        Ok(octets) => octets,
-        Err(fault) => return Err(fault),
-    };
+    let octets = read_hex(alloc, input)?;
     match disassemble(alloc, octets.as_slice()) {
         Ok(text) => Ok(text),
         Err(_) => Err(BenchFault::NoMemory),

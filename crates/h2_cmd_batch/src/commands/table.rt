@@ -189,10 +189,7 @@ fn write_lines<O: Output>(
     let mut rest = input;
     while !rest.is_empty() {
         let (line, more) = first_line(rest);
-        match write_line(alloc, table, line, output) {
-            Ok(()) => {}
-            Err(why) => return Err(why),
-        }
+        write_line(alloc, table, line, output)?;
         rest = more;
     }
     write_text(output, &EntriesText(table))

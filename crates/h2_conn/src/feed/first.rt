@@ -79,14 +79,11 @@ pub(crate) fn take_all<'b, A: Allocator + Copy, O: Outgoing<'b, A>>(
     let mut items = 0usize;
     let mut used = 0usize;
     while used < octets.len() {
-        match take_first(state, scratch, octets_from(octets, used), out) {
-            Ok(Some(more)) => {
-                items += 1;
-                used += more;
-            }
-            Ok(None) => return Ok(Taken { items, used }),
-            Err(error) => return Err(error),
-        }
+        let Some(more) = take_first(state, scratch, octets_from(octets, used), out)? else {
+            return Ok(Taken { items, used });
+        };
+        items += 1;
+        used += more;
     }
     Ok(Taken { items, used })
 }

@@ -326,11 +326,10 @@ impl<'c, R: Read, O: Write, E: Write, X: OctetsExplainer> Console<'c, R, O, E, X
     fn next_command(&mut self) -> io::Result<bool> {
         self.note_breaks();
         for _ in 0..u64::MAX {
-            match self.read_and_take() {
-                Ok(Next::Command) => return Ok(true),
-                Ok(Next::End) => return Ok(false),
-                Ok(Next::Line) => {}
-                Err(error) => return Err(error),
+            match self.read_and_take()? {
+                Next::Command => return Ok(true),
+                Next::End => return Ok(false),
+                Next::Line => {}
             }
         }
         Ok(false)

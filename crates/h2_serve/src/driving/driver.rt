@@ -40,10 +40,8 @@ fn take_read<O: Pending, D: Driven<O>>(
     while at < octets.len() {
         let rest = octets_from(octets, at);
         let count = driven.portion(rest);
-        match driven.take_octets(octets_up_to(rest, count), out) {
-            Ok(()) => at += count,
-            Err(fault) => return Err(fault),
-        }
+        driven.take_octets(octets_up_to(rest, count), out)?;
+        at += count;
     }
     Ok(())
 }
@@ -129,10 +127,8 @@ pub fn drive_with<O: Pending, D: Driven<O>, S: Wire>(
         if let Some(code) = driven.end_code() {
             return Ok(DriveEnd::Goaway(code));
         }
-        match take_turn(driven, out, wire, &mut buffer) {
-            Ok(0) => return Ok(DriveEnd::Input),
-            Ok(_) => {}
-            Err(fault) => return Err(fault),
+        if take_turn(driven, out, wire, &mut buffer)? == 0 {
+            return Ok(DriveEnd::Input);
         }
     }
     match driven.end_code() {

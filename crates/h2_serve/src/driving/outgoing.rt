@@ -120,10 +120,8 @@ fn write_outbox<A: Allocator, S: Wire>(
 {
     while !out.is_empty() {
         out.gather();
-        match wire.write(out.front()) {
-            Ok(count) => out.remove_front(count),
-            Err(fault) => return Err(fault),
-        }
+        let count = wire.write(out.front())?;
+        out.remove_front(count);
     }
     Ok(())
 }

@@ -143,10 +143,8 @@ fn print_end<O: Output>(
         return Err(ServeFault::Write);
     }
     let end = told_end(shown);
-    match print(output, &EndLine { number, end }) {
-        Ok(()) => shown.conclusion,
-        Err(fault) => Err(fault),
-    }
+    print(output, &EndLine { number, end })?;
+    shown.conclusion
 }
 
 /// Whether all that was sent for the last read was written.
@@ -180,15 +178,9 @@ fn explain_next<L: Listener, O: Output, K: Keeper>(
         Ok(wire) => wire,
         Err(_) => return Err(ServeFault::Socket),
     };
-    match print(output, &OpenLine(number)) {
-        Ok(()) => {}
-        Err(fault) => return Err(fault),
-    }
+    print(output, &OpenLine(number))?;
     let mut out = ItemOutbox::new(alloc);
-    let conn = match open(book, config, &mut out) {
-        Ok(conn) => conn,
-        Err(fault) => return Err(fault),
-    };
+    let conn = open(book, config, &mut out)?;
     keeper.begin(number, out.since(0).unwrap_or_default());
     let shown = explain_over(
         alloc, form, conn, number, &mut out, &mut wire, TURNS, keeper, output,
@@ -298,13 +290,10 @@ pub fn explain_on<L: Listener, O: Output, K: Keeper>(
     ensures flag { O.has_failed output.new ≡ not_written result }
     ensures grew { not_written result ≡ false → Grew (O.written output.old) (O.written output.new) }
 {
-    match open(book, config, &mut Vec::new(alloc)) {
-        Ok(_) => {}
-        Err(fault) => return Err(fault),
-    }
+    open(book, config, &mut Vec::new(alloc))?;
     let mut clients = Clients::none();
     for served in 0..count {
-        match explain_next(
+        let conclusion = explain_next(
             alloc,
             listener,
             book,
@@ -313,10 +302,8 @@ pub fn explain_on<L: Listener, O: Output, K: Keeper>(
             served + 1,
             keeper,
             output,
-        ) {
-            Ok(conclusion) => clients = clients.with(conclusion.summary),
-            Err(fault) => return Err(fault),
-        }
+        )?;
+        clients = clients.with(conclusion.summary);
     }
     Ok(clients)
 }
@@ -352,9 +339,6 @@ pub fn listen_and_explain<P: Port, O: Output, K: Keeper>(
     ensures flag { O.has_failed output.new ≡ not_written result }
     ensures grew { not_written result ≡ false → Grew (O.written output.old) (O.written output.new) }
 {
-    match listen(net, port, output) {
-        Ok(()) => {}
-        Err(fault) => return Err(fault),
-    }
+    listen(net, port, output)?;
     explain_on(alloc, net, book, config, form, count, keeper, output)
 }

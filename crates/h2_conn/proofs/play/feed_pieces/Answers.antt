@@ -1,7 +1,7 @@
 use Rattle.std.proofs.Common.{ap, arith}
 use Rattle.std.proofs.Math.Seq.{take-length}
 use Rattle.h2_conn.specs.Connection.{Connection}
-use Rattle.h2_conn.proofs.Plays.{fed-going, fed-kept, fed-none, halts-kept, piece-fed, rest-fed}
+use Rattle.h2_conn.proofs.Plays.{fed-going, fed-kept, fed-none, piece-fed, rest-fed}
 use Rattle.h2_conn.proofs.play.feed_pieces.Goals as goal
 
 pub loop-length-init : goal.loop-length-init
@@ -15,23 +15,13 @@ loop-length-init g c = record {
 pub loop-length-preserved : goal.loop-length-preserved
 loop-length-preserved g c = record {
   within = omega arith;
-  going = fed-going c.loop-length.conn c.feed.new.self _ _ _ (c.in-Ok.field-0, c.in-Ok.ensures.ok);
+  going = fed-going c.loop-length.conn c.feed.new.self _ _ _ (c.in_ok-feed.field-0, c.in_ok-feed.ensures.ok);
   fed = piece-fed c.args.conn.now c.loop-length.conn c.feed.new.self c.args.octets.now c.loop-length.at c.min-count.result _ _ _ _ c.octets_at.ensures c.loop-length.invariant.fed
-      (c.in-Ok.field-0, c.in-Ok.ensures.ok);
-  kept = fed-kept c.loop-length.conn c.feed.new.self _ (g.O.Outgoing.octets c.args.out.now) (g.O.Outgoing.octets c.loop-length.out) (g.O.Outgoing.octets c.feed.new.out) (c.in-Ok.field-0, c.in-Ok.ensures.ok) c.loop-length.invariant.kept;
+      (c.in_ok-feed.field-0, c.in_ok-feed.ensures.ok);
+  kept = fed-kept c.loop-length.conn c.feed.new.self _ (g.O.Outgoing.octets c.args.out.now) (g.O.Outgoing.octets c.loop-length.out) (g.O.Outgoing.octets c.feed.new.out) (c.in_ok-feed.field-0, c.in_ok-feed.ensures.ok) c.loop-length.invariant.kept;
 }
 
-pub returns-in-Ok-feed-clause-ok : goal.returns-in-Ok-feed-clause-ok
-returns-in-Ok-feed-clause-ok g c =
+pub returns-clause-ok : goal.returns-clause-ok
+returns-clause-ok g c =
     rest-fed c.args.conn.now c.loop-length.conn c.feed-2.new.self c.args.octets.now c.loop-length.at _ _ _ _ c.octets_from.ensures c.loop-length.invariant.fed
-    (c.in-Ok-feed.field-0, c.in-Ok-feed.ensures.ok)
-
-pub returns-in-Err-clause-kept : goal.returns-in-Err-clause-kept
-returns-in-Err-clause-kept g c =
-    halts-kept c.loop-length.conn c.feed.new.self _ (g.O.Outgoing.octets c.args.out.now) (g.O.Outgoing.octets c.loop-length.out) (g.O.Outgoing.octets c.feed.new.out) (c.in-Err.ensures.no_memory c.loop-length.invariant.going)
-    c.loop-length.invariant.kept
-
-pub returns-in-Err-feed-clause-kept : goal.returns-in-Err-feed-clause-kept
-returns-in-Err-feed-clause-kept g c =
-    halts-kept c.loop-length.conn c.feed-2.new.self _ (g.O.Outgoing.octets c.args.out.now) (g.O.Outgoing.octets c.loop-length.out) (g.O.Outgoing.octets c.feed-2.new.out) (c.in-Err-feed.ensures.no_memory c.loop-length.invariant.going)
-    c.loop-length.invariant.kept
+    (c.in_ok-feed-2.field-0, c.in_ok-feed-2.ensures.ok)

@@ -14,29 +14,29 @@ loop-used-init g c = record {
 
 pub loop-used-preserved : goal.loop-used-preserved
 loop-used-preserved g c =
-    let first = rw (c.octets_from.ensures, c.in-Ok-Some.field-0-is) at c.in-Ok-Some.ensures.ok in
+    let first = rw (c.octets_from.ensures, c.in-Some.is) at c.in_ok-more.ensures.ok in
     let uses = first-uses _ _ _ _ _ _ first in
     record {
       leads = leads-takes _ _ _ _ _ _ _ _ _ _ c.loop-used.invariant.leads
-          (rw (← drop-drop c.in-Ok-Some.more c.loop-used.used c.args.octets.now) (first-takes _ _ _ _ _ _ first));
+          (rw (← drop-drop c.in-Some.more c.loop-used.used c.args.octets.now) (first-takes _ _ _ _ _ _ first));
       few = omega (arith, c.loop-used.invariant.few, uses.0);
       within = omega (arith, c.loop-used.invariant.within, uses.1, length-drop c.loop-used.used c.args.octets.now);
     }
 
 pub loop-used-smaller : goal.loop-used-smaller
 loop-used-smaller g c =
-    let first = rw (c.octets_from.ensures, c.in-Ok-Some.field-0-is) at c.in-Ok-Some.ensures.ok in
+    let first = rw (c.octets_from.ensures, c.in-Some.is) at c.in_ok-more.ensures.ok in
     let uses = first-uses _ _ _ _ _ _ first in
     omega (arith, c.loop-used.invariant.within, uses.0, uses.1, length-drop c.loop-used.used c.args.octets.now)
 
-pub returns-in-Ok-None-clause-ok : goal.returns-in-Ok-None-clause-ok
-returns-in-Ok-None-clause-ok g c =
-    let none = rw (c.octets_from.ensures, c.in-Ok-None.field-0-is) at c.in-Ok-None.ensures.ok in
+pub returns-in_default-clause-ok : goal.returns-in_default-clause-ok
+returns-in_default-clause-ok g c =
+    let none = rw (c.octets_from.ensures, c.in_default.is) at c.in_ok-more.ensures.ok in
     rw (none.same, none.quiet) (leads-stop _ _ _ _ _ _ _ c.loop-used.invariant.leads none.none)
 
 pub overflow_add-used : goal.overflow_add-used
 overflow_add-used g c =
-    let first = rw (c.octets_from.ensures, c.in-Ok-Some.field-0-is) at c.in-Ok-Some.ensures.ok in
+    let first = rw (c.octets_from.ensures, c.in-Some.is) at c.in_ok-more.ensures.ok in
     let uses = first-uses _ _ _ _ _ _ first in
     omega (arith, c.loop-used-test.true, uses.1, length-drop c.loop-used.used c.args.octets.now)
 
