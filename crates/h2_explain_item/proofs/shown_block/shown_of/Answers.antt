@@ -1,0 +1,7 @@
+use Rattle.std.proofs.Common.{◌≡◌, ◌∙◌, arith, sym}
+use Rattle.h2_explain_item.proofs.ShownLaws.{shown-next, shown-none}
+use Rattle.h2_explain_item.proofs.shown_block.shown_of.Goals as goal
+
+pub loop-place-preserved : goal.loop-place-preserved
+loop-place-preserved g c =
+    c.loop-place.invariant ∙ shown-next c.args.fields.now.fields c.loop-place.place c.loop-place.size _ _ (omega (arith, c.loop-place-test.true, c.len-place-end.ensures)) c.if-size-gt-MOST.false c.get.ensures c.size_with-size.ensures
