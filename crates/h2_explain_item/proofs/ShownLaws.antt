@@ -2,11 +2,12 @@
 use Rattle.std.proofs.Common.{◌≡◌, ◌∙◌, ◌⊎◌, inl, inr, ◌+◌, ◌^◌, ◌-◌, ◌<◌, ◌≤◌, ℕ, zero, suc, Bool, true, false, List, [], ◌∷◌, length, drop, get_or, map, take, min, nat_lt, Option, Some, None, refl, sym, ap, arith}
 use Rattle.std.proofs.lemmas.Bool.{cases_lt}
 use Rattle.std.proofs.lemmas.Bool.Decides.{nat_tests}
-use Rattle.std.proofs.lemmas.List.{drop_all, drop_more, length-take}
+use Rattle.std.proofs.lemmas.List.{drop_all, drop_more, length-take, take-map}
 use Rattle.std.proofs.lemmas.Option.{slice_get_cases}
 use Rattle.std.specs.List.{slice_get}
 use Rattle.h2_spec.specs.Hpack.Field.{Field}
-use Rattle.h2_explain_words.specs.Spelled.{Spelling}
+use Rattle.h2_explain_words.specs.Spelled.{Spelling, spelling_seen}
+use Rattle.h2_explain_words.specs.declared.spelled.Spelling as code
 use Rattle.h2_explain_item.specs.ShownBlock.{Spelled, shown_of, size_with, spelled, up_to, up_to_64_bits, with_spelling}
 
 -- ---- spellings
@@ -29,6 +30,11 @@ spelled-at [] ss i s e = refl
 spelled-at (f ∷ fs) [] i s e = absurd cc
 spelled-at (f ∷ fs) (t ∷ ss) zero s e = cc
 spelled-at (f ∷ fs) (t ∷ ss) (suc i) s e = spelled-at fs ss i s e
+
+-- the first of them
+pub up_to-map : (m : Option ℕ) (gs : List code.Spelling) → map spelling_seen (up_to m gs) ≡ up_to m (map spelling_seen gs)
+up_to-map None gs = refl
+up_to-map (Some n) gs = sym (take-map spelling_seen n gs)
 
 -- the fields and the spellings of what is shown
 pub fields-spelled : (m : Option ℕ) (fs : List Field) (ss : List Spelling) → length ss ≡ length fs → map (λ (x : Spelled). x.field) (spelled fs (up_to m ss)) ≡ up_to m fs
@@ -80,6 +86,7 @@ shown-next fs i size next f less within at is = by (slice_get_cases fs i).1
   where
     small : nat_lt 65536 size ≡ false
     small = grind (arith, nat_tests, within)
+
     by : ((x : Field) × (i < length fs) × (slice_get fs i ≡ Some x) × (get_or fs i x ≡ x)) ⊎ ((length fs ≤ i) × (slice_get fs i ≡ None)) → i + shown_of size (drop i fs) ≡ i + 1 + shown_of next (drop (i + 1) fs)
     by (inl x) =
         let rest : drop i fs ≡ x.0 ∷ drop (i + 1) fs = drop_more fs i x.0 less ∙ ap (λ (y : Field). y ∷ drop (i + 1) fs) x.3 in
@@ -94,6 +101,7 @@ shown-none fs i size more = by (drop i fs)
   where
     large : nat_lt 65536 size ≡ true
     large = grind (arith, nat_tests, more)
+
     by : (xs : List Field) → shown_of size xs ≡ 0
     by [] = refl
     by (x ∷ xs) = rw large refl

@@ -156,6 +156,22 @@ fn shown_of<A: Allocator>(fields: &Collected<A>) -> usize
     fields.len()
 }
 
+/// The first spellings, up to this many, or all.
+fn up_to(most: Option<usize>, given: &[Spelling]) -> &[Spelling]
+    ensures { result.now ≡ spec.up_to most given.now }
+{
+    match most {
+        Some(most) => {
+            if most < given.len() {
+                &given[..most]
+            } else {
+                given
+            }
+        }
+        None => given,
+    }
+}
+
 /// The spellings of the blocks of one side of a connection, and how many of the fields of the last one are shown: those
 /// before which the others count at most 65,536 octets, 32 each beside their own.
 #[derive(Drop)]
@@ -217,13 +233,11 @@ impl<A: Allocator + Copy> BlockReader<A> {
         ensures updates { result.updates.now ≡ self.now.block.taken.updates }
         ensures fields { spec.fields_seen result.fields ≡ spec.shown_fields self.now fields.now.fields }
     {
-        let given = self.spellings.given();
-        let most = self.most.unwrap_or(given.len());
         ShownBlock {
             updates: self.spellings.updates(),
             fields: SpelledFields {
                 fields,
-                spellings: &given[..most.min(given.len())],
+                spellings: up_to(self.most, self.spellings.given()),
             },
         }
     }
