@@ -123,7 +123,7 @@ fn text_of(
         Ok(lines) => lines,
         Err(error) => return Err(error),
     };
-    match lines.put(alloc, item, &account, &explainer.reader, Paint(false)) {
+    match lines.put(item, &account, explainer.block(conn), Paint(false)) {
         Ok(()) => text_with(alloc, lines.octets()),
         Err(error) => Err(error),
     }
@@ -159,7 +159,7 @@ fn take_text(
     sent.clear();
     let stream = stream_of_next(conn, octets);
     let before = moment_at(conn, stream);
-    let taken = match conn.take_and_report(octets, sent) {
+    let taken = match conn.take_and_lend(octets, &mut explainer.memory, sent) {
         Ok(Some(taken)) => taken,
         Ok(None) => return Ok(None),
         Err(error) => return Err(error),

@@ -6,12 +6,13 @@ ghost use Rattle.h2_spec.specs.Causes.Rules.{row_shown};
 ghost use Rattle.h2_cmd_items.specs.Rules.{IsRowOf, IsRowWithoutError};
 
 use h2_explain_item::diagnosis::accepted::{all_listed, is_accepted};
+use h2_explain_item::diagnosis::fields::value_of;
 use h2_explain_item::diagnosis::special::{
     case_of_error, case_of_reason, rule_of_cause, rule_of_reason,
 };
 use h2_explain_item::item::Explained;
+use h2_explain_item::shown_block::SpelledFields;
 use h2_explain_text::account::Account;
-use h2_explain_words::spelled::SpelledField;
 use h2_frame::Part;
 use h2_spec::accepted::Accepted;
 use h2_spec::causes::Cause;
@@ -41,7 +42,7 @@ fn may_refuse(row: Row) -> bool {
 fn accepted_of(
     item: &Explained<'_>,
     account: &Account,
-    fields: Option<&[SpelledField]>,
+    fields: Option<SpelledFields<'_>>,
 ) -> Accepted {
     let mut found = lawful(item);
     for accepted in all_listed() {
@@ -56,7 +57,7 @@ fn accepted_of(
 fn row_without_error(
     item: &Explained<'_>,
     account: &Account,
-    fields: Option<&[SpelledField]>,
+    fields: Option<SpelledFields<'_>>,
 ) -> Row
     ensures { IsRowWithoutError item.now.ignored item.now (row_shown result) }
 {
@@ -67,7 +68,7 @@ fn row_without_error(
 }
 
 /// The row of an item's rule; `fields` are those of the block that it ends, if it ends one.
-pub fn row_of(item: &Explained<'_>, account: &Account, fields: Option<&[SpelledField]>) -> Row
+pub fn row_of(item: &Explained<'_>, account: &Account, fields: Option<SpelledFields<'_>>) -> Row
     ensures { IsRowOf item.now result }
 {
     match item.cause {
@@ -77,9 +78,12 @@ pub fn row_of(item: &Explained<'_>, account: &Account, fields: Option<&[SpelledF
 }
 
 /// Whether fields have one with this name, and one that is empty where only that counts.
-fn has_field(fields: &[SpelledField], name: &[u8], is_empty: bool) -> bool {
-    for field in fields {
-        if field.name.as_slice() == name && (!is_empty || field.value.is_empty()) {
+fn has_field(fields: SpelledFields<'_>, name: &[u8], is_empty: bool) -> bool {
+    for place in 0..fields.len() {
+        let Some(field) = fields.get(place) else {
+            break;
+        };
+        if field.name == name && (!is_empty || field.value.is_empty()) {
             return true;
         }
     }
@@ -87,18 +91,16 @@ fn has_field(fields: &[SpelledField], name: &[u8], is_empty: bool) -> bool {
 }
 
 /// Whether fields have :protocol (RFC 8441, 4).
-pub fn has_protocol(fields: &[SpelledField]) -> bool {
+pub fn has_protocol(fields: SpelledFields<'_>) -> bool {
     has_field(fields, b":protocol".as_slice(), false)
 }
 
 /// Whether fields have the method POST.
-pub fn is_post(fields: &[SpelledField]) -> bool {
-    for field in fields {
-        if field.name.as_slice() == b":method".as_slice() {
-            return field.value.as_slice() == b"POST".as_slice();
-        }
+pub fn is_post(fields: SpelledFields<'_>) -> bool {
+    match value_of(b":method", fields) {
+        Some(method) => method == b"POST".as_slice(),
+        None => false,
     }
-    false
 }
 
 /// Whether an item is a frame of a type that is not known.
@@ -112,7 +114,12 @@ fn is_unknown_type(item: &Explained<'_>) -> bool {
 /// Whether the RFC leaves a server more than a row says: an empty :path may be taken for one that is there (RFC 9113,
 /// 8.3.1), a frame of an unknown type be ignored before SETTINGS (3.4 and 5.5); and what a client may not send although it is
 /// no error may be refused, where no row says what a server does then.
-pub fn is_left(item: &Explained<'_>, account: &Account, row: Row, fields: &[SpelledField]) -> bool {
+pub fn is_left(
+    item: &Explained<'_>,
+    account: &Account,
+    row: Row,
+    fields: SpelledFields<'_>,
+) -> bool {
     match item.cause {
         Some(Cause::LackingPseudoField) => has_field(fields, b":path".as_slice(), true),
         Some(Cause::FirstNotSettings) => is_unknown_type(item),
