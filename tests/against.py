@@ -1,6 +1,6 @@
 #!/usr/bin/env python3
 """`check --against` and `check --judge`: the server of this program is the same as itself in each case that is not skipped; servers that are silent, slow, close amid a
-frame, send garbage, or send without end get a verdict in bounded time.
+frame, send garbage, or send without end get a verdict in bounded time and memory; what a server does over a socket, and its verdict.
 
     tests/against.py PROGRAM
 
@@ -9,6 +9,7 @@ It needs nothing but Python. The last line is `N passed, M failed`; the status i
 
 import glob
 import os
+import resource
 import socket
 import subprocess
 import sys
@@ -107,22 +108,101 @@ def garbage(wire):
     silent(wire)
 
 
+def trickling(wire):
+    wire.sendall(SETTINGS + ACK)
+    while True:
+        wire.sendall(PONG)
+        time.sleep(0.005)
+
+
 def endless(wire):
     wire.sendall(SETTINGS)
     while True:
         wire.sendall(PONG * 1000)
 
 
+# What a server does with the case of a PING, and what is said of it: a case takes 5 s and 16 MiB at most.
+HOSTILE = [
+    (silent, "broken 1", "seen: no answer"),
+    (slow, "broken 1", "rule: ping, RFC 9113 6.7"),
+    (cut, "doubtful 1", "seen: the end of the connection"),
+    (garbage, "broken 1", "seen: no answer"),
+    (trickling, "skipped 1", "# SKIP it took more than 5 s, or more than 16 MiB came"),
+    (endless, "skipped 1", "# SKIP it took more than 5 s, or more than 16 MiB came"),
+]
+
+
 def scripted_servers(program, case):
-    """Each server is judged in bounded time, and none passes."""
-    for play in (silent, slow, cut, garbage, endless):
+    """Each server is judged in bounded time and memory, and none passes."""
+    for play, counted, said in HOSTILE:
         with Scripted(play) as server:
             begun = time.monotonic()
             output, errors, status = check(program, "--against", str(server.port), case)
             seconds = time.monotonic() - begun
-            is_same = " same 1," in output
-            expect(f"a server that is {play.__name__} does not pass", not is_same and status in (0, 1), (status, output, errors))
-            expect(f"a server that is {play.__name__} is judged in 40 s", seconds < 40, seconds)
+            expect(f"a server that is {play.__name__}", counted in output and said in output and status == ("broken 1" in counted), (status, output, errors))
+            expect(f"a server that is {play.__name__} is judged in 30 s", seconds < 30, seconds)
+    most = resource.getrusage(resource.RUSAGE_CHILDREN).ru_maxrss // 1024
+    expect("servers are judged in 128 MiB", most < 128, f"{most} MiB")
+
+
+def framed(react):
+    """A server that sends SETTINGS, and for each frame of the client what `react` gives for its type, flags, stream and payload; None closes the connection."""
+
+    def play(wire):
+        wire.sendall(SETTINGS)
+        got, place = b"", len(script.PREFACE)
+        while octets := wire.recv(65536):
+            got += octets
+            while len(got) >= place + 9 and len(got) >= (end := place + 9 + int.from_bytes(got[place : place + 3], "big")):
+                answer = react(got[place + 3], got[place + 4], int.from_bytes(got[place + 5 : place + 9], "big"), got[place + 9 : end])
+                if answer is None:
+                    return
+                wire.sendall(answer)
+                place = end
+
+    return play
+
+
+def polite(kind, flags, stream, payload):
+    """It acknowledges SETTINGS and PING, and does nothing else."""
+    if flags & 1 or kind not in (4, 6):
+        return b""
+    return ACK if kind == 4 else script.octets(f"PING 01 0 x{payload.hex()}")
+
+
+def at(wanted, answer):
+    """The same, but for frames of one type it has this answer."""
+    return lambda kind, flags, stream, payload: answer if kind == wanted else polite(kind, flags, stream, payload)
+
+
+GET = 'HEADERS 05 1 hi2,i6,i4,n1="localhost"'
+POST = 'HEADERS 04 1 hi3,i6,i4,n1="localhost",n28="5"'
+PING = "PING 00 0 x0102030405060708"
+GOAWAY = "GOAWAY 00 0 x0000000000000000"
+ERROR = script.octets("GOAWAY 00 0 x0000000000000001")
+# What a server does, the lines of a case after PREFACE and SETTINGS, how it is counted, and what is said.
+DOINGS = [
+    ("closes after GOAWAY", at(6, None), [GOAWAY, PING], "allowed 1", "why: goaway, RFC 9113 6.8: the client ends its use of the connection"),
+    ("closes at GOAWAY", at(7, None), [GOAWAY], "allowed 1", "why: goaway, RFC 9113 6.8: the client ends its use of the connection"),
+    ("closes where all is lawful", at(6, None), [PING], "doubtful 1", "seen: the end of the connection"),
+    ("ends by an error after GOAWAY", at(6, ERROR), [GOAWAY, PING], "broken 1", "seen: connection error PROTOCOL_ERROR"),
+    ("says nothing of content that is too short, and answers PING", polite, [POST, "DATA 01 1 x61"], "doubtful 1", "seen: nothing"),
+    ("says nothing of a field that is malformed, and answers PING", polite, [GET + ',n"a"=" b"'], "broken 1", "seen: nothing"),
+    ("has not answered before an error", at(0, ERROR), [GET, "DATA 00 3 x61"], "same 1", ""),
+    ("has not answered, and closes at an error", at(0, None), [GET, "DATA 00 3 x61"], "allowed 1", "seen: the end of the connection"),
+    ("has not answered before the client's RST_STREAM", polite, [GET, "RST_STREAM 00 1 c8"], "skipped 1", "the stream had another state"),
+    ("answers no request, and all is lawful", polite, [GET, PING], "broken 1", "seen: no answer"),
+]
+
+
+def servers_that_do(program, folder):
+    """What a server does over a socket, and the verdict."""
+    for title, react, lines, counted, said in DOINGS:
+        with open(f"{folder}/doing.h2", "w", encoding="utf-8") as file:
+            file.write("\n".join(["PREFACE", "SETTINGS 00 0 -", *lines, ""]))
+        with Scripted(framed(react)) as server:
+            output, errors, status = check(program, "--against", str(server.port), f"{folder}/doing.h2")
+        expect(f"a server that {title}", counted in output and said in output and status == ("broken 1" in counted), (status, output, errors))
 
 
 def nothing_listens(program, case):
@@ -225,6 +305,7 @@ def main(program):
         aimed(program, folder)
         nothing_listens(program, case)
         scripted_servers(program, case)
+        servers_that_do(program, folder)
     own_server(program)
     print(f"{passed} passed, {failed} failed")
     return 1 if failed else 0

@@ -8,6 +8,7 @@ use h2_explain_text::others::no_errors;
 use h2_explain_words::names::Code;
 use h2_io::say::{Say, TextBuilder};
 use h2_io::say_all;
+use h2_spec::accepted::Accepted;
 use h2_spec::conforming::{Codes, Observed, Reactions};
 use h2_spec::rules::ServerDuty;
 use std::alloc::{AllocError, Global};
@@ -33,10 +34,11 @@ fn say_seen(seen: Reaction, out: &mut TextBuilder) {
         Reaction::Served => say_all!(out; "an answer"),
         Reaction::Either => say_all!(out; "an answer as a lawful request gets it"),
         Reaction::Refused => say_observed(Observed::Answer, out),
-        Reaction::Quiet | Reaction::Waiting => say_all!(out; "nothing"),
+        Reaction::Quiet | Reaction::Pending | Reaction::Waiting => say_all!(out; "nothing"),
         Reaction::Silent | Reaction::SilentWaiting => say_all!(out; "nothing, not even for PING"),
         Reaction::Missing => say_all!(out; "no answer"),
-        Reaction::Closed => say_observed(Observed::Close, out),
+        Reaction::Closed | Reaction::AfterGoaway => say_observed(Observed::Close, out),
+        Reaction::TimedOut => say_observed(Observed::ConnectionError(4), out),
     }
 }
 
@@ -95,6 +97,32 @@ fn verdict_word(verdict: Verdict) -> &'static str {
     }
 }
 
+/// Whether nothing was seen that an item asks for.
+fn is_nothing(seen: Option<Reaction>) -> bool {
+    match seen {
+        Some(
+            Reaction::Quiet
+            | Reaction::Pending
+            | Reaction::Waiting
+            | Reaction::Silent
+            | Reaction::SilentWaiting
+            | Reaction::Missing,
+        ) => true,
+        _ => false,
+    }
+}
+
+/// What was seen beside an item, in words: RST_STREAM that is not for it instead of nothing.
+fn say_found(finding: &Finding, out: &mut TextBuilder) {
+    match (finding.elsewhere, finding.seen) {
+        (Some((stream, code)), seen) if is_nothing(seen) => {
+            say_all!(out; "RST_STREAM on stream ", stream, " with ", Code(code))
+        }
+        (_, Some(seen)) => say_seen(seen, out),
+        (_, None) => say_all!(out; "as wanted"),
+    }
+}
+
 /// Why a reaction is allowed that this server does not have, in words.
 fn why_allowed(own: Option<Observed>, seen: Option<Reaction>) -> &'static str {
     match (own, seen) {
@@ -110,6 +138,21 @@ fn why_allowed(own: Option<Observed>, seen: Option<Reaction>) -> &'static str {
             "an answer for a malformed request, RFC 9113 8.1.1"
         }
         _ => "the row of the rule has it",
+    }
+}
+
+/// Why a reaction is allowed beside an item whose row does not have it: the name, the section and the sentence of another row.
+fn say_row(accepted: Accepted, out: &mut TextBuilder) {
+    let row = accepted.row();
+    say_all!(out; row.name, ", ", row.section, ": ", row.sentence);
+}
+
+/// Why a reaction is allowed, in words.
+fn say_why(finding: &Finding, out: &mut TextBuilder) {
+    match finding.seen {
+        Some(Reaction::AfterGoaway) => say_row(Accepted::Goaway, out),
+        Some(Reaction::TimedOut) => say_row(Accepted::SettingsNotAcknowledged, out),
+        seen => say_all!(out; why_allowed(finding.own, seen)),
     }
 }
 
@@ -146,12 +189,10 @@ fn say_finding(sent: &Sent, finding: &Finding, out: &mut TextBuilder) {
     "\n    open: ".say(out);
     say_reactions(row.duties.conforming.open, out);
     "\n    seen: ".say(out);
-    match finding.seen {
-        Some(seen) => say_seen(seen, out),
-        None => "as wanted".say(out),
-    }
+    say_found(finding, out);
     if let Verdict::Allowed = finding.verdict {
-        say_all!(out; "\n    why: ", why_allowed(finding.own, finding.seen));
+        "\n    why: ".say(out);
+        say_why(finding, out);
     }
     "\n".say(out);
 }

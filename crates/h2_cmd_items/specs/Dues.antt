@@ -29,6 +29,37 @@ abbrev pub have_end : (stream : ℕ) → List Sent → Bool
 have_end stream [] = false
 have_end stream (s ∷ ss) = (s.ends && s.stream == stream) || have_end stream ss
 
+-- one of these resets a stream, or is an error on it, after which the server resets it or ends the connection (5.4)
+abbrev pub closes : (stream : ℕ) → Sent → Bool
+closes stream s = (s.resets || is_error s) && s.stream == stream
+
+abbrev pub have_close : (stream : ℕ) → List Sent → Bool
+have_close stream [] = false
+have_close stream (s ∷ ss) = closes stream s || have_close stream ss
+
+-- the window of a new stream that the client gives after these, or, where there are none, before them (6.5.2)
+abbrev pub window_after : ℕ → List Sent → ℕ
+window_after window [] = window
+window_after window (s ∷ ss) = window_after s.window ss
+
+-- octets that WINDOW_UPDATE lets be sent besides on a stream (6.9)
+abbrev pub with_increment : (count stream : ℕ) → Sent → ℕ
+with_increment count stream s = if s.stream == stream then plus count s.increment else count
+
+abbrev pub increments_on : (count stream : ℕ) → List Sent → ℕ
+increments_on count stream [] = count
+increments_on count stream (s ∷ ss) = increments_on (with_increment count stream s) stream ss
+
+-- the client lets no octet be sent on a stream: its window is 0 after all items of the case (6.9.1 and 6.9.2)
+abbrev pub is_shut : (stream : ℕ) → (upto behind : List Sent) → Bool
+is_shut stream upto behind =
+    window_after (window_after 65535 upto) behind == 0 && increments_on (increments_on 0 stream upto) stream behind == 0
+
+-- a request on a stream has to be answered: the client has ended it, does not reset it, has no error on it, and lets octets be sent
+-- on it (8.1). With a window of 0 no part of an answer has to be sent, its fields neither
+abbrev pub is_owed : (stream : ℕ) → (upto behind : List Sent) → Bool
+is_owed stream upto behind = have_end stream upto && (not (have_close stream behind) && not (is_shut stream upto behind))
+
 -- a count with one more, where an item is SETTINGS; it stays at 2^32 - 1 once there
 abbrev pub with_settings : ℕ → Sent → ℕ
 with_settings count s = if s.is_settings then min (count + 1) (2 ^ 32 - 1) else count
@@ -104,8 +135,11 @@ item_of upto s behind w = record {
   stream = s.stream;
   ping = s.ping;
   settings = settings_of upto s;
-  is_ended = have_end s.stream upto;
+  is_owed = is_owed s.stream upto behind;
+  is_begun = s.is_begun;
   waits = waits_by s.cause (have_end s.stream upto || have_end s.stream behind) s w;
+  has_goaway = s.has_goaway;
+  is_acknowledged = s.is_acknowledged;
   is_last = until_of s behind == 2 ^ 32 - 1;
   condition = condition_by s.cause upto s;
   rule = s.row.duties.conforming;

@@ -8,6 +8,7 @@ use Rattle.h2_spec.specs.Frames.FrameType.{ACK, END_STREAM, frame_type, has}
 use Rattle.h2_spec.specs.Frames.Parse.{Stop}
 use Rattle.h2_spec.specs.Frames.Payload.{Part, OfData, OfHeaders, OfPriority, OfRstStream, OfSettings, OfSettingsAck, OfPushPromise, OfPing, OfGoaway, OfWindowUpdate, OfContinuation, OfUnknown}
 use Rattle.h2_spec.specs.State.{State}
+use Rattle.h2_spec.specs.Stream.{is_live}
 use Rattle.h2_spec.specs.Trace.{next_event}
 use Rattle.h2_spec.specs.declared.causes.Cause.{Cause}
 use Rattle.h2_spec.specs.declared.frames.FrameType.{FrameType}
@@ -38,6 +39,10 @@ abbrev pub is_settings_type : FrameType → Bool
 is_settings_type kind.Settings = true
 is_settings_type _ = false
 
+abbrev pub is_reset_type : FrameType → Bool
+is_reset_type kind.RstStream = true
+is_reset_type _ = false
+
 -- frames of a type may end the client's side of a stream (RFC 9113, 6.1 and 6.2)
 abbrev pub may_end : FrameType → Bool
 may_end kind.Data = true
@@ -56,6 +61,10 @@ abbrev pub is_data_head : Option Head → Bool
 is_data_head (Some h) = is_data_type (frame_type h.kind)
 is_data_head None = false
 
+abbrev pub is_reset_head : Option Head → Bool
+is_reset_head (Some h) = is_reset_type (frame_type h.kind)
+is_reset_head None = false
+
 -- a frame with this head ends the client's side of its stream
 abbrev pub ends_stream : Option Head → Bool
 ends_stream (Some h) = may_end (frame_type h.kind) && has h.flags END_STREAM
@@ -65,6 +74,15 @@ ends_stream None = false
 abbrev pub is_due_settings : Option Head → Bool
 is_due_settings (Some h) = is_settings_type (frame_type h.kind) && not (has h.flags ACK)
 is_due_settings None = false
+
+-- by how much a payload raises a window (6.9)
+abbrev pub increment_in : Option Part → ℕ
+increment_in (Some (OfWindowUpdate octets)) = octets
+increment_in _ = 0
+
+abbrev pub increment_for : Option Cause → ℕ → ℕ
+increment_for (Some cause) increment = 0
+increment_for None increment = increment
 
 -- the octets of a payload that is PING's
 abbrev pub ping_in : Option Part → Option (List ℕ)
@@ -85,6 +103,12 @@ sent_of x low row is_left has_protocol = record {
   length = length_in (head_in x.what);
   is_data = is_data_head (head_in x.what);
   ends = ends_stream (head_in x.what);
+  resets = is_reset_head (head_in x.what) && not (is_some x.cause);
+  is_begun = is_live x.before.stream.kind;
+  window = x.after.counts.peer.window;
+  increment = increment_for x.cause (increment_in (part_in (frame_in x.what x.octets.now)));
+  has_goaway = is_some x.after.counts.goaway;
+  is_acknowledged = x.after.counts.acked;
   is_settings = is_due_settings (head_in x.what) && not (is_some x.cause);
   ping = ping_for x.cause (ping_in (part_in (frame_in x.what x.octets.now)));
   opens = is_some x.after.block;

@@ -1,7 +1,7 @@
 //! Which items of a case are judged, and what has to be known of those before and after each. Definitions: `specs/Dues.antt`.
 
 ghost use Rattle.std.specs.Prelude.{◌≡◌, ◌≤◌, [], IfOk, drop, length, take};
-ghost use Rattle.h2_cmd_items.specs.Dues.{acknowledgements, condition_by, data_on, due_of, dues, first_error, first_whole, have_end, have_error, highest, is_error, is_judged, is_whole, item_of, judged_behind, settings_of, until_of, waits_by, with_data, with_settings};
+ghost use Rattle.h2_cmd_items.specs.Dues.{acknowledgements, closes, condition_by, data_on, due_of, dues, first_error, first_whole, have_close, have_end, have_error, highest, increments_on, is_error, is_judged, is_owed, is_shut, is_whole, item_of, judged_behind, settings_of, until_of, waits_by, window_after, with_data, with_increment, with_settings};
 
 use crate::sent::Sent;
 use h2_cmd_judge::case::Due;
@@ -56,6 +56,74 @@ fn have_end(stream: u32, items: &[Sent]) -> bool
         }
     }
     false
+}
+
+/// Whether an item resets a stream, or is an error on it.
+fn closes(stream: u32, item: &Sent) -> bool
+    ensures { result ≡ closes stream item.now }
+{
+    (item.resets || is_error(item)) && item.stream == stream
+}
+
+/// Whether one of these does.
+fn have_close(stream: u32, items: &[Sent]) -> bool
+    ensures { result ≡ have_close stream items.now }
+{
+    for item in items {
+        if closes(stream, item) {
+            return true;
+        }
+    }
+    false
+}
+
+/// The window of a new stream that the client gives after these, or, where there are none, this one.
+fn window_after(before: u32, items: &[Sent]) -> u32
+    ensures { result ≡ window_after before items.now }
+{
+    let mut window = before;
+    for item in items {
+        window = item.window;
+    }
+    window
+}
+
+/// More octets that may be sent on a stream, where an item is WINDOW_UPDATE on it.
+fn with_increment(count: u64, stream: u32, item: &Sent) -> u64
+    ensures { result ≡ with_increment count stream item.now }
+{
+    if item.stream == stream {
+        count.saturating_add(u64::from(item.increment))
+    } else {
+        count
+    }
+}
+
+/// How many octets WINDOW_UPDATE lets be sent besides on a stream, with those before.
+fn increments_on(before: u64, stream: u32, items: &[Sent]) -> u64
+    ensures { result ≡ increments_on before stream items.now }
+{
+    let mut count = before;
+    for item in items {
+        count = with_increment(count, stream, item);
+    }
+    count
+}
+
+/// Whether the client lets no octet be sent on a stream, by all items of the case.
+fn is_shut(stream: u32, upto: &[Sent], behind: &[Sent]) -> bool
+    ensures { result ≡ is_shut stream upto.now behind.now }
+{
+    let window = window_after(window_after(65_535, upto), behind);
+    let increments = increments_on(increments_on(0, stream, upto), stream, behind);
+    window == 0 && increments == 0
+}
+
+/// Whether a request on a stream has to be answered.
+fn is_owed(stream: u32, upto: &[Sent], behind: &[Sent]) -> bool
+    ensures { result ≡ is_owed stream upto.now behind.now }
+{
+    have_end(stream, upto) && (!have_close(stream, behind) && !is_shut(stream, upto, behind))
 }
 
 /// One more acknowledgement, where an item is SETTINGS.
@@ -205,8 +273,7 @@ fn settings_of(upto: &[Sent], item: &Sent) -> Option<u32>
 fn item_of(upto: &[Sent], item: &Sent, behind: &[Sent], whole: Whole) -> Item
     ensures { result ≡ item_of upto.now item.now behind.now whole }
 {
-    let is_ended = have_end(item.stream, upto);
-    let ends = is_ended || have_end(item.stream, behind);
+    let ends = have_end(item.stream, upto) || have_end(item.stream, behind);
     let until = until_of(item, behind);
     Item {
         number: item.number,
@@ -215,8 +282,11 @@ fn item_of(upto: &[Sent], item: &Sent, behind: &[Sent], whole: Whole) -> Item
         stream: item.stream,
         ping: item.ping,
         settings: settings_of(upto, item),
-        is_ended,
+        is_owed: is_owed(item.stream, upto, behind),
+        is_begun: item.is_begun,
         waits: waits_by(item.cause, ends, item, whole),
+        has_goaway: item.has_goaway,
+        is_acknowledged: item.is_acknowledged,
         is_last: until == u32::MAX,
         condition: condition_by(item.cause, upto, item),
         rule: item.row.duties.conforming,

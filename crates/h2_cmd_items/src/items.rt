@@ -7,16 +7,16 @@ ghost use Rattle.h2_cmd_items.specs.SentItems.{AddsSent, AreItems, AreSent, IsSe
 ghost use Rattle.h2_cmd_items.specs.declared.items.ItemsFault.TheVariants.{BadConfig, NoMemory};
 
 use crate::rule::{has_protocol, is_left, is_post, row_of};
+use crate::run::Run;
 use crate::sent::{Sent, narrow, sent_of};
 use h2_cmd_judge::event::Seen;
 use h2_cmd_judge::frames::ServerFrames;
 use h2_conn::{Conn, ConnFault};
 use h2_explain_item::item::{Explained, part_in};
-use h2_explain_item::shown_block::SpelledFields;
+use h2_explain_item::shown_block::ShownBlock;
 use h2_explain_step::explainer::ItemExplainer;
 use h2_explain_step::taking::{moment_at, stream_of_next};
 use h2_explain_text::account::Account;
-use h2_explain_text::others::ended_fields;
 use h2_request_book::book::Book;
 use h2_spec::connection::Config;
 use h2_spec::octets::{first_octets, octets_from};
@@ -57,6 +57,8 @@ struct Taking {
     /// The number of its first item, or of the last item.
     low: u32,
     is_post: bool,
+    /// What came with the items so far.
+    run: Run,
 }
 
 /// The number of the first item of a block.
@@ -84,19 +86,20 @@ impl Taking {
                 opens: false,
                 low: 0,
                 is_post: false,
+                run: Run::new(alloc),
             }),
             Err(error) => Err(error),
         }
     }
 
     /// What a judge has to know of an item.
-    fn sent_with(&self, item: &Explained<'_>, account: &Account, fields: SpelledFields<'_>) -> Sent
+    fn sent_with(&self, item: &Explained<'_>, account: &Account, block: ShownBlock<'_>) -> Sent
         ensures { IsSentOf item.now (low_if self.now.opens self.now.low (narrow item.now.number)) result }
     {
         let low = low_if(self.opens, self.low, narrow(item.number));
-        let row = row_of(item, account, ended_fields(account, fields));
-        let left = is_left(item, account, row, fields);
-        sent_of(item, low, row, left, has_protocol(fields))
+        let row = row_of(item, account, block, &self.run);
+        let left = is_left(item, account, row, block.fields);
+        sent_of(item, low, row, left, has_protocol(block.fields))
     }
 
     /// Adds an item, for which these octets were sent.
@@ -157,14 +160,18 @@ impl Taking {
             before,
             after: moment_at(conn, stream),
         };
+        match self.run.note(&item) {
+            Ok(()) => {}
+            Err(error) => return Err(error),
+        }
         let mut account = Account::new(alloc);
         match explainer.account(alloc, conn, &item, &mut account) {
             Ok(()) => {}
             Err(error) => return Err(error),
         }
-        let fields = explainer.block(conn).fields;
-        let sent = self.sent_with(&item, &account, fields);
-        self.is_post = either(self.is_post, is_post(fields));
+        let block = explainer.block(conn);
+        let sent = self.sent_with(&item, &account, block);
+        self.is_post = either(self.is_post, is_post(block.fields));
         match self.add(alloc, sent, answers) {
             Ok(()) => Ok(Some(used)),
             Err(error) => Err(error),

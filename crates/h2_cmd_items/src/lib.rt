@@ -8,4 +8,5 @@ pub mod due;
 pub mod items;
 pub mod judging;
 pub mod rule;
+pub mod run;
 pub mod sent;

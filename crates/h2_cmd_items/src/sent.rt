@@ -4,13 +4,14 @@ ghost use Rattle.std.specs.Prelude.{◌≡◌, ◌^◌, ◌-◌, is_some, min};
 ghost use Rattle.h2_explain_item.specs.Item.{frame_in, head_in, part_in};
 ghost use Rattle.h2_frame.specs.Parts.{part_seen};
 ghost use Rattle.std.specs.Option.{option_map};
-ghost use Rattle.h2_cmd_items.specs.SentItems.{ends_stream, is_data_head, is_due_settings, is_data_type, is_settings_type, length_in, may_end, narrow, ping_for, ping_in, sent_of, stream_in};
+ghost use Rattle.h2_cmd_items.specs.SentItems.{ends_stream, increment_for, increment_in, is_data_head, is_due_settings, is_data_type, is_reset_head, is_reset_type, is_settings_type, length_in, may_end, narrow, ping_for, ping_in, sent_of, stream_in};
 
 use h2_explain_item::item::Explained;
 use h2_frame::Part;
 use h2_spec::causes::Cause;
 use h2_spec::frames::{ACK, END_STREAM, FrameType, Head};
 use h2_spec::rules::Row;
+use h2_spec::streams::is_live;
 
 /// An item that a client sends.
 #[derive(Clone, Copy)]
@@ -29,6 +30,18 @@ pub struct Sent {
     pub is_data: bool,
     /// Whether its frame ends the client's side of the stream: DATA or HEADERS with END_STREAM (RFC 9113, 5.1).
     pub ends: bool,
+    /// Whether it is RST_STREAM that is no error (6.4).
+    pub resets: bool,
+    /// Whether a request was under way on its stream before it: the stream was open or half-closed (5.1).
+    pub is_begun: bool,
+    /// The window that the client gives a new stream after it (6.5.2).
+    pub window: u32,
+    /// By how much it raises the window of its stream, as WINDOW_UPDATE that is no error (6.9); 0 for all else.
+    pub increment: u32,
+    /// Whether the client has sent GOAWAY with it or before it (6.8).
+    pub has_goaway: bool,
+    /// Whether the client has acknowledged this server's SETTINGS with it or before it (6.5.3).
+    pub is_acknowledged: bool,
     /// Whether it is SETTINGS that has to be acknowledged (6.5.3).
     pub is_settings: bool,
     /// The octets of a PING that is no error (6.7).
@@ -68,6 +81,16 @@ fn is_settings_type(kind: FrameType) -> bool
 {
     match kind {
         FrameType::Settings => true,
+        _ => false,
+    }
+}
+
+/// Whether a type is RST_STREAM.
+fn is_reset_type(kind: FrameType) -> bool
+    ensures { result ≡ is_reset_type kind }
+{
+    match kind {
+        FrameType::RstStream => true,
         _ => false,
     }
 }
@@ -112,6 +135,16 @@ fn is_data_head(head: Option<Head>) -> bool
     }
 }
 
+/// Whether a head is that of RST_STREAM.
+fn is_reset_head(head: Option<Head>) -> bool
+    ensures { result ≡ is_reset_head head }
+{
+    match head {
+        Some(head) => is_reset_type(head.frame_type()),
+        None => false,
+    }
+}
+
 /// Whether a frame with this head ends the client's side of its stream.
 fn ends_stream(head: Option<Head>) -> bool
     ensures { result ≡ ends_stream head }
@@ -129,6 +162,26 @@ fn is_due_settings(head: Option<Head>) -> bool
     match head {
         Some(head) => is_settings_type(head.frame_type()) && !head.has(ACK),
         None => false,
+    }
+}
+
+/// By how much a payload raises a window.
+fn increment_in(part: Option<Part<'_>>) -> u32
+    ensures { result ≡ increment_in (option_map part_seen part.entry) }
+{
+    match part {
+        Some(Part::WindowUpdate(octets)) => octets,
+        _ => 0,
+    }
+}
+
+/// The same where the item is no error.
+fn increment_for(cause: Option<Cause>, increment: u32) -> u32
+    ensures { result ≡ increment_for cause increment }
+{
+    match cause {
+        Some(_) => 0,
+        None => increment,
     }
 }
 
@@ -165,6 +218,12 @@ pub fn sent_of(item: &Explained<'_>, low: u32, row: Row, is_left: bool, has_prot
         length: length_in(head),
         is_data: is_data_head(head),
         ends: ends_stream(head),
+        resets: is_reset_head(head) && item.cause.is_none(),
+        is_begun: is_live(item.before.stream.kind),
+        window: item.after.counts.peer.window,
+        increment: increment_for(item.cause, increment_in(item.part)),
+        has_goaway: item.after.counts.goaway.is_some(),
+        is_acknowledged: item.after.counts.acked,
         is_settings: is_due_settings(head) && item.cause.is_none(),
         ping: ping_for(item.cause, ping_in(item.part)),
         opens: item.after.block.is_some(),

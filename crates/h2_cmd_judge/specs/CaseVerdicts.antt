@@ -69,6 +69,7 @@ found_with due own theirs ending peer = record {
   verdict = softened due.is_left (judged due.item own theirs ending peer);
   own = error_of own;
   seen = seen_with (error_of own) due.item own theirs ending peer;
+  elsewhere = theirs.elsewhere;
 }
 
 -- what is found beside an item, by what this server does in the case and what the server did

@@ -20,10 +20,20 @@ abbrev pub or_else : Option ℕ → Option ℕ → Option ℕ
 or_else (Some a) other = Some a
 or_else None other = other
 
+-- the same of two values
+abbrev pub or_other : Option (ℕ × ℕ) → Option (ℕ × ℕ) → Option (ℕ × ℕ)
+or_other (Some a) other = Some a
+or_other None other = other
+
 -- a value where something holds
 abbrev pub if_so : Bool → ℕ → Option ℕ
 if_so true a = Some a
 if_so false a = None
+
+-- the same of two values
+abbrev pub both_if : Bool → (a b : ℕ) → Option (ℕ × ℕ)
+both_if true a b = Some (a, b)
+both_if false a b = None
 
 -- whether an event came before an item
 abbrev pub is_before : Item → ℕ → Bool
@@ -37,31 +47,44 @@ is_behind item after = nat_le item.low after && nat_lt after item.until
 abbrev pub is_own : Item → ℕ → Bool
 is_own item stream = not (stream == 0) && stream == item.stream
 
+-- whether an event on a stream came after the item, but not as what a server does for it: on another stream, or, on its own,
+-- after the next item that is judged
+abbrev pub is_elsewhere : Item → (after stream : ℕ) → Bool
+is_elsewhere item after stream = if is_own item stream then nat_le item.until after else is_behind item after
+
 -- nothing was seen
 abbrev pub nothing : Shown
-nothing = record { goaway = None; reset = None; answered = None; answered_before = false; was_over = false; had_ended = false; ended_behind = false; ends = 0; acknowledged = 0; pong = false; credit = 0; stream_credit = 0 }
+nothing = record { goaway = None; reset = None; elsewhere = None; answered = None; answered_before = false; was_over = false; is_over = false; had_ended = false; had_reset = false; ended_behind = false; ends = 0; acknowledged = 0; pong = false; credit = 0; stream_credit = 0 }
 
 -- with GOAWAY: NO_ERROR is no error (RFC 9113, 6.8)
 abbrev pub with_goaway : Item → Shown → (after code : ℕ) → Shown
 with_goaway item s after code = record s {
   goaway = or_else s.goaway (if_so (is_behind item after && not (code == 0)) code);
   was_over = s.was_over || (is_before item after && not (code == 0));
+  is_over = s.is_over || (nat_le item.low after && not (code == 0));
 }
+
+-- how many times the server has ended or reset a stream before the item
+abbrev pub ends_with : Item → (ends after : ℕ) → ℕ
+ends_with item ends after = if is_before item after then plus ends 1 else ends
 
 -- with the end of the server's side of a stream (5.1)
 abbrev pub with_end : Item → Shown → (after stream : ℕ) → Shown
 with_end item s after stream = record s {
   had_ended = s.had_ended || (is_before item after && is_own item stream);
   ended_behind = s.ended_behind || (is_behind item after && is_own item stream);
-  ends = if is_before item after then plus s.ends 1 else s.ends;
+  ends = ends_with item s.ends after;
 }
 
--- with RST_STREAM: NO_ERROR, or any code after the end of the answer, only says that the rest of the request is not needed
--- (8.1)
+-- with RST_STREAM, after which the server's side has not ended, but the stream is closed (5.1): NO_ERROR, or any code after the end
+-- of the answer, only says that the rest of the request is not needed (8.1)
 abbrev pub with_reset : Item → Shown → (after stream code : ℕ) → Shown
-with_reset item s after stream code = with_end item (record s {
+with_reset item s after stream code = record s {
   reset = or_else s.reset (if_so (is_behind item after && (is_own item stream && (not (code == 0) && not s.ended_behind))) code);
-}) after stream
+  elsewhere = or_other s.elsewhere (both_if (is_elsewhere item after stream && not (code == 0)) stream code);
+  had_reset = s.had_reset || (is_before item after && is_own item stream);
+  ends = ends_with item s.ends after;
+}
 
 -- with the end of a stream, where an answer has it
 abbrev pub with_end_if : Item → Shown → (after stream : ℕ) → Bool → Shown

@@ -1,11 +1,14 @@
 -- The verdict on a server beside an item: what it does is what this server does, or what the rule of the item lets a server
 -- do, or what is open, or none of these (RFC 9113, 5.4 and 8.1.1).
 use Rattle.std.specs.Prelude.{ℕ, ◌==◌, ◌&&◌, ◌||◌, Bool, true, false, not, nat_le, nat_lt, if◌then◌else◌, is_some, Option, Some, None}
+use Rattle.h2_spec.specs.declared.accepted.Accepted.{Accepted}
+use Rattle.h2_spec.specs.declared.accepted.Accepted.TheVariants.{Goaway, SettingsNotAcknowledged}
 use Rattle.h2_spec.specs.declared.conforming.Conforming.{Conforming}
 use Rattle.h2_spec.specs.declared.conforming.Observed.{Observed}
 use Rattle.h2_spec.specs.declared.conforming.Observed.TheVariants.{ConnectionError, StreamError, Close, Answer, Ignore, Accept, Wait, Http1}
 use Rattle.h2_spec.specs.declared.conforming.Permission.{Permission}
 use Rattle.h2_spec.specs.declared.conforming.Permission.TheVariants as permitted
+use Rattle.h2_spec.specs.Causes.AcceptedWords.{accepted_row}
 use Rattle.h2_spec.specs.Causes.Conforming.{allows}
 use Rattle.h2_cmd_judge.specs.Events.{is_behind, plus}
 use Rattle.h2_cmd_judge.specs.declared.event.Condition.{Condition}
@@ -15,7 +18,7 @@ use Rattle.h2_cmd_judge.specs.declared.event.Shown.{Shown}
 use Rattle.h2_cmd_judge.specs.declared.judge.Ending.{Ending}
 use Rattle.h2_cmd_judge.specs.declared.judge.Peer.{Peer}
 use Rattle.h2_cmd_judge.specs.declared.judge.Reaction.{Reaction}
-use Rattle.h2_cmd_judge.specs.declared.judge.Reaction.TheVariants.{One, Served, Either, Refused, Quiet, Waiting, Silent, SilentWaiting, Missing, Closed}
+use Rattle.h2_cmd_judge.specs.declared.judge.Reaction.TheVariants.{One, Served, Either, Refused, Quiet, Pending, Waiting, Silent, SilentWaiting, Missing, Closed, AfterGoaway, TimedOut}
 use Rattle.h2_cmd_judge.specs.declared.judge.Unseen.{Unseen}
 use Rattle.h2_cmd_judge.specs.declared.judge.Unseen.TheVariants.{ConnectionEnded, OtherState, LongerFrames, LargerWindows, KnowsProtocol}
 use Rattle.h2_cmd_judge.specs.declared.judge.Verdict.{Verdict}
@@ -37,6 +40,10 @@ at_most_open permitted.Allowed = permitted.Open
 at_most_open permitted.Open = permitted.Open
 at_most_open permitted.NotAllowed = permitted.NotAllowed
 
+-- whether a reaction is allowed where something is accepted
+abbrev pub accepted_permission : Accepted → Observed → Permission
+accepted_permission accepted seen = allows (accepted_row accepted).conforming seen
+
 -- whether a reaction is permitted: of what looks the same, the best
 abbrev pub permission : Conforming → Reaction → Permission
 permission rule (One seen) = allows rule seen
@@ -45,12 +52,17 @@ permission rule Served = allows rule Accept
 permission rule Either = better (allows rule Accept) (at_most_open (allows rule Answer))
 permission rule Refused = allows rule Answer
 permission rule Quiet = better (allows rule Ignore) (allows rule Accept)
+-- a server that has handed a request on may still answer it with 400 or more: no section says by when (RFC 9113, 8.1.1)
+permission rule Pending = better (allows rule Ignore) (better (allows rule Accept) (at_most_open (allows rule Answer)))
 permission rule Waiting = better (allows rule Wait) (better (allows rule Ignore) (allows rule Accept))
 permission rule Silent = permitted.NotAllowed
 permission rule SilentWaiting = allows rule Wait
 permission rule Missing = allows rule Ignore
 -- an endpoint can end a connection at any time (RFC 9113, 5.4.1)
 permission rule Closed = better (allows rule Close) permitted.Open
+-- after the client's GOAWAY it may end it (6.8), and with SETTINGS_TIMEOUT where its SETTINGS are not acknowledged (6.5.3)
+permission rule AfterGoaway = accepted_permission Goaway Close
+permission rule TimedOut = accepted_permission SettingsNotAcknowledged (ConnectionError 4)
 
 -- the verdict by a permission
 abbrev pub by_permission : Permission → Verdict
@@ -126,7 +138,9 @@ is_dead None = false
 abbrev pub quiet : Item → Ending → Reaction
 quiet item ending =
     if is_dead ending.answers then (if item.waits then SilentWaiting else Silent)
-    else (if item.waits then Waiting else Quiet)
+    else if item.waits then Waiting
+    else if item.is_begun then Pending
+    else Quiet
 
 -- an answer with this status; a lawful request gets the other one
 abbrev pub answer_reaction : Peer → (status : ℕ) → Reaction
@@ -166,12 +180,17 @@ abbrev pub is_equal : Bool → Bool → Bool
 is_equal true b = b
 is_equal false b = not b
 
+-- whether one server had reset the stream of an item and the other had not, or, where both had not, one had ended it (5.1)
+abbrev pub is_other_state : (own theirs : Shown) → Bool
+is_other_state own theirs =
+    not (is_equal own.had_reset theirs.had_reset) || (not own.had_reset && not (is_equal own.had_ended theirs.had_ended))
+
 -- why a server can't be judged beside an item: its connection had ended, or its stream had another state than that of this
 -- server, since the stream's state is the peer's
 abbrev pub why_unseen : Item → (own theirs : Shown) → Ending → Peer → Option Unseen
 why_unseen item own theirs ending peer =
     if theirs.was_over || is_closed_before item ending.closed then Some ConnectionEnded
-    else if not (is_equal own.had_ended theirs.had_ended) then Some OtherState
+    else if is_other_state own theirs then Some OtherState
     else excuse item.condition own theirs peer
 
 -- ---- the verdict
@@ -183,11 +202,14 @@ is_error own Served = false
 is_error own Either = false
 is_error own Refused = false
 is_error own Quiet = false
+is_error own Pending = false
 is_error own Waiting = false
 is_error own Silent = false
 is_error own SilentWaiting = false
 is_error own Missing = false
 is_error own Closed = false
+is_error own AfterGoaway = false
+is_error own TimedOut = false
 
 -- the verdict where this server has an error
 abbrev pub error_verdict : Conforming → Observed → Reaction → Verdict
@@ -206,19 +228,47 @@ is_allowed_or_same Doubtful = false
 is_allowed_or_same Broken = false
 is_allowed_or_same (Skipped why) = false
 
+-- whether the connection ended after an item, by an error or as the server closed it
+abbrev pub is_over_behind : Item → Shown → Option ℕ → Bool
+is_over_behind item theirs (Some after) = theirs.is_over || nat_le item.low after
+is_over_behind item theirs None = theirs.is_over
+
+-- whether a request is not answered that this server answers: nobody owes an answer on a connection that has ended
+abbrev pub lacks_answer : Item → (own theirs : Shown) → (closed : Option ℕ) → Bool
+lacks_answer item own theirs closed =
+    item.is_owed && (is_some own.answered && (not theirs.answered_before && not (is_over_behind item theirs closed)))
+
 -- whether something is not answered that this server answers
-abbrev pub is_missing : Item → (own theirs : Shown) → Bool
-is_missing item own theirs =
-    lacks_acknowledgement item.settings theirs.acknowledged
-    || ((own.pong && not theirs.pong) || (item.is_ended && (is_some own.answered && not theirs.answered_before)))
+abbrev pub is_missing : Item → (own theirs : Shown) → (closed : Option ℕ) → Bool
+is_missing item own theirs closed =
+    lacks_acknowledgement item.settings theirs.acknowledged || ((own.pong && not theirs.pong) || lacks_answer item own theirs closed)
+
+-- whether an error is a connection error with SETTINGS_TIMEOUT
+abbrev pub is_timeout : Observed → Bool
+is_timeout (ConnectionError code) = code == 4
+is_timeout (StreamError code) = false
+is_timeout Close = false
+is_timeout Answer = false
+is_timeout Ignore = false
+is_timeout Accept = false
+is_timeout Wait = false
+is_timeout Http1 = false
+
+-- an error where none is due: SETTINGS_TIMEOUT where the client has not acknowledged the server's SETTINGS (6.5.3), or this one
+abbrev pub undue_error : Item → Observed → Reaction
+undue_error item error = if is_timeout error && not item.is_acknowledged then TimedOut else One error
+
+-- the end of the connection where no error is due
+abbrev pub undue_end : Item → Reaction
+undue_end item = if item.has_goaway then AfterGoaway else Closed
 
 -- what is seen where no error is due, if it is something else than what this server does
 abbrev pub lawful_reaction : Option Observed → Item → (own theirs : Shown) → Ending → Option Reaction
-lawful_reaction (Some error) item own theirs ending = Some (One error)
+lawful_reaction (Some error) item own theirs ending = Some (undue_error item error)
 lawful_reaction None item own theirs ending =
     if ending.http1 then Some (One Http1)
-    else if is_closed_behind item ending.closed then Some Closed
-    else if is_missing item own theirs then Some Missing
+    else if is_closed_behind item ending.closed then Some (undue_end item)
+    else if is_missing item own theirs ending.closed then Some Missing
     else if item.is_last && (not item.waits && is_dead ending.answers) then Some Silent
     else if not own.pong && theirs.pong then Some Served
     else None

@@ -1,6 +1,6 @@
 -- Recorded octets say what a server sent, not after which item it came: each event is put after the item beside which this
 -- server does the like.
-use Rattle.std.specs.Prelude.{ℕ, ◌==◌, ◌&&◌, Bool, true, false, not, drop, if◌then◌else◌, List, [], ◌∷◌, Option, Some, None}
+use Rattle.std.specs.Prelude.{ℕ, ◌==◌, ◌&&◌, ◌||◌, Bool, true, false, not, drop, if◌then◌else◌, List, [], ◌∷◌, Option, Some, None}
 use Rattle.std.specs.Str.{bytes_eq}
 use Rattle.h2_cmd_judge.specs.declared.event.Event.{Event}
 use Rattle.h2_cmd_judge.specs.declared.event.Event.TheVariants.{Goaway, Reset, Answered, Ended, Acknowledged, Pong, Credit, Unreadable}
@@ -56,11 +56,23 @@ is_acknowledgement (Pong octets) = false
 is_acknowledgement (Credit stream octets) = false
 is_acknowledgement (Unreadable stream) = false
 
+-- an event is the answer on a stream
+abbrev pub is_answer_on : (stream : ℕ) → Event → Bool
+is_answer_on own (Goaway code) = false
+is_answer_on own (Reset stream code) = false
+is_answer_on own (Answered stream status ends) = own == stream
+is_answer_on own (Ended stream) = false
+is_answer_on own Acknowledged = false
+is_answer_on own (Pong octets) = false
+is_answer_on own (Credit stream octets) = false
+is_answer_on own (Unreadable stream) = false
+
 -- an event of this server is what an event of the other server is: an acknowledgement, an error, or an answer on the same
--- stream
+-- stream; and an answer of the other one, where this one resets the stream (RFC 9113, 8.1.1). The other way round the stream may be
+-- reset for a later item
 abbrev pub is_like : (own event : Event) → Bool
 is_like (Goaway code) event = not (code == 0) && is_error_event event
-is_like (Reset stream code) event = not (code == 0) && is_error_event event
+is_like (Reset stream code) event = not (code == 0) && (is_error_event event || is_answer_on stream event)
 is_like (Answered stream status ends) event = is_same_stream (Some stream) (answered_stream event)
 is_like (Ended stream) event = is_same_stream (Some stream) (answered_stream event)
 is_like Acknowledged event = is_acknowledgement event

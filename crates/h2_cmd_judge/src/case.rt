@@ -29,6 +29,8 @@ pub struct Finding {
     pub own: Option<Observed>,
     /// What the server did; none where no error is due and it did the same.
     pub seen: Option<Reaction>,
+    /// The stream and the code of the first RST_STREAM after it that is an error and not for it (`Shown`).
+    pub elsewhere: Option<(u32, u32)>,
 }
 
 /// What is found in a case.
@@ -139,6 +141,7 @@ fn found_with(due: &Due, own: &Shown, theirs: &Shown, ending: Ending, peer: Peer
         verdict: softened(due.is_left, judged(&due.item, own, theirs, ending, peer)),
         own: own_error,
         seen: seen_with(own_error, &due.item, own, theirs, ending, peer),
+        elsewhere: theirs.elsewhere,
     }
 }
 

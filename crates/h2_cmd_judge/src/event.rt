@@ -3,7 +3,7 @@
 
 ghost use Rattle.std.specs.Prelude.{◌≡◌};
 ghost use Rattle.std.specs.Str.{bytes_eq};
-ghost use Rattle.h2_cmd_judge.specs.Events.{added, if_so, is_before, is_behind, is_own, is_ping_of, or_else, shown_by, with_acknowledgement, with_answer, with_credit, with_end, with_end_if, with_event, with_goaway, with_pong, with_reset};
+ghost use Rattle.h2_cmd_judge.specs.Events.{added, both_if, ends_with, if_so, is_before, is_behind, is_elsewhere, is_own, is_ping_of, or_else, or_other, shown_by, with_acknowledgement, with_answer, with_credit, with_end, with_end_if, with_event, with_goaway, with_pong, with_reset};
 
 use h2_spec::conforming::Conforming;
 
@@ -65,10 +65,17 @@ pub struct Item {
     pub ping: Option<[u8; 8]>,
     /// How many SETTINGS have to be acknowledged with it and before it, if it is one.
     pub settings: Option<u32>,
-    /// Whether the client has ended the stream with it or before it, so that a request has to be answered.
-    pub is_ended: bool,
+    /// Whether a request on its stream has to be answered: the client has ended the stream with it or before it, and nothing after
+    /// it cuts the answer off or holds it back.
+    pub is_owed: bool,
+    /// Whether a request was under way on its stream before it, which a server may have handed on (8.1).
+    pub is_begun: bool,
     /// Whether a server may wait for more octets.
     pub waits: bool,
+    /// Whether the client has sent GOAWAY with it or before it (6.8).
+    pub has_goaway: bool,
+    /// Whether the client has acknowledged the server's SETTINGS with it or before it (6.5.3).
+    pub is_acknowledged: bool,
     /// Whether no item is after it.
     pub is_last: bool,
     /// What decides whether its rule can be broken.
@@ -84,17 +91,24 @@ pub struct Shown {
     pub goaway: Option<u32>,
     /// The code of the first RST_STREAM after it on its stream that is an error.
     pub reset: Option<u32>,
+    /// The stream and the code of the first RST_STREAM after it that is an error and not for it: on another stream, or after the next
+    /// item that is judged.
+    pub elsewhere: Option<(u32, u32)>,
     /// The status of the answer after it on its stream.
     pub answered: Option<u32>,
     /// Whether an answer is there on its stream, before it or after it.
     pub answered_before: bool,
     /// Whether the connection had ended before it by an error.
     pub was_over: bool,
-    /// Whether the server had ended the item's stream before it.
+    /// Whether it has ended after it by an error.
+    pub is_over: bool,
+    /// Whether the server had ended the item's stream before it: by END_STREAM, not by RST_STREAM.
     pub had_ended: bool,
+    /// Whether it had reset that stream before it.
+    pub had_reset: bool,
     /// Whether it has ended that stream after the item.
     pub ended_behind: bool,
-    /// How many times the server had ended a stream before it.
+    /// How many times the server had ended or reset a stream before it.
     pub ends: u64,
     /// How many SETTINGS are acknowledged in all.
     pub acknowledged: u64,
@@ -116,11 +130,28 @@ fn or_else(one: Option<u32>, other: Option<u32>) -> Option<u32>
     }
 }
 
+/// The same of two values.
+fn or_other(one: Option<(u32, u32)>, other: Option<(u32, u32)>) -> Option<(u32, u32)>
+    ensures { result ≡ or_other one other }
+{
+    match one {
+        Some(values) => Some(values),
+        None => other,
+    }
+}
+
 /// A value where something holds.
 fn if_so(holds: bool, value: u32) -> Option<u32>
     ensures { result ≡ if_so holds value }
 {
     if holds { Some(value) } else { None }
+}
+
+/// Two values where something holds.
+fn both_if(holds: bool, one: u32, other: u32) -> Option<(u32, u32)>
+    ensures { result ≡ both_if holds one other }
+{
+    if holds { Some((one, other)) } else { None }
 }
 
 /// Whether octets are those of a PING.
@@ -154,16 +185,41 @@ impl Item {
     {
         stream != 0 && stream == self.stream
     }
+
+    /// Whether an event on a stream came after it, but not as what a server does for it.
+    fn is_elsewhere(&self, after: u32, stream: u32) -> bool
+        ensures { result ≡ is_elsewhere self.now after stream }
+    {
+        if self.is_own(stream) {
+            self.until <= after
+        } else {
+            self.is_behind(after)
+        }
+    }
+
+    /// How many times the server has ended or reset a stream before it, with one time more.
+    fn ends_with(&self, ends: u64, after: u32) -> u64
+        ensures { result ≡ ends_with self.now ends after }
+    {
+        if self.is_before(after) {
+            ends.saturating_add(1)
+        } else {
+            ends
+        }
+    }
 }
 
 /// Nothing was seen.
 const NOTHING: Shown = Shown {
     goaway: None,
     reset: None,
+    elsewhere: None,
     answered: None,
     answered_before: false,
     was_over: false,
+    is_over: false,
     had_ended: false,
+    had_reset: false,
     ended_behind: false,
     ends: 0,
     acknowledged: 0,
@@ -181,6 +237,7 @@ impl Shown {
         Shown {
             goaway: or_else(self.goaway, if_so(item.is_behind(after) && is_error, code)),
             was_over: self.was_over || item.is_before(after) && is_error,
+            is_over: self.is_over || item.low <= after && is_error,
             ..self
         }
     }
@@ -189,33 +246,30 @@ impl Shown {
     fn with_end(self, item: &Item, after: u32, stream: u32) -> Shown
         ensures { result ≡ with_end item.now self after stream }
     {
-        let is_before = item.is_before(after);
         let is_own = item.is_own(stream);
-        let ends = if is_before {
-            self.ends.saturating_add(1)
-        } else {
-            self.ends
-        };
         Shown {
-            had_ended: self.had_ended || is_before && is_own,
+            had_ended: self.had_ended || item.is_before(after) && is_own,
             ended_behind: self.ended_behind || item.is_behind(after) && is_own,
-            ends,
+            ends: item.ends_with(self.ends, after),
             ..self
         }
     }
 
-    /// With RST_STREAM: NO_ERROR, or any code after the end of the answer, only says that the rest of the request is not
-    /// needed (RFC 9113, 8.1).
+    /// With RST_STREAM, after which the server's side has not ended, but the stream is closed (RFC 9113, 5.1): NO_ERROR, or any
+    /// code after the end of the answer, only says that the rest of the request is not needed (8.1).
     fn with_reset(self, item: &Item, after: u32, stream: u32, code: u32) -> Shown
         ensures { result ≡ with_reset item.now self after stream code }
     {
-        let is_error = item.is_behind(after)
-            && (item.is_own(stream) && (code != 0 && !self.ended_behind));
-        let shown = Shown {
+        let is_own = item.is_own(stream);
+        let is_error = item.is_behind(after) && (is_own && (code != 0 && !self.ended_behind));
+        let is_elsewhere = item.is_elsewhere(after, stream) && code != 0;
+        Shown {
             reset: or_else(self.reset, if_so(is_error, code)),
+            elsewhere: or_other(self.elsewhere, both_if(is_elsewhere, stream, code)),
+            had_reset: self.had_reset || item.is_before(after) && is_own,
+            ends: item.ends_with(self.ends, after),
             ..self
-        };
-        shown.with_end(item, after, stream)
+        }
     }
 
     /// With an answer, which may have the end of the stream (RFC 9113, 8.1).

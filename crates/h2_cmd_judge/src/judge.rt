@@ -1,9 +1,10 @@
 //! The verdict on a server beside an item. Definitions: `specs/Judges.antt`.
 
 ghost use Rattle.std.specs.Prelude.{◌≡◌};
-ghost use Rattle.h2_cmd_judge.specs.Judges.{answer_reaction, at_most_open, better, by_permission, error_of, error_verdict, excuse, excused_if, is_closed_before, is_closed_behind, is_dead, is_error, is_missing, is_same_error, judged, lacks_acknowledgement, lawful_reaction, lawful_verdict, permission, quiet, reaction_with, softened, verdict_by, why_unseen, without_error, worse};
+ghost use Rattle.h2_cmd_judge.specs.Judges.{accepted_permission, answer_reaction, at_most_open, better, by_permission, error_of, error_verdict, excuse, excused_if, is_closed_before, is_closed_behind, is_dead, is_error, is_missing, is_other_state, is_over_behind, is_same_error, is_timeout, judged, lacks_acknowledgement, lacks_answer, lawful_reaction, lawful_verdict, permission, quiet, reaction_with, softened, undue_end, undue_error, verdict_by, why_unseen, without_error, worse};
 
 use crate::event::{Condition, Item, Shown};
+use h2_spec::accepted::Accepted;
 use h2_spec::conforming::{Conforming, Observed, Permission};
 
 /// How a connection with a server ended.
@@ -43,6 +44,8 @@ pub enum Reaction {
     Refused,
     /// Nothing; the connection lives.
     Quiet,
+    /// The same, where a request was under way that it may still answer.
+    Pending,
     /// The same, and more octets may come.
     Waiting,
     /// Nothing, not even for PING.
@@ -53,6 +56,10 @@ pub enum Reaction {
     Missing,
     /// It ends the connection where no error is due.
     Closed,
+    /// The same, after the client's GOAWAY (RFC 9113, 6.8).
+    AfterGoaway,
+    /// It ends the connection with SETTINGS_TIMEOUT, where no error is due and its SETTINGS are not acknowledged (6.5.3).
+    TimedOut,
 }
 
 /// Why a server is not judged beside an item.
@@ -99,6 +106,13 @@ impl Reaction {
             ),
             Reaction::Refused => rule.allows(Observed::Answer),
             Reaction::Quiet => better(rule.allows(Observed::Ignore), rule.allows(Observed::Accept)),
+            Reaction::Pending => better(
+                rule.allows(Observed::Ignore),
+                better(
+                    rule.allows(Observed::Accept),
+                    at_most_open(rule.allows(Observed::Answer)),
+                ),
+            ),
             Reaction::Waiting => better(
                 rule.allows(Observed::Wait),
                 better(rule.allows(Observed::Ignore), rule.allows(Observed::Accept)),
@@ -107,6 +121,11 @@ impl Reaction {
             Reaction::SilentWaiting => rule.allows(Observed::Wait),
             Reaction::Missing => rule.allows(Observed::Ignore),
             Reaction::Closed => better(rule.allows(Observed::Close), Permission::Open),
+            Reaction::AfterGoaway => accepted_permission(Accepted::Goaway, Observed::Close),
+            Reaction::TimedOut => accepted_permission(
+                Accepted::SettingsNotAcknowledged,
+                Observed::ConnectionError(4),
+            ),
         }
     }
 
@@ -120,13 +139,24 @@ impl Reaction {
             | Reaction::Either
             | Reaction::Refused
             | Reaction::Quiet
+            | Reaction::Pending
             | Reaction::Waiting
             | Reaction::Silent
             | Reaction::SilentWaiting
             | Reaction::Missing
-            | Reaction::Closed => false,
+            | Reaction::Closed
+            | Reaction::AfterGoaway
+            | Reaction::TimedOut => false,
         }
     }
+}
+
+/// Whether a reaction is allowed where something is accepted.
+fn accepted_permission(accepted: Accepted, seen: Observed) -> Permission
+    ensures { result ≡ accepted_permission accepted seen }
+{
+    let row = accepted.row();
+    row.duties.conforming.allows(seen)
 }
 
 /// The better of two permissions.
@@ -218,11 +248,12 @@ fn is_dead(answers: Option<bool>) -> bool
 fn quiet(item: &Item, ending: Ending) -> Reaction
     ensures { result ≡ quiet item.now ending }
 {
-    match (is_dead(ending.answers), item.waits) {
-        (true, true) => Reaction::SilentWaiting,
-        (true, false) => Reaction::Silent,
-        (false, true) => Reaction::Waiting,
-        (false, false) => Reaction::Quiet,
+    match (is_dead(ending.answers), item.waits, item.is_begun) {
+        (true, true, _) => Reaction::SilentWaiting,
+        (true, false, _) => Reaction::Silent,
+        (false, true, _) => Reaction::Waiting,
+        (false, false, true) => Reaction::Pending,
+        (false, false, false) => Reaction::Quiet,
     }
 }
 
@@ -295,6 +326,14 @@ fn excuse(condition: Condition, own: &Shown, theirs: &Shown, peer: Peer) -> Opti
     }
 }
 
+/// Whether one server had reset the stream of an item and the other had not, or, where both had not, one had ended it (RFC 9113,
+/// 5.1).
+fn is_other_state(own: &Shown, theirs: &Shown) -> bool
+    ensures { result ≡ is_other_state own.now theirs.now }
+{
+    own.had_reset != theirs.had_reset || !own.had_reset && own.had_ended != theirs.had_ended
+}
+
 /// Why a server can't be judged beside an item, if it can't: its connection had ended, or its stream had another state than
 /// that of this server, since the stream's state is the peer's.
 fn why_unseen(
@@ -308,7 +347,7 @@ fn why_unseen(
 {
     if theirs.was_over || is_closed_before(item, ending.closed) {
         Some(Unseen::ConnectionEnded)
-    } else if own.had_ended != theirs.had_ended {
+    } else if is_other_state(own, theirs) {
         Some(Unseen::OtherState)
     } else {
         excuse(item.condition, own, theirs, peer)
@@ -325,13 +364,64 @@ fn lacks_acknowledgement(due: Option<u32>, count: u64) -> bool
     }
 }
 
+/// Whether the connection ended after an item, by an error or as the server closed it.
+fn is_over_behind(item: &Item, theirs: &Shown, closed: Option<u32>) -> bool
+    ensures { result ≡ is_over_behind item.now theirs.now closed }
+{
+    match closed {
+        Some(after) => theirs.is_over || item.low <= after,
+        None => theirs.is_over,
+    }
+}
+
+/// Whether a request is not answered that this server answers: nobody owes an answer on a connection that has ended.
+fn lacks_answer(item: &Item, own: &Shown, theirs: &Shown, closed: Option<u32>) -> bool
+    ensures { result ≡ lacks_answer item.now own.now theirs.now closed }
+{
+    item.is_owed
+        && (own.answered.is_some()
+            && (!theirs.answered_before && !is_over_behind(item, theirs, closed)))
+}
+
 /// Whether something is not answered that this server answers.
-fn is_missing(item: &Item, own: &Shown, theirs: &Shown) -> bool
-    ensures { result ≡ is_missing item.now own.now theirs.now }
+fn is_missing(item: &Item, own: &Shown, theirs: &Shown, closed: Option<u32>) -> bool
+    ensures { result ≡ is_missing item.now own.now theirs.now closed }
 {
     lacks_acknowledgement(item.settings, theirs.acknowledged)
         || own.pong && !theirs.pong
-        || (item.is_ended && (own.answered.is_some() && !theirs.answered_before))
+        || lacks_answer(item, own, theirs, closed)
+}
+
+/// Whether an error is a connection error with SETTINGS_TIMEOUT.
+fn is_timeout(error: Observed) -> bool
+    ensures { result ≡ is_timeout error }
+{
+    match error {
+        Observed::ConnectionError(code) => code == 4,
+        _ => false,
+    }
+}
+
+/// An error where none is due.
+fn undue_error(item: &Item, error: Observed) -> Reaction
+    ensures { result ≡ undue_error item.now error }
+{
+    if is_timeout(error) && !item.is_acknowledged {
+        Reaction::TimedOut
+    } else {
+        Reaction::One(error)
+    }
+}
+
+/// The end of the connection where no error is due.
+fn undue_end(item: &Item) -> Reaction
+    ensures { result ≡ undue_end item.now }
+{
+    if item.has_goaway {
+        Reaction::AfterGoaway
+    } else {
+        Reaction::Closed
+    }
 }
 
 /// What is seen where no error is due, if it is something else than what this server does.
@@ -339,13 +429,13 @@ pub fn lawful_reaction(item: &Item, own: &Shown, theirs: &Shown, ending: Ending)
     ensures { result ≡ lawful_reaction (error_of theirs.now) item.now own.now theirs.now ending }
 {
     if let Some(error) = error_of(theirs) {
-        return Some(Reaction::One(error));
+        return Some(undue_error(item, error));
     }
     if ending.http1 {
         Some(Reaction::One(Observed::Http1))
     } else if is_closed_behind(item, ending.closed) {
-        Some(Reaction::Closed)
-    } else if is_missing(item, own, theirs) {
+        Some(undue_end(item))
+    } else if is_missing(item, own, theirs, ending.closed) {
         Some(Reaction::Missing)
     } else if item.is_last && !item.waits && is_dead(ending.answers) {
         Some(Reaction::Silent)

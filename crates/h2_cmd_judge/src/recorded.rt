@@ -4,7 +4,7 @@
 
 ghost use Rattle.std.specs.Prelude.{◌≡◌, ◌≤◌, IfOk, IfSome, drop, length};
 ghost use Rattle.std.specs.Option.{option_map};
-ghost use Rattle.h2_cmd_judge.specs.Recorded.{aligned, answered_stream, behind_like, behind_place, is_acknowledgement, is_error_event, is_like, is_pong_like, is_same_stream, place_without};
+ghost use Rattle.h2_cmd_judge.specs.Recorded.{aligned, answered_stream, behind_like, behind_place, is_acknowledgement, is_answer_on, is_error_event, is_like, is_pong_like, is_same_stream, place_without};
 
 use crate::event::{Event, Seen};
 use std::alloc::{AllocError, Global};
@@ -81,6 +81,22 @@ fn is_acknowledgement(event: Event) -> bool
     }
 }
 
+/// Whether an event is the answer on a stream.
+fn is_answer_on(stream: u32, event: Event) -> bool
+    ensures { result ≡ is_answer_on stream event }
+{
+    match event {
+        Event::Answered(other, _, _) => stream == other,
+        Event::Goaway(_)
+        | Event::Reset(_, _)
+        | Event::Ended(_)
+        | Event::Acknowledged
+        | Event::Pong(_)
+        | Event::Credit(_, _)
+        | Event::Unreadable(_) => false,
+    }
+}
+
 /// Whether an event of this server is what an event of the other server is.
 fn is_like(own: Event, event: Event) -> bool
     ensures { result ≡ is_like own event }
@@ -88,7 +104,10 @@ fn is_like(own: Event, event: Event) -> bool
     match own {
         Event::Acknowledged => is_acknowledgement(event),
         Event::Pong(octets) => is_pong_like(octets, event),
-        Event::Goaway(_) | Event::Reset(_, _) => is_error_event(own) && is_error_event(event),
+        Event::Goaway(_) => is_error_event(own) && is_error_event(event),
+        Event::Reset(stream, code) => {
+            code != 0 && (is_error_event(event) || is_answer_on(stream, event))
+        }
         Event::Answered(_, _, _) | Event::Ended(_) => {
             is_same_stream(answered_stream(own), answered_stream(event))
         }
