@@ -151,17 +151,10 @@ fn put_sent_lines(lines: &[&[u8]], out: &mut Growing)
 fn put_sent(alloc: Global, octets: &[u8], out: &mut Growing) -> Result<(), AllocError>
     ensures { OnOk result (Gains (sent_lines octets.now) out.old out.new) }
 {
-    let script = match disassemble(alloc, octets) {
-        Ok(script) => script,
-        Err(error) => return Err(error),
-    };
-    match lines_in(alloc, script.as_str().as_bytes()) {
-        Ok(lines) => {
-            put_sent_lines(lines.as_slice(), out);
-            Ok(())
-        }
-        Err(error) => Err(error),
-    }
+    let script = disassemble(alloc, octets)?;
+    let lines = lines_in(alloc, script.as_str().as_bytes())?;
+    put_sent_lines(lines.as_slice(), out);
+    Ok(())
 }
 
 /// Writes a line for each frame of octets that were sent, where long DATA is its summary.
@@ -169,13 +162,9 @@ fn put_told(alloc: Global, octets: &[u8], out: &mut Growing) -> Result<(), Alloc
     ensures { OnOk result (Gains (told_lines octets.now) out.old out.new) }
 {
     let mut lines = Vec::new(alloc);
-    match push_told(alloc, octets, &mut lines) {
-        Ok(()) => {
-            out.put(lines.as_slice());
-            Ok(())
-        }
-        Err(error) => Err(error),
-    }
+    push_told(alloc, octets, &mut lines)?;
+    out.put(lines.as_slice());
+    Ok(())
 }
 
 /// Writes a line that says why an item is an error, or that none is.
@@ -238,10 +227,8 @@ impl<'t, 'b> Walk<'t, 'b> {
             return Ok(());
         }
         self.pass();
-        match self.leave(more) {
-            Ok(()) => self.feed(conn, more),
-            Err(error) => Err(error),
-        }
+        self.leave(more)?;
+        self.feed(conn, more)
     }
 
     /// A line of the script, in a case that is written anew.
@@ -298,8 +285,8 @@ impl<'t, 'b> Walk<'t, 'b> {
     ) -> Result<(), AllocError>
         ensures { OnOk result (KeepsFrame text.now None (summed text.now (left_by self.old)) self.old self.new out.old out.new) }
     {
-        match summed(alloc, text, self.unspoken()) {
-            Ok(Some(count)) => {
+        match summed(alloc, text, self.unspoken())? {
+            Some(count) => {
                 // A frame has nine octets or more; this is for the prover, which then sees that the sum fits.
                 if count > 0 {
                     self.spoken += count;
@@ -309,8 +296,7 @@ impl<'t, 'b> Walk<'t, 'b> {
                 put_line(text, out);
                 Ok(())
             }
-            Ok(None) => Ok(()),
-            Err(error) => Err(error),
+            None => Ok(()),
         }
     }
 
@@ -383,10 +369,7 @@ impl<'t, 'b> Walk<'t, 'b> {
     fn end_some(&mut self, alloc: Global, out: &mut Growing) -> Result<(), AllocError>
         ensures { OnOk result (Tells true (told_lines (left_by self.old)) self.old self.new out.old out.new) }
     {
-        match put_told(alloc, self.unspoken(), out) {
-            Ok(()) => {}
-            Err(error) => return Err(error),
-        }
+        put_told(alloc, self.unspoken(), out)?;
         self.spoken = self.sent().len();
         self.speaks = true;
         Ok(())
@@ -418,10 +401,7 @@ impl<'t, 'b> Walk<'t, 'b> {
         ensures text { OnOk result ((start : Start) → seen_by self.old.seen ≡ sight_above start (place_of self.old)
             → Writes (renewed_sent start (place_of self.old) more text.now) (renewed_sent_place start (place_of self.old) more text.now) self.new out.old out.new) }
     {
-        match self.keep_sent(alloc, text, out) {
-            Ok(()) => {}
-            Err(error) => return Err(error),
-        }
+        self.keep_sent(alloc, text, out)?;
         if more {
             return Ok(());
         }
@@ -603,14 +583,8 @@ fn renew(
     let mut stays = false;
     for (place, line) in lines.iter().enumerate() {
         let more = more_say_after(lines, place);
-        match walk.write_line(alloc, conn, line, stays, more, out) {
-            Ok(()) => {}
-            Err(error) => return Err(error),
-        }
-        match stays_after(alloc, stays, line) {
-            Ok(after) => stays = after,
-            Err(error) => return Err(error),
-        }
+        walk.write_line(alloc, conn, line, stays, more, out)?;
+        stays = stays_after(alloc, stays, line)?;
     }
     Ok(())
 }
@@ -621,10 +595,7 @@ impl<'t, 'b> Walk<'t, 'b> {
         ensures { OnOk result (Tells self.old.speaks (told_lines (left_by self.old) ++ error_text (nat_lt before self.old.at) (sight_here self.old).cause)
             self.old self.new out.old out.new) }
     {
-        match put_told(alloc, self.unspoken(), out) {
-            Ok(()) => {}
-            Err(error) => return Err(error),
-        }
+        put_told(alloc, self.unspoken(), out)?;
         self.spoken = self.sent().len();
         put_error(before < self.at, self.sight().cause, out);
         Ok(())
@@ -650,10 +621,8 @@ impl<'t, 'b> Walk<'t, 'b> {
             return Ok(());
         }
         let before = self.at;
-        match self.pass_octets(conn, more) {
-            Ok(()) => self.tell(alloc, before, out),
-            Err(error) => Err(error),
-        }
+        self.pass_octets(conn, more)?;
+        self.tell(alloc, before, out)
     }
 
     /// Plays a line of the script, and writes what it leads to.
@@ -726,10 +695,7 @@ fn fill(
 {
     for line in lines {
         put_line(line, out);
-        match walk.fill_line(alloc, conn, line, out) {
-            Ok(()) => {}
-            Err(error) => return Err(error),
-        }
+        walk.fill_line(alloc, conn, line, out)?;
     }
     Ok(())
 }
@@ -766,10 +732,8 @@ fn bless_on(
 {
     let mut walk = Walk::new(alloc, sent);
     let mut out = Growing::new(alloc);
-    match write_anew(alloc, conn, lines, &mut walk, &mut out) {
-        Ok(()) => out.finish(),
-        Err(error) => Err(error),
-    }
+    write_anew(alloc, conn, lines, &mut walk, &mut out)?;
+    out.finish()
 }
 
 /// The lines of a case written anew, each with a line feed: with this book, these limits and these settings, lines `;<`

@@ -32,6 +32,22 @@ impl Growing {
         }
     }
 
+    /// No part yet, with memory for this many octets. Where that is refused, no part is taken.
+    pub(crate) fn with_capacity(alloc: Global, count: usize) -> Growing
+        ensures { result.octets.items ≡ [] }
+    {
+        match Vec::with_capacity(alloc, count) {
+            Ok(octets) => Growing {
+                octets,
+                refused: false,
+            },
+            Err(_) => Growing {
+                octets: Vec::new(alloc),
+                refused: true,
+            },
+        }
+    }
+
     /// The text.
     ///
     /// `AllocError` where memory for a part was refused.
@@ -52,6 +68,19 @@ impl Growing {
             return;
         }
         match self.octets.extend_from_slice(octets) {
+            Ok(()) => {}
+            Err(_) => self.refused = true,
+        }
+    }
+
+    /// Puts an octet last.
+    fn push(&mut self, octet: u8)
+        ensures { Gains (octet ∷ []) self.old self.new }
+    {
+        if self.refused {
+            return;
+        }
+        match self.octets.push(octet) {
             Ok(()) => {}
             Err(_) => self.refused = true,
         }
@@ -98,7 +127,7 @@ impl Growing {
         if octet == b'\\' || octet == b'#' {
             self.put(&[b'\\', octet]);
         } else if is_printable(octet) {
-            self.put(&[octet]);
+            self.push(octet);
         } else {
             self.put(b"\\");
             self.digits(octet);

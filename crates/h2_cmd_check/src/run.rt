@@ -50,17 +50,14 @@ fn take_item(
     ensures ready { conn.new ≡ going conn.new.state [] }
     ensures takes { IfOk result (λ used. TakesNext conn.old.state octets.now (seen_by seen.old) conn.new.state (seen_by seen.new) used) }
 {
-    match conn.take_and_report(octets, &mut seen.sent) {
-        Ok(Some(taken)) => {
-            seen.items += 1;
-            seen.first = cause_or(seen.first, taken.cause);
-            seen.cause = taken.cause;
-            seen.ignored = taken.ignored;
-            Ok(Some(taken.used))
-        }
-        Ok(None) => Ok(None),
-        Err(error) => Err(error),
-    }
+    let Some(taken) = conn.take_and_report(octets, &mut seen.sent)? else {
+        return Ok(None);
+    };
+    seen.items += 1;
+    seen.first = cause_or(seen.first, taken.cause);
+    seen.cause = taken.cause;
+    seen.ignored = taken.ignored;
+    Ok(Some(taken.used))
 }
 
 /// Takes the items that octets have from a place on, and gives the place after them.
@@ -84,10 +81,9 @@ pub(crate) fn take_items(
 {
     let mut at = start;
     loop {
-        match take_item(conn, octets_from(octets, at), seen) {
-            Ok(Some(used)) => at += used,
-            Ok(None) => return Ok(at),
-            Err(error) => return Err(error),
+        match take_item(conn, octets_from(octets, at), seen)? {
+            Some(used) => at += used,
+            None => return Ok(at),
         }
     }
 }

@@ -179,6 +179,9 @@ fn put_wrongs(alloc: Global, file: &str, wrongs: &[Wrong<'_>], out: &mut Growing
     }
 }
 
+/// How many octets the line of a result has mostly, at most.
+const RESULT: usize = 128;
+
 /// The text of the result with this number, from 1.
 ///
 /// `AllocError` where memory is refused.
@@ -190,7 +193,7 @@ pub fn verdict_text(
 ) -> Result<Vec<u8>, AllocError>
     ensures { IfOk result (λ text. IsResult number title.entry.file.now (option_map (λ t. t.now) title.entry.title) (outcome_by verdict.now) text.items) }
 {
-    let mut out = Growing::new(alloc);
+    let mut out = Growing::with_capacity(alloc, RESULT);
     put_result(number, title, verdict, &mut out);
     match verdict {
         CaseVerdict::Skipped | CaseVerdict::Holds => {}

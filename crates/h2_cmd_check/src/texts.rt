@@ -87,10 +87,7 @@ pub fn octets_of_lines(alloc: Global, lines: &[&[u8]]) -> Result<Vec<u8>, AllocE
 {
     let mut octets = Vec::new(alloc);
     for line in lines {
-        match add_octets(alloc, line, &mut octets) {
-            Ok(()) => {}
-            Err(error) => return Err(error),
-        }
+        add_octets(alloc, line, &mut octets)?;
     }
     Ok(octets)
 }
@@ -115,18 +112,10 @@ fn text_of(
     ensures { IfOk result (λ text. IsTextOf false false item.now (string_bytes text)) }
 {
     let mut account = Account::new(alloc);
-    match explainer.account(alloc, conn, item, &mut account) {
-        Ok(()) => {}
-        Err(error) => return Err(error),
-    }
-    let mut lines = match ItemLines::new(alloc) {
-        Ok(lines) => lines,
-        Err(error) => return Err(error),
-    };
-    match lines.put(item, &account, explainer.block(conn), Paint(false)) {
-        Ok(()) => text_with(alloc, lines.octets()),
-        Err(error) => Err(error),
-    }
+    explainer.account(alloc, conn, item, &mut account)?;
+    let mut lines = ItemLines::new(alloc)?;
+    lines.put(item, &account, explainer.block(conn), Paint(false))?;
+    text_with(alloc, lines.octets())
 }
 
 /// Appends a text to others.
@@ -159,10 +148,8 @@ fn take_text(
     sent.clear();
     let stream = stream_of_next(conn, octets);
     let before = moment_at(conn, stream);
-    let taken = match conn.take_and_lend(octets, &mut explainer.memory, sent) {
-        Ok(Some(taken)) => taken,
-        Ok(None) => return Ok(None),
-        Err(error) => return Err(error),
+    let Some(taken) = conn.take_and_lend(octets, &mut explainer.memory, sent)? else {
+        return Ok(None);
     };
     let used = taken.used;
     let own = first_octets(octets, used);
@@ -180,14 +167,8 @@ fn take_text(
         before,
         after: moment_at(conn, stream),
     };
-    let text = match text_of(alloc, explainer, conn, &item) {
-        Ok(text) => text,
-        Err(error) => return Err(error),
-    };
-    match add_text(text, texts) {
-        Ok(()) => {}
-        Err(error) => return Err(error),
-    }
+    let text = text_of(alloc, explainer, conn, &item)?;
+    add_text(text, texts)?;
     Ok(Some(used))
 }
 
@@ -206,10 +187,9 @@ fn explain_items(
     let mut at = 0usize;
     loop {
         let rest = octets_from(octets, at);
-        match take_text(alloc, explainer, conn, rest, at, &mut sent, &mut texts) {
-            Ok(Some(used)) => at += used,
-            Ok(None) => return Ok(texts),
-            Err(error) => return Err(error),
+        match take_text(alloc, explainer, conn, rest, at, &mut sent, &mut texts)? {
+            Some(used) => at += used,
+            None => return Ok(texts),
         }
     }
 }
@@ -223,10 +203,8 @@ fn explain_on(
     requires ready { conn.old ≡ going conn.old.state [] }
     ensures { IfOk result (λ texts. AreTexts conn.old.state octets.now 0 0 (map string_bytes texts.items)) }
 {
-    match ItemExplainer::new(alloc) {
-        Ok(mut explainer) => explain_items(alloc, &mut explainer, conn, octets),
-        Err(error) => Err(error),
-    }
+    let mut explainer = ItemExplainer::new(alloc)?;
+    explain_items(alloc, &mut explainer, conn, octets)
 }
 
 /// The texts of the items of octets, with this book, these limits and these settings.

@@ -20,7 +20,7 @@ ghost use Rattle.h2_cmd_check.specs.declared.case_debugger.CaseDebugger.TheVaria
 ghost use Rattle.h2_cmd_check.specs.Walks.{Begins, Closes, Commands, Compares, Finds, Goes, IsWithin, Leaves, Loads, Passes, Speaks, Walks, left_by, outcome_by, place_of, sent_here, sight_here};
 
 use crate::case_debugger::CaseDebugger;
-use crate::command::{Given, fault_line, give_line, is_obeyed};
+use crate::command::{Given, fault_line, is_obeyed};
 use crate::pattern::{closest, explains, shows};
 use crate::run::{ItemsTaken, take_items};
 use crate::texts::text_before;
@@ -411,13 +411,16 @@ impl<'t, 'b> Walk<'t, 'b> {
         ensures ignored { result.ignored ≡ (sight_here self.now).ignored }
     {
         match &self.debugger {
-            CaseDebugger::Present(debugger) => Sight {
-                items: debugger.pos(),
-                sent: debugger.sent(),
-                first: debugger.cause(),
-                cause: debugger.cause(),
-                ignored: debugger.ignored(),
-            },
+            CaseDebugger::Present(boxed) => {
+                let debugger = boxed.as_ref();
+                Sight {
+                    items: debugger.pos(),
+                    sent: debugger.sent(),
+                    first: debugger.cause(),
+                    cause: debugger.cause(),
+                    ignored: debugger.ignored(),
+                }
+            }
             CaseDebugger::Absent | CaseDebugger::Left(_) => Sight {
                 items: self.seen.items,
                 sent: self.seen.sent.as_slice(),
@@ -490,22 +493,16 @@ impl<'t, 'b> Walk<'t, 'b> {
         self.leave_debugger(more)
     }
 
-    // A debugger is large, and a function pays for the space of its locals: most cases have none.
     /// As `leave`, where there is a debugger.
-    #[inline(never)]
     fn leave_debugger(&mut self, more: &[u8]) -> Result<(), AllocError>
         ensures { OnOk result (Leaves more.now self.old self.new) }
     {
         if self.debugger.is_present() {
             self.spoken = self.seen.sent.len();
         }
-        match mem::replace(&mut self.debugger, CaseDebugger::Absent).leave(more) {
-            Ok(debugger) => {
-                self.debugger = debugger;
-                Ok(())
-            }
-            Err(error) => Err(error),
-        }
+        let debugger = mem::replace(&mut self.debugger, CaseDebugger::Absent);
+        self.debugger = debugger.leave(more)?;
+        Ok(())
     }
 
     /// More octets of the client: the items that they complete are taken.
@@ -527,14 +524,9 @@ impl<'t, 'b> Walk<'t, 'b> {
         let Ok(()) = self.octets.extend_from_slice(more) else {
             return Err(AllocError);
         };
-        match take_items(conn, self.octets.as_slice(), self.at, &mut self.seen) {
-            Ok(at) => {
-                self.at = at;
-                self.end = self.ending(conn);
-                Ok(())
-            }
-            Err(error) => Err(error),
-        }
+        self.at = take_items(conn, self.octets.as_slice(), self.at, &mut self.seen)?;
+        self.end = self.ending(conn);
+        Ok(())
     }
 
     /// Which error ended the connection, if one did: the last item is it.
@@ -563,23 +555,19 @@ impl<'t, 'b> Walk<'t, 'b> {
         if more.is_empty() {
             return Ok(());
         }
-        match self.close(alloc) {
-            Ok(()) => {}
-            Err(error) => return Err(error),
-        }
-        match self.leave(more) {
-            Ok(()) => self.feed(conn, more),
-            Err(error) => Err(error),
-        }
+        self.close(alloc)?;
+        self.leave(more)?;
+        self.feed(conn, more)
     }
 
-    /// A line of the script.
+    /// A line of the script. `space` is for its octets.
     fn play(
         &mut self,
         alloc: Global,
         conn: &mut Conn<'_, Global>,
         number: usize,
         text: &'t [u8],
+        space: &mut Vec<u8>,
     ) -> Result<(), AllocError>
         requires ready { conn.old ≡ going conn.old.state [] }
         requires within { IsWithin self.old }
@@ -589,9 +577,9 @@ impl<'t, 'b> Walk<'t, 'b> {
         ensures goes { OnOk result ((start : Start) → Walks start self.old conn.old
             → Goes (plays start (place_of self.old) (octets_at text.now)) (played start (place_of self.old) (octets_at text.now)) self.old self.new) }
     {
-        let mut more = Vec::new(alloc);
-        match add_line(alloc, text, &mut more) {
-            Ok(()) => self.play_octets(alloc, conn, more.as_slice()),
+        space.clear();
+        match add_line(alloc, text, space) {
+            Ok(()) => self.play_octets(alloc, conn, space.as_slice()),
             Err(LineFault::Bad(kind)) => {
                 let why = kind_words(kind);
                 self.fault(alloc, number, text, why)
@@ -679,42 +667,43 @@ impl<'t, 'b> Walk<'t, 'b> {
     ) -> Result<(), AllocError>
         ensures { OnOk result (Compares (summed text.now (left_by self.old)) self.old self.new) }
     {
-        match summed(alloc, text, self.unspoken()) {
-            Ok(Some(count)) => {
+        match summed(alloc, text, self.unspoken())? {
+            Some(count) => {
                 // A frame has nine octets or more; this is for the prover, which then sees that the sum fits.
                 if count > 0 {
                     self.spoken += count;
                 }
                 Ok(())
             }
-            Ok(None) => self.refuse_summary(alloc, number, text, kind),
-            Err(error) => Err(error),
+            None => self.refuse_summary(alloc, number, text, kind),
         }
     }
 
-    /// A frame that the server sends.
+    /// A frame that the server sends. `space` is for its octets.
     fn expect_frame(
         &mut self,
         alloc: Global,
         number: usize,
         text: &'t [u8],
+        space: &mut Vec<u8>,
     ) -> Result<(), AllocError>
         ensures { OnOk result (Compares (next_of text.now (left_by self.old)) self.old self.new) }
     {
-        let mut wanted = Vec::new(alloc);
-        match add_line(alloc, text, &mut wanted) {
-            Ok(()) => self.compare_frame(alloc, number, text, wanted.as_slice()),
+        space.clear();
+        match add_line(alloc, text, space) {
+            Ok(()) => self.compare_frame(alloc, number, text, space.as_slice()),
             Err(LineFault::Bad(kind)) => self.compare_summary(alloc, number, text, kind),
             Err(LineFault::NoMemory) => Err(AllocError),
         }
     }
 
-    /// A frame that the server sends, or `-` for none, or `...` for any.
+    /// A frame that the server sends, or `-` for none, or `...` for any. `space` is for its octets.
     fn expect_sent(
         &mut self,
         alloc: Global,
         number: usize,
         text: &'t [u8],
+        space: &mut Vec<u8>,
     ) -> Result<(), AllocError>
         ensures { OnOk result (Speaks text.now self.old self.new) }
     {
@@ -728,7 +717,7 @@ impl<'t, 'b> Walk<'t, 'b> {
         if text == b"-".as_slice() {
             return self.expect_none(alloc, number, text);
         }
-        self.expect_frame(alloc, number, text)
+        self.expect_frame(alloc, number, text, space)
     }
 
     /// The text of the state; with a debugger what `show` prints at its position.
@@ -736,8 +725,9 @@ impl<'t, 'b> Walk<'t, 'b> {
         ensures { IfOk result (λ text. string_bytes text ≡ text_by self.now.debugger (show (view conn.now.state))) }
     {
         match &self.debugger {
-            CaseDebugger::Present(debugger) => {
+            CaseDebugger::Present(boxed) => {
                 let reply = Reply::Shown;
+                let debugger = boxed.as_ref();
                 string_of(alloc, &ReplyText { reply, debugger })
             }
             CaseDebugger::Absent | CaseDebugger::Left(_) => conn.show(alloc),
@@ -754,10 +744,7 @@ impl<'t, 'b> Walk<'t, 'b> {
     ) -> Result<(), AllocError>
         ensures { OnOk result (Finds (shows (text_by self.old.debugger (show (view conn.now.state))) text.now) self.old self.new) }
     {
-        let state = match self.shown(alloc, conn) {
-            Ok(state) => state,
-            Err(error) => return Err(error),
-        };
+        let state = self.shown(alloc, conn)?;
         let shown = state.as_str().as_bytes();
         let found = found_line(shown, text);
         self.find(alloc, shows(shown, text), number, text, found)
@@ -777,29 +764,27 @@ impl<'t, 'b> Walk<'t, 'b> {
 
 impl<'t, 'b> Walk<'t, 'b> {
     /// Here is the position of the debugger. Where there is none, the octets of the lines above are loaded into one.
-    fn load(&mut self, given: &Given<'_, 'b>) -> Result<(), AllocError>
+    fn load(&mut self, alloc: Global, given: &Given<'_, 'b>) -> Result<(), AllocError>
         ensures { OnOk result (Loads given.now self.old self.new) }
     {
-        match mem::replace(&mut self.debugger, CaseDebugger::Absent).enter(given, &self.octets) {
-            Ok(debugger) => {
-                self.debugger = debugger;
-                Ok(())
-            }
-            Err(error) => Err(error),
-        }
+        let debugger = mem::replace(&mut self.debugger, CaseDebugger::Absent);
+        self.debugger = debugger.enter(alloc, given, &self.octets)?;
+        Ok(())
     }
 
     /// Gives the debugger a line, and says with which fault it is refused, if it is. Nothing is spoken about then.
-    fn give(&mut self, given: &Given<'_, 'b>, line: &[u8]) -> Result<Option<u8>, AllocError>
+    fn give(
+        &mut self,
+        alloc: Global,
+        given: &Given<'_, 'b>,
+        line: &[u8],
+    ) -> Result<Option<u8>, AllocError>
         ensures { IfOk result (λ fault. Commands given.now line.now fault self.old self.new) }
     {
-        match self.load(given) {
-            Ok(()) => {}
-            Err(error) => return Err(error),
-        }
+        self.load(alloc, given)?;
         self.spoken = 0;
         match &mut self.debugger {
-            CaseDebugger::Present(debugger) => give_line(debugger, line),
+            CaseDebugger::Present(debugger) => debugger.give(line),
             CaseDebugger::Absent | CaseDebugger::Left(_) => Err(AllocError),
         }
     }
@@ -816,14 +801,8 @@ impl<'t, 'b> Walk<'t, 'b> {
         ensures goes { OnOk result ((start : Start) → Begins start given.now → seen_by self.old.seen ≡ sight_above start (place_of self.old)
             → Passes start (said.Command text.now) self.old self.new) }
     {
-        match self.close(alloc) {
-            Ok(()) => {}
-            Err(error) => return Err(error),
-        }
-        let fault = match self.give(given, text) {
-            Ok(fault) => fault,
-            Err(error) => return Err(error),
-        };
+        self.close(alloc)?;
+        let fault = self.give(alloc, given, text)?;
         let found = fault_line(fault).as_bytes();
         self.find(alloc, is_obeyed(fault), number, text, found)
     }
@@ -880,7 +859,7 @@ impl<'t, 'b> Walk<'t, 'b> {
         self.find(alloc, explains(said, text), number, text, found)
     }
 
-    /// A line of the case, with its number in the file.
+    /// A line of the case, with its number in the file. `space` is for its octets.
     fn take_line(
         &mut self,
         alloc: Global,
@@ -888,6 +867,7 @@ impl<'t, 'b> Walk<'t, 'b> {
         given: &Given<'_, 'b>,
         number: usize,
         line: &'t [u8],
+        space: &mut Vec<u8>,
     ) -> Result<(), AllocError>
         requires ready { conn.old ≡ going conn.old.state [] }
         requires within { IsWithin self.old }
@@ -898,9 +878,9 @@ impl<'t, 'b> Walk<'t, 'b> {
             → Passes start (line_said line.now) self.old self.new) }
     {
         match line_of(line) {
-            Line::Script(text) => self.play(alloc, conn, number, text),
+            Line::Script(text) => self.play(alloc, conn, number, text, space),
             Line::Title(_) | Line::Words(_) => Ok(()),
-            Line::Sent(text) => self.expect_sent(alloc, number, text),
+            Line::Sent(text) => self.expect_sent(alloc, number, text, space),
             Line::Shown(text) => self.expect_shown(alloc, conn, number, text),
             Line::Cause(text) => self.expect_cause(alloc, number, text),
             Line::Reason(text) => self.expect_reason(alloc, number, text),
@@ -943,11 +923,10 @@ fn go_over<'t, 'b>(
     ensures { OnOk result ((start : Start) → Begins start given.now → Walks start walk.old conn.old
         → walk.new.holds ≡ (walk.old.holds && all_hold start (place_of walk.old) (map (λ l. line_said l.now) lines.now))) }
 {
+    let mut space = Vec::new(alloc);
     for (place, line) in lines.iter().enumerate() {
-        match walk.take_line(alloc, conn, given, number.saturating_add(place), line) {
-            Ok(()) => {}
-            Err(error) => return Err(error),
-        }
+        let number = number.saturating_add(place);
+        walk.take_line(alloc, conn, given, number, line, &mut space)?;
     }
     walk.close(alloc)
 }
@@ -969,8 +948,6 @@ pub(crate) fn check_lines<'t, 'b>(
     ensures { OnOk result ((start : Start) → Begins start given.now → Walks start walk.old conn.old
         → walk.new.holds ≡ (walk.old.holds && all_hold start (place_of walk.old) (map (λ l. line_said l.now) lines.now))) }
 {
-    match go_over(alloc, conn, given, lines, number, walk) {
-        Ok(()) => walk.tell_rest(alloc),
-        Err(error) => Err(error),
-    }
+    go_over(alloc, conn, given, lines, number, walk)?;
+    walk.tell_rest(alloc)
 }

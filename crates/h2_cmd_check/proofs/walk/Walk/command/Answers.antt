@@ -7,13 +7,13 @@ pub returns-clause-same : goal.returns-clause-same
 returns-clause-same c =
     on_ok_weaker c.find.result
     (λ f. (
-      f.octets ∙ c.in-Ok-give.ensures.octets ∙ c.in-Ok.ensures.octets,
-      (f.at ∙ c.in-Ok-give.ensures.at ∙ c.in-Ok.ensures.at, f.seen ∙ c.in-Ok-give.ensures.seen ∙ c.in-Ok.ensures.seen),
+      f.octets ∙ c.in_ok-fault.ensures.octets ∙ c.in_ok-close.ensures.octets,
+      (f.at ∙ c.in_ok-fault.ensures.at ∙ c.in_ok-close.ensures.at, f.seen ∙ c.in_ok-fault.ensures.seen ∙ c.in_ok-close.ensures.seen),
     ))
     c.find.ensures
 
 pub returns-clause-goes : goal.returns-clause-goes
 returns-clause-goes c =
     on_ok_weaker c.find.result
-    (λ found. λ start begins seen. goes_commanded start c.args.given.now c.args.self.now c.close.new.self c.give.new.self c.find.new.self c.args.text.now c.in-Ok-give.fault begins seen c.in-Ok.ensures c.in-Ok-give.ensures (rw c.is_obeyed.ensures at found))
+    (λ found. λ start begins seen. goes_commanded start c.args.given.now c.args.self.now c.close.new.self c.give.new.self c.find.new.self c.args.text.now c.in_ok-fault.fault begins seen c.in_ok-close.ensures c.in_ok-fault.ensures (rw c.is_obeyed.ensures at found))
     c.find.ensures
