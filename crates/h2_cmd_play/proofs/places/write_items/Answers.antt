@@ -41,11 +41,11 @@ loop-alloc-preserved g c =
       within = within.1;
       new = item.after;
       counted = omega (arith, within.0, c.loop-alloc.invariant.counted);
-      writer = c.write_place.ensures.flag ∙ ap (λ (r : Result (Unit {0}) PlacesFault). not_written r) c.in-Ok.is;
+      writer = c.write_place.ensures.flag ∙ ap (λ (r : Result (Unit {0}) PlacesFault). not_written r) c.in_ok-write_place-in-Ok-Some.was;
       name = c.write_place.ensures.name ∙ c.loop-alloc.invariant.name;
       left = drop-next c.loop-alloc.place items _ _ left;
       last = within-next c.loop-alloc.place c.args.shown.last c.loop-alloc.invariant.last going;
-      printed = λ held is. item-written c.args.shown.first c.loop-alloc.place items _ _ held _ _ left (c.loop-alloc.invariant.printed held is) (rw c.as_slice.ensures.value at c.in-Ok.ensures.octets);
+      printed = λ held is. item-written c.args.shown.first c.loop-alloc.place items _ _ held _ _ left (c.loop-alloc.invariant.printed held is) (rw c.as_slice.ensures.value at c.in_ok-write_place-in-Ok-Some.ensures.octets);
     }
 
 pub returns-in-Ok-None-clause-printed : goal.returns-in-Ok-None-clause-printed

@@ -4,11 +4,11 @@ use Rattle.h2_page.proofs.Told.{reported-event}
 use Rattle.h2_spec.specs.declared.connection.ConnectionState.{ConnectionState}
 use Rattle.h2_page.proofs.items.take_why.Goals as goal
 
-pub returns-in-Ok-Some : goal.returns-in-Ok-Some
-returns-in-Ok-Some g c =
-    let first = rw c.in-Ok-Some.field-0-is at c.in-Ok-Some.ensures.ok in
-    let report = rw c.in-Ok-Some.field-0-is at c.in-Ok-Some.ensures.report in
-    let told = reported-event _ _ first.event _ _ c.in-Ok-Some.taken first.comes report in
+pub returns : goal.returns
+returns g c =
+    let first = rw c.in-Some.is at c.in_ok-taken.ensures.ok in
+    let report = rw c.in-Some.is at c.in_ok-taken.ensures.report in
+    let told = reported-event _ _ first.event _ _ c.in-Some.taken first.comes report in
     record {
       event = first.event;
       comes = first.comes;
@@ -19,7 +19,7 @@ returns-in-Ok-Some g c =
       ignored = told.1;
     }
 
-pub returns-in-Ok-None : goal.returns-in-Ok-None
-returns-in-Ok-None g c =
-    let first = rw c.in-Ok-None.field-0-is at c.in-Ok-None.ensures.ok in
+pub returns-in_default : goal.returns-in_default
+returns-in_default g c =
+    let first = rw c.in_default.is at c.in_ok-taken.ensures.ok in
     first.none

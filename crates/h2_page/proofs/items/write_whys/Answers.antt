@@ -42,10 +42,10 @@ loop-alloc-preserved g c =
       within = within.1;
       new = item.after;
       counted = omega (arith, within.0, c.loop-alloc.invariant.counted);
-      writer = c.write_why.ensures.flag ∙ ap (λ (r : Result (Unit {0}) PlacesFault). not_written r) c.in-Ok.is;
+      writer = c.write_why.ensures.flag ∙ ap (λ (r : Result (Unit {0}) PlacesFault). not_written r) c.in_ok-write_why-in-Ok-Some.was;
       left = drop-next c.loop-alloc.place items _ _ left;
       last = within-next c.loop-alloc.place c.args.shown.last c.loop-alloc.invariant.last going;
-      printed = λ held is. item-written c.args.shown.first c.loop-alloc.place items _ _ held _ _ left (c.loop-alloc.invariant.printed held is) c.in-Ok.ensures.octets;
+      printed = λ held is. item-written c.args.shown.first c.loop-alloc.place items _ _ held _ _ left (c.loop-alloc.invariant.printed held is) c.in_ok-write_why-in-Ok-Some.ensures.octets;
     }
 
 pub returns-in-Ok-None-clause-printed : goal.returns-in-Ok-None-clause-printed

@@ -11,13 +11,13 @@ loop-served-preserved g c =
     record {
       lines =
           lines-more (start_of c.args.book.now c.args.config) [] c.loop-served.served (c.loop-served.served + 1) _ (g.O.Output.written c.loop-served.output) _
-          _ (g.L.Listener.events c.loop-served.listener) _ refl c.loop-served.invariant.lines c.in-Ok-serve_next.ensures.lines;
-      writer = c.in-Ok-serve_next.ensures.flag;
-      name = c.in-Ok-serve_next.ensures.name ∙ c.loop-served.invariant.name;
+          _ (g.L.Listener.events c.loop-served.listener) _ refl c.loop-served.invariant.lines c.in_ok-serve_next.ensures.lines;
+      writer = c.in_ok-serve_next.ensures.flag;
+      name = c.in_ok-serve_next.ensures.name ∙ c.loop-served.invariant.name;
     }
 
-pub returns-in-Err-serve_next-clause-wires : goal.returns-in-Err-serve_next-clause-wires
-returns-in-Err-serve_next-clause-wires g c =
+pub returns-in_err-serve_next-clause-wires : goal.returns-in_err-serve_next-clause-wires
+returns-in_err-serve_next-clause-wires g c =
     let kept = c.loop-served.invariant.lines in
     handles-then (start_of c.args.book.now c.args.config) kept.0 c.loop-served.served 1 c.args.count _ _ _ kept.1 (omega (arith, c.loop-served-test.true)) kept.3
-    c.in-Err-serve_next.ensures.wires
+    c.in_err-serve_next.ensures.wires

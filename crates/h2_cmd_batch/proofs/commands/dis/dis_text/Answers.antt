@@ -4,7 +4,7 @@ use Rattle.h2_cmd_batch.specs.ScriptPrograms.{printed_dis}
 use Rattle.h2_cmd_batch.specs.Printing.{done}
 use Rattle.h2_cmd_batch.proofs.commands.dis.dis_text.Goals as goal
 
-pub returns-in-Ok-disassemble : goal.returns-in-Ok-disassemble
-returns-in-Ok-disassemble c =
-    let text : string_bytes c.in-Ok-disassemble.text ≡ written c.in-Ok.octets.items = search rules in
-    ap (λ (o : Option (List ℕ)). printed_dis o) c.in-Ok.ensures.ok ∙ ap (λ (t : List ℕ). done t) (sym text)
+pub returns-in-Ok : goal.returns-in-Ok
+returns-in-Ok c =
+    let text : string_bytes c.in-Ok.text ≡ written c.in_ok-octets.octets.items = search rules in
+    ap (λ (o : Option (List ℕ)). printed_dis o) c.in_ok-octets.ensures.ok ∙ ap (λ (t : List ℕ). done t) (sym text)

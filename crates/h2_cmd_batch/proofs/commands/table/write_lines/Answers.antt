@@ -1,4 +1,5 @@
 use Rattle.std.proofs.Common.{◌∙◌, ◌≤◌, ◌<◌, Result, length, arith, ap, refl, sym}
+use Rattle.std.proofs.lemmas.Result.{err_from_is_err_and}
 use Rattle.h2_cmd_batch.specs.Each.{not_written}
 use Rattle.h2_cmd_batch.specs.TableProgram.{lines_of, printed_parts}
 use Rattle.h2_cmd_batch.specs.declared.commands.each.PrintFault.{PrintFault}
@@ -17,17 +18,19 @@ pub loop-rest-preserved : goal.loop-rest-preserved
 loop-rest-preserved g c =
     let some : 0 < length c.loop-rest.rest.now = grind (arith, c.loop-rest-test.ensures) in
     record {
-      writer = c.write_line.ensures.flag ∙ ap (λ (r : Result (Unit {0}) PrintFault). not_written r) c.in-Ok.is;
+      writer = c.write_line.ensures.flag ∙ ap (λ (r : Result (Unit {0}) PrintFault). not_written r) c.in_ok-write_line.was;
       name = c.write_line.ensures.name ∙ c.loop-rest.invariant.name;
       printed = λ held is.
           wrote-line _ _ _ c.loop-rest.rest.now c.first_line.result.0.now c.first_line.result.1.now held _ _ some c.first_line.ensures.0 c.first_line.ensures.1
-          c.in-Ok.ensures.table c.in-Ok.ensures.octets (c.loop-rest.invariant.printed held is);
+          c.in_ok-write_line.ensures.table c.in_ok-write_line.ensures.octets (c.loop-rest.invariant.printed held is);
     }
 
-pub returns-in-Err-clause-printed : goal.returns-in-Err-clause-printed
-returns-in-Err-clause-printed g c = λ well held is.
-    let broken = sym (ap (λ (r : Result (Unit {0}) PrintFault). not_written r) c.in-Err.is) ∙ sym c.write_line.ensures.flag ∙ well in
-    wrote-some (printed_parts c.args.table.now (lines_of c.args.input.now)) _ _ c.loop-rest.rest.now held _ _ c.in-Err.why broken c.in-Err.ensures.err (c.loop-rest.invariant.printed held is)
+pub returns-in_err-write_line-clause-printed : goal.returns-in_err-write_line-clause-printed
+returns-in_err-write_line-clause-printed g c =
+    let p = err_from_is_err_and c.from_residual.result c.from_residual.ensures.1 in
+    rw (p.1, p.2) (λ well held is.
+    let broken = sym (ap (λ (r : Result (Unit {0}) PrintFault). not_written r) c.in_err-write_line.was) ∙ sym c.write_line.ensures.flag ∙ well in
+    wrote-some (printed_parts c.args.table.now (lines_of c.args.input.now)) _ _ c.loop-rest.rest.now held _ _ c.in_err-write_line.field-0.0 broken c.in_err-write_line.ensures.err (c.loop-rest.invariant.printed held is))
 
 pub returns-clause-printed : goal.returns-clause-printed
 returns-clause-printed g c = λ well held is.

@@ -1,4 +1,5 @@
 use Rattle.std.proofs.Common.{◌∙◌, ◌++◌, [], false, refl, sym, ap, arith}
+use Rattle.std.proofs.lemmas.Result.{err_from_is_err_and}
 use Rattle.h2_conn.specs.Connection.{Connection}
 use Rattle.h2_serve.proofs.Exchanges.{count-more, drives-going, fault-drives, fed-no_item, has_read-more, has_read-none, reads-end, exchanges-then, exchanges-write, nonempty-one}
 use Rattle.h2_serve.proofs.driving.driver.drive_with.Goals as goal
@@ -36,55 +37,53 @@ loop-turn-init g c =
       empty = w.ok;
     }
 
-pub returns-in-Ok-eq0-clause-drives : goal.returns-in-Ok-eq0-clause-drives
-returns-in-Ok-eq0-clause-drives g c =
+pub returns-then-branch-eq0-clause-drives : goal.returns-then-branch-eq0-clause-drives
+returns-then-branch-eq0-clause-drives g c =
     let so_far = c.loop-turn.invariant in
-    let t = c.in-Ok-eq0.ensures.turn in
+    let t = c.in_ok-take_turn.ensures.turn in
     drives-going _ _ _ _ so_far.going (λ e. cc) (record {
       lengths = so_far.lengths ++ t.lengths;
       exchanges = exchanges-then false so_far.exchanges t.exchanges;
       reads =
-          reads-end _ _ so_far.lengths t.lengths _ so_far.count c.loop-turn-test.true so_far.nonempty t.reads
-          (omega (arith, c.in-Ok-eq0.field-0-test));
+          reads-end _ _ so_far.lengths t.lengths _ so_far.count c.loop-turn-test.true so_far.nonempty t.reads c.if-branch-eq0.true;
     })
 
-pub returns-in-Ok-eq0-clause-passes : goal.returns-in-Ok-eq0-clause-passes
-returns-in-Ok-eq0-clause-passes g c =
-    has_read-more _ _ _ _ _ _ c.loop-turn.invariant.passes c.in-Ok-eq0.ensures.passes
+pub returns-then-branch-eq0-clause-passes : goal.returns-then-branch-eq0-clause-passes
+returns-then-branch-eq0-clause-passes g c =
+    has_read-more _ _ _ _ _ _ c.loop-turn.invariant.passes c.in_ok-take_turn.ensures.passes
     (λ x y p q. g.met.D.Driven.passes_more _ _ _ _ x y p q)
 
-pub returns-in-Err-take_turn-clause-drives : goal.returns-in-Err-take_turn-clause-drives
-returns-in-Err-take_turn-clause-drives g c =
+pub returns-in_err-take_turn-clause-drives : goal.returns-in_err-take_turn-clause-drives
+returns-in_err-take_turn-clause-drives g c =
     let so_far = c.loop-turn.invariant in
-    fault-drives _ _ _ _ _ so_far.lengths _ so_far.count c.loop-turn-test.true so_far.nonempty so_far.going
+    let p = err_from_is_err_and c.from_residual.result c.from_residual.ensures.1 in
+    rw (p.1, p.2) (fault-drives _ _ _ _ _ so_far.lengths _ so_far.count c.loop-turn-test.true so_far.nonempty so_far.going
     so_far.exchanges
-    c.in-Err-take_turn.ensures.turn _ c.in-Err-take_turn.ensures.ends
+    c.in_err-take_turn.ensures.turn _ c.in_err-take_turn.ensures.ends)
 
-pub returns-in-Err-take_turn-clause-passes : goal.returns-in-Err-take_turn-clause-passes
-returns-in-Err-take_turn-clause-passes g c =
-    has_read-more _ _ _ _ _ _ c.loop-turn.invariant.passes c.in-Err-take_turn.ensures.passes
-    (λ x y p q. g.met.D.Driven.passes_more _ _ _ _ x y p q)
+pub returns-in_err-take_turn-clause-passes : goal.returns-in_err-take_turn-clause-passes
+returns-in_err-take_turn-clause-passes g c =
+    let p = err_from_is_err_and c.from_residual.result c.from_residual.ensures.1 in
+    rw (p.1, p.2) (has_read-more _ _ _ _ _ _ c.loop-turn.invariant.passes c.in_err-take_turn.ensures.passes
+    (λ x y p q. g.met.D.Driven.passes_more _ _ _ _ x y p q))
 
 pub loop-turn-preserved : goal.loop-turn-preserved
 loop-turn-preserved g c =
     let so_far = c.loop-turn.invariant in
-    let t = c.in-Ok-take_turn.ensures.turn in
+    let t = c.in_ok-take_turn.ensures.turn in
     record {
       lengths = so_far.lengths ++ t.lengths;
       exchanges = exchanges-then false so_far.exchanges t.exchanges;
       count = count-more so_far.lengths t.lengths _ _ so_far.count t.reads;
-      nonempty = nonempty-one so_far.lengths t.lengths _ so_far.nonempty t.reads (omega (
-        arith,
-        c.in-Ok-take_turn.field-0-test,
-      ));
+      nonempty = nonempty-one so_far.lengths t.lengths _ so_far.nonempty t.reads (omega (arith, c.if-branch-eq0.false));
       no_item = fed-no_item _ _ _ _ _ t.exchanges.feeds;
       going = so_far.going;
       kept = ap (λ (d : Connection). d.failed) t.exchanges.feeds.1.after;
-      ready = c.in-Ok-take_turn.ensures.ready;
-      passes = has_read-more _ _ _ _ _ _ so_far.passes c.in-Ok-take_turn.ensures.passes
+      ready = c.in_ok-take_turn.ensures.ready;
+      passes = has_read-more _ _ _ _ _ _ so_far.passes c.in_ok-take_turn.ensures.passes
           (λ x y p q. g.met.D.Driven.passes_more _ _ _ _ x y p q);
-      flag = c.in-Ok-take_turn.ensures.flag;
-      empty = c.in-Ok-take_turn.ensures.ends.0;
+      flag = c.in_ok-take_turn.ensures.flag;
+      empty = c.in_ok-take_turn.ensures.ends.0;
     }
 
 pub returns-in-None-clause-drives : goal.returns-in-None-clause-drives

@@ -1,5 +1,6 @@
 use Rattle.std.proofs.Common.{◌≡◌, ◌∙◌, ◌+◌, ◌++◌, ℕ, List, [], true, false, ap, arith, drop, length, length-drop, subst, sym, take}
 use Rattle.std.proofs.lemmas.List.{take-append-drop}
+use Rattle.std.proofs.lemmas.Result.{MatchResult-from_err, err_from_is_err_and}
 use Rattle.std.proofs.Math.Seq.{take-add, take-length}
 use Rattle.h2_conn.specs.Connection.{Connection}
 use Rattle.h2_conn.specs.Runs.{Fed, Halts}
@@ -33,7 +34,7 @@ loop-at-preserved g c =
     let rest = c.octets_from-rest.result.now in
     let piece = c.octets_up_to.result.now in
     let joined = portion-is c.args.octets.now rest piece c.loop-at.at c.portion-count.result c.octets_from-rest.ensures c.octets_up_to.ensures in
-    let fed = c.in-Ok.ensures.ok in
+    let fed = c.in_ok-take_octets.ensures.ok in
     record {
       within = omega (arith, i.within, c.portion-count.ensures.within, ap length c.octets_from-rest.ensures, length-drop c.loop-at.at c.args.octets.now);
       fed = subst (λ (xs : List ℕ). Fed (g.D.Driven.connection c.args.driven.now) xs (g.O.Pending.pending c.args.out.now) (g.D.Driven.connection c.take_octets.new.self) (g.O.Pending.pending c.take_octets.new.out)) joined
@@ -41,7 +42,7 @@ loop-at-preserved g c =
       going = ap (λ (d : Connection). d.failed) fed.1.after;
       ready = c.take_octets.ensures.ready;
       passes = subst (λ (xs : List ℕ). g.D.Driven.passes false c.args.driven.now xs c.take_octets.new.self) joined
-          (g.met.D.Driven.passes_more _ _ _ _ (take c.loop-at.at c.args.octets.now) piece i.passes c.in-Ok.ensures.passes);
+          (g.met.D.Driven.passes_more _ _ _ _ (take c.loop-at.at c.args.octets.now) piece i.passes c.in_ok-take_octets.ensures.passes);
     }
 
 pub loop-at-smaller : goal.loop-at-smaller
@@ -65,24 +66,27 @@ returns-clause-passes g c =
     let all = all-taken c.args.octets.now c.loop-at.at (omega (arith, i.within, c.loop-at-test.false)) in
     subst (λ (xs : List ℕ). g.D.Driven.passes false c.args.driven.now xs c.loop-at.driven) all i.passes
 
-pub returns-in-Err-clause-no_memory : goal.returns-in-Err-clause-no_memory
-returns-in-Err-clause-no_memory g c =
+pub returns-in_err-take_octets-clause-no_memory : goal.returns-in_err-take_octets-clause-no_memory
+returns-in_err-take_octets-clause-no_memory g c =
     let octets = c.args.octets.now in
     let i = c.loop-at.invariant in
     let end = c.loop-at.at + c.portion-count.result in
     let joined = portion-is octets c.octets_from-rest.result.now c.octets_up_to.result.now c.loop-at.at c.portion-count.result c.octets_from-rest.ensures c.octets_up_to.ensures in
-    let here = fed-halts _ _ _ (take c.loop-at.at octets) c.octets_up_to.result.now _ _ _ i.fed c.in-Err.ensures.no_memory in
-    subst (λ (xs : List ℕ). Halts (g.D.Driven.connection c.args.driven.now) xs (g.O.Pending.pending c.args.out.now) (g.D.Driven.connection c.take_octets.new.self) (g.O.Pending.pending c.take_octets.new.out))
+    let here = fed-halts _ _ _ (take c.loop-at.at octets) c.octets_up_to.result.now _ _ _ i.fed c.in_err-take_octets.ensures.no_memory in
+    MatchResult-from_err c.from_residual.result _ _ c.from_residual.ensures.0
+    (λ _. subst (λ (xs : List ℕ). Halts (g.D.Driven.connection c.args.driven.now) xs (g.O.Pending.pending c.args.out.now) (g.D.Driven.connection c.take_octets.new.self) (g.O.Pending.pending c.take_octets.new.out))
     (ap (λ (xs : List ℕ). xs ++ drop end octets) joined ∙ take-append-drop end octets)
-    (halts-more _ _ (take c.loop-at.at octets ++ c.octets_up_to.result.now) (drop end octets) _ _ here)
+    (halts-more _ _ (take c.loop-at.at octets ++ c.octets_up_to.result.now) (drop end octets) _ _ here))
 
-pub returns-in-Err-clause-passes : goal.returns-in-Err-clause-passes
-returns-in-Err-clause-passes g c =
+pub returns-in_err-take_octets-clause-passes : goal.returns-in_err-take_octets-clause-passes
+returns-in_err-take_octets-clause-passes g c =
     let octets = c.args.octets.now in
     let i = c.loop-at.invariant in
     let end = c.loop-at.at + c.portion-count.result in
     let joined = portion-is octets c.octets_from-rest.result.now c.octets_up_to.result.now c.loop-at.at c.portion-count.result c.octets_from-rest.ensures c.octets_up_to.ensures in
-    let here = g.met.D.Driven.passes_more _ _ _ _ (take c.loop-at.at octets) c.octets_up_to.result.now i.passes c.in-Err.ensures.passes in
-    subst (λ (xs : List ℕ). g.D.Driven.passes true c.args.driven.now xs c.take_octets.new.self)
+    let here = g.met.D.Driven.passes_more _ _ _ _ (take c.loop-at.at octets) c.octets_up_to.result.now i.passes c.in_err-take_octets.ensures.passes in
+    let p = err_from_is_err_and c.from_residual.result c.from_residual.ensures.1 in
+    rw p.1
+    (subst (λ (xs : List ℕ). g.D.Driven.passes true c.args.driven.now xs c.take_octets.new.self)
     (ap (λ (xs : List ℕ). xs ++ drop end octets) joined ∙ take-append-drop end octets)
-    (g.met.D.Driven.passes_cut _ _ (take c.loop-at.at octets ++ c.octets_up_to.result.now) (drop end octets) here)
+    (g.met.D.Driven.passes_cut _ _ (take c.loop-at.at octets ++ c.octets_up_to.result.now) (drop end octets) here))

@@ -14,16 +14,16 @@ loop-out-init g c = record {
 pub loop-out-preserved : goal.loop-out-preserved
 loop-out-preserved g c =
     let kept = c.loop-out.invariant in
-    let n = c.in-Ok.count in
+    let n = c.in_ok-count.count in
     let first : c.front.result.now ≡ take (length c.front.result.now) c.loop-out.out = c.front.ensures.first ∙ ap (take (length c.front.result.now)) c.gather.ensures in
-    let here = front-take n c.front.result.now c.loop-out.out first c.in-Ok.ensures.bound.1 in
+    let here = front-take n c.front.result.now c.loop-out.out first c.in_ok-count.ensures.bound.1 in
     let rest : c.remove_front.new.self ≡ drop n c.loop-out.out = c.remove_front.ensures ∙ ap (drop n) c.gather.ensures in
     record {
-      written = writes-more _ _ _ _ n _ _ kept.written (c.in-Ok.ensures.octets ∙ ap (λ (xs : List ℕ). grown (g.S.Wire.octets_written c.loop-out.wire) xs) here) rest;
-      read = c.in-Ok.ensures.read.0 ∙ kept.read;
-      lengths = c.in-Ok.ensures.read.1 ∙ kept.lengths;
-      flag = c.in-Ok.ensures.flag;
+      written = writes-more _ _ _ _ n _ _ kept.written (c.in_ok-count.ensures.octets ∙ ap (λ (xs : List ℕ). grown (g.S.Wire.octets_written c.loop-out.wire) xs) here) rest;
+      read = c.in_ok-count.ensures.read.0 ∙ kept.read;
+      lengths = c.in_ok-count.ensures.read.1 ∙ kept.lengths;
+      flag = c.in_ok-count.ensures.flag;
     }
 
-pub returns-in-Err-clause-written : goal.returns-in-Err-clause-written
-returns-in-Err-clause-written g c = rw (c.in-Err.ensures.err, c.gather.ensures) c.loop-out.invariant.written
+pub returns-in_err-count-clause-written : goal.returns-in_err-count-clause-written
+returns-in_err-count-clause-written g c = rw (c.in_err-count.ensures.err, c.gather.ensures) c.loop-out.invariant.written
