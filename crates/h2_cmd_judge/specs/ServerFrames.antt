@@ -4,7 +4,6 @@ use Rattle.std.specs.Prelude.{ℕ, zero, suc, ◌+◌, ◌*◌, ◌-◌, ◌&&�
 use Rattle.std.specs.Str.{bytes_eq}
 use Rattle.h2_spec.specs.Frames.FrameType.{ACK, END_HEADERS, END_STREAM, has}
 use Rattle.h2_spec.specs.Frames.Payload.{Part, part_of, OfData, OfHeaders, OfPriority, OfRstStream, OfSettings, OfSettingsAck, OfPushPromise, OfPing, OfGoaway, OfWindowUpdate, OfContinuation, OfUnknown}
-use Rattle.h2_spec.specs.Hpack.DynamicTable.{LimitedTable}
 use Rattle.h2_spec.specs.declared.causes.Cause.{Cause}
 use Rattle.h2_spec.specs.declared.frames.Head.{Head}
 use Rattle.h2_explain_words.specs.Sent.{FirstFrame, first_frame}
