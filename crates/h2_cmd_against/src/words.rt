@@ -114,12 +114,15 @@ fn is_nothing(seen: Option<Reaction>) -> bool {
 
 /// What was seen beside an item, in words: RST_STREAM that is not for it instead of nothing.
 fn say_found(finding: &Finding, out: &mut TextBuilder) {
-    match (finding.elsewhere, finding.seen) {
-        (Some((stream, code)), seen) if is_nothing(seen) => {
-            say_all!(out; "RST_STREAM on stream ", stream, " with ", Code(code))
+    if is_nothing(finding.seen) {
+        if let Some((stream, code)) = finding.elsewhere {
+            say_all!(out; "RST_STREAM on stream ", stream, " with ", Code(code));
+            return;
         }
-        (_, Some(seen)) => say_seen(seen, out),
-        (_, None) => say_all!(out; "as wanted"),
+    }
+    match finding.seen {
+        Some(seen) => say_seen(seen, out),
+        None => "as wanted".say(out),
     }
 }
 

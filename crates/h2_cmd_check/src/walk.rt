@@ -524,9 +524,14 @@ impl<'t, 'b> Walk<'t, 'b> {
         let Ok(()) = self.octets.extend_from_slice(more) else {
             return Err(AllocError);
         };
-        self.at = take_items(conn, self.octets.as_slice(), self.at, &mut self.seen)?;
-        self.end = self.ending(conn);
-        Ok(())
+        match take_items(conn, self.octets.as_slice(), self.at, &mut self.seen) {
+            Ok(at) => {
+                self.at = at;
+                self.end = self.ending(conn);
+                Ok(())
+            }
+            Err(error) => Err(error),
+        }
     }
 
     /// Which error ended the connection, if one did: the last item is it.

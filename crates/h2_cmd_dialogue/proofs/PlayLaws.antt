@@ -1,5 +1,5 @@
 -- What happens on a connection, one turn after another.
-use Rattle.std.proofs.Common.{◌≡◌, ◌∙◌, ℕ, ◌+◌, Bool, true, false, List, [], ◌∷◌, ◌++◌, flat_map, take, drop, Option, Some, None, refl, ap, sym, subst}
+use Rattle.std.proofs.Common.{◌≡◌, ◌∙◌, ℕ, ◌+◌, Bool, true, false, List, [], ◌∷◌, ◌++◌, flat_map, take, drop, Option, Some, None, refl, ap, ap₂, sym, subst}
 use Rattle.std.proofs.lemmas.List.{append_assoc, append-nil, take-append-drop}
 use Rattle.std.proofs.lemmas.Grind.{flat_map-append}
 use Rattle.std.proofs.Math.Seq.{take-add}
@@ -8,9 +8,9 @@ use Rattle.h2_conn.specs.Runs.{Fed}
 use Rattle.h2_cmd_exchange.specs.Links.{LinkEvent, Sent, Got, Quiet, Ended, Late, happened, late_if, read_event}
 use Rattle.h2_cmd_exchange.specs.declared.link.LinkRead.{LinkRead}
 use Rattle.h2_cmd_exchange.specs.declared.link.LinkRead.TheVariants as read
-use Rattle.h2_cmd_dialogue.specs.Steps.{Incoming}
+use Rattle.h2_cmd_dialogue.specs.Watches.{Watched, watched_item, watched_items}
 use Rattle.h2_cmd_dialogue.specs.Woven.{Answered, Weaving, after_item, after_items, woven, woven_item}
-use Rattle.h2_cmd_dialogue.specs.declared.step.Step.{Step}
+use Rattle.h2_cmd_dialogue.specs.Steps.{Incoming, Step}
 use Rattle.h2_cmd_dialogue.specs.Plays.{Course, FeedsAll, Goes, Takes, TakesOne, TakesSome, answered, got, happened_all, octets_of, put, with_read}
 
 -- ---- lists
@@ -39,12 +39,33 @@ woven-append steps w (e ∷ es) fs =
     ap (λ (k : List ℕ). woven_item steps w e.item e.sent ++ k) (woven-append steps (after_item steps w e.item) es fs)
     ∙ sym (append_assoc (woven_item steps w e.item e.sent) (woven steps (after_item steps w e.item) es) (woven steps (after_items steps (after_item steps w e.item) es) fs))
 
+watched-append : (steps : List Step) (w : Weaving) (v : Watched) (es fs : List Answered)
+    → watched_items steps w v (es ++ fs) ≡ watched_items steps (after_items steps w es) (watched_items steps w v es) fs
+watched-append steps w v [] fs = refl
+watched-append steps w v (e ∷ es) fs = watched-append steps (after_item steps w e.item) (watched_item steps w v e.item e.sent) es fs
+
+octets-append : (o : List ℕ) (es fs : List Answered) → (o ++ octets_of es) ++ octets_of fs ≡ o ++ octets_of (es ++ fs)
+octets-append o es fs =
+    append_assoc o (octets_of es) (octets_of fs)
+    ∙ ap (λ (k : List ℕ). o ++ k) (sym (flat_map-append (λ (e : Answered). e.octets) es fs))
+
 feeds-append : (es fs : List Answered) (c d f : Connection) → FeedsAll c es d → FeedsAll d fs f → FeedsAll c (es ++ fs) f
 feeds-append [] fs c d f same rest = subst (λ (x : Connection). FeedsAll x fs f) same rest
 feeds-append (e ∷ es) fs c d f x rest = (x.0, x.1, feeds-append es fs x.0 d f x.2 rest)
 
 pub takes-none : (steps : List Step) (c : Course) → TakesSome steps c [] c
-takes-none steps c = ([], refl, record { feeds = refl; weaving = refl; out = sym (append-nil c.out); inbox = refl })
+takes-none steps c =
+    ([], refl, record { feeds = refl; weaving = refl; watched = refl; octets = sym (append-nil c.octets); out = sym (append-nil c.out); inbox = refl })
+
+-- what is watched of items, and then of others
+watched-then : (steps : List Step) (c d f : Course) (es fs : List Answered) → d.weaving ≡ after_items steps c.weaving es
+    → d.watched ≡ watched_items steps c.weaving c.watched es → f.watched ≡ watched_items steps d.weaving d.watched fs
+    → f.watched ≡ watched_items steps c.weaving c.watched (es ++ fs)
+watched-then steps c d f es fs weaving before after =
+    after ∙ ap₂ (λ (w : Weaving) (v : Watched). watched_items steps w v fs) weaving before ∙ sym (watched-append steps c.weaving c.watched es fs)
+
+octets-then : (a b c : List ℕ) (es fs : List Answered) → b ≡ a ++ octets_of es → c ≡ b ++ octets_of fs → c ≡ a ++ octets_of (es ++ fs)
+octets-then a b c es fs x y = y ∙ ap (λ (k : List ℕ). k ++ octets_of fs) x ∙ octets-append a es fs
 
 out-then : (steps : List Step) (c d f : Course) (es fs : List Answered) → Takes steps c es d → Takes steps d fs f → f.out ≡ c.out ++ woven steps c.weaving (es ++ fs)
 out-then steps c d f es fs x y =
@@ -56,6 +77,8 @@ pub takes-then : (steps : List Step) (c d f : Course) (es fs : List Answered) �
 takes-then steps c d f es fs x y = record {
   feeds = feeds-append es fs c.conn d.conn f.conn x.feeds y.feeds;
   weaving = y.weaving ∙ ap (λ (w : Weaving). after_items steps w fs) x.weaving ∙ sym (after-append steps c.weaving es fs);
+  watched = watched-then steps c d f es fs x.weaving x.watched y.watched;
+  octets = octets-then c.octets d.octets f.octets es fs x.octets y.octets;
   out = out-then steps c d f es fs x y;
   inbox = y.inbox ∙ x.inbox;
 }
@@ -78,13 +101,22 @@ takes-item steps c d item octets x = (answered item octets x.0 ∷ [], append-ni
 
 -- an item was fed, and woven
 pub takes-woven : (steps : List Step) (c d : Course) (item : Incoming) (octets sent : List ℕ) (k : Connection) → Fed c.conn octets [] k sent
-    → d ≡ record c { conn = k; weaving = after_item steps c.weaving item; out = c.out ++ woven_item steps c.weaving item sent } → TakesOne steps c item octets d
+    → d ≡ record c {
+      conn = k;
+      weaving = after_item steps c.weaving item;
+      watched = watched_item steps c.weaving c.watched item sent;
+      octets = c.octets ++ octets;
+      out = c.out ++ woven_item steps c.weaving item sent;
+    }
+    → TakesOne steps c item octets d
 takes-woven steps c d item octets sent k fed same =
     subst (λ (f : Course). TakesOne steps c item octets f) (sym same) (
       sent,
       record {
         feeds = (k, fed, refl);
         weaving = refl;
+        watched = refl;
+        octets = ap (λ (o : List ℕ). c.octets ++ o) (sym (append-nil octets));
         out = ap (λ (o : List ℕ). c.out ++ o) (sym (append-nil (woven_item steps c.weaving item sent)));
         inbox = refl;
       },
@@ -100,6 +132,8 @@ goes-none steps c log = record {
   came = append-nil c.inbox;
   feeds = refl;
   weaving = refl;
+  watched = refl;
+  octets = sym (append-nil c.octets);
   written = sym (append-nil c.out);
 }
 
@@ -112,6 +146,8 @@ goes-still steps c log log' e g p at = record {
   came = ap (λ (k : List ℕ). c.inbox ++ k) (append-nil (got e) ∙ g) ∙ append-nil c.inbox;
   feeds = refl;
   weaving = refl;
+  watched = refl;
+  octets = sym (append-nil c.octets);
   written = ap (λ (k : List ℕ). k ++ c.out) (append-nil (put e) ∙ p) ∙ sym (append-nil c.out);
 }
 
@@ -126,6 +162,8 @@ goes-got steps c c' log log' octets same at =
       came = ap (λ (k : List ℕ). c.inbox ++ k) (append-nil octets);
       feeds = refl;
       weaving = refl;
+      watched = refl;
+      octets = sym (append-nil c.octets);
       written = sym (append-nil c.out);
     })
 
@@ -152,6 +190,8 @@ goes-put steps c c' log log' done same at =
       came = append-nil c.inbox;
       feeds = refl;
       weaving = refl;
+      watched = refl;
+      octets = sym (append-nil c.octets);
       written = append-nil (c.out ++ []);
     })
 
@@ -166,6 +206,8 @@ goes-taken steps c d c' n log x same =
       came = append-nil c.inbox ∙ sym (take-append-drop n c.inbox) ∙ ap (λ (k : List ℕ). k ++ drop n c.inbox) (sym x.1);
       feeds = x.2.feeds;
       weaving = x.2.weaving;
+      watched = x.2.watched;
+      octets = x.2.octets;
       written = x.2.out;
     })
 
@@ -187,6 +229,8 @@ goes-then steps c d f log mid end x y = record {
       ∙ ap (λ (k : List ℕ). k ++ f.inbox) (sym (flat_map-append (λ (e : Answered). e.octets) x.items y.items));
   feeds = feeds-append x.items y.items c.conn d.conn f.conn x.feeds y.feeds;
   weaving = y.weaving ∙ ap (λ (w : Weaving). after_items steps w y.items) x.weaving ∙ sym (after-append steps c.weaving x.items y.items);
+  watched = watched-then steps c d f x.items y.items x.weaving x.watched y.watched;
+  octets = octets-then c.octets d.octets f.octets x.items y.items x.octets y.octets;
   written = ap (λ (k : List ℕ). k ++ f.out) (flat_map-append put x.events y.events)
       ∙ written-then c.out d.out f.out (flat_map put x.events) (flat_map put y.events) (woven steps c.weaving x.items) (woven steps d.weaving y.items) x.written y.written
       ∙ ap (λ (k : List ℕ). c.out ++ k) (ap (λ (w : Weaving). woven steps c.weaving x.items ++ woven steps w y.items) x.weaving ∙ sym (woven-append steps c.weaving x.items y.items));

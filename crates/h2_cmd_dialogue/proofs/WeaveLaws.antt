@@ -1,10 +1,8 @@
 -- What goes out is cut frame by frame; and without a script nothing changes.
 use Rattle.std.proofs.Common.{◌≡◌, ℕ, zero, suc, ◌+◌, ◌-◌, ◌<◌, ◌++◌, List, [], ◌∷◌, ap, ap₂, refl, arith, Option, Some, None, ◌∙◌}
-use Rattle.std.specs.List.{slice_get}
 use Rattle.std.proofs.lemmas.Option.{slice_get_past}
 use Rattle.h2_explain_words.specs.Sent.{FirstFrame, first_frame}
-use Rattle.h2_cmd_dialogue.specs.Steps.{Incoming}
-use Rattle.h2_cmd_dialogue.specs.declared.step.Step.{Step}
+use Rattle.h2_cmd_dialogue.specs.Steps.{Incoming, Step}
 use Rattle.h2_cmd_dialogue.specs.Woven.{Answered, Weaving, after_item, base_of, kept, kept_first, kept_frame, kept_frames, later, next_step, sent_by_server, step_if, with_item, woven, woven_item, written}
 
 -- where no whole frame is there, nothing is kept

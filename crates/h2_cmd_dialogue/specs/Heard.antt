@@ -1,19 +1,18 @@
 -- What a client does that a dialogue looks at, and its reaction to a step.
-use Rattle.std.specs.Prelude.{ℕ, ◌-◌, ◌%◌, ◌==◌, ◌&&◌, ◌||◌, not, nat_eq, Bool, true, false, List, [], ◌∷◌, ◌++◌, if◌then◌else◌, Option, Some, None, Result, Ok, Err}
+use Rattle.std.specs.Prelude.{ℕ, ◌-◌, ◌%◌, ◌==◌, ◌&&◌, ◌||◌, not, nat_eq, Bool, true, false, List, [], ◌∷◌, ◌++◌, flat_map, if◌then◌else◌, Option, Some, None, Result, Ok, Err}
 use Rattle.std.specs.List.{list_any, starts_with}
 use Rattle.std.specs.Str.{bytes_eq}
 use Rattle.std.specs.Int.RustNames.{bit_and}
 use Rattle.h2_spec.specs.declared.frames.Head.{Head}
 use Rattle.h2_spec.specs.declared.causes.Cause.{Cause}
 use Rattle.h2_spec.specs.Frames.Payload.{Part, part_of, OfData, OfHeaders, OfPriority, OfRstStream, OfSettings, OfSettingsAck, OfPushPromise, OfPing, OfGoaway, OfWindowUpdate, OfContinuation, OfUnknown}
-use Rattle.h2_cmd_dialogue.specs.Steps.{based, is_pong}
 use Rattle.h2_cmd_dialogue.specs.declared.heard.Ending.{Ending}
 use Rattle.h2_cmd_dialogue.specs.declared.heard.Event.{Event}
 use Rattle.h2_cmd_dialogue.specs.declared.heard.Event.TheVariants.{Pong, Goaway, Reset, Sends}
 use Rattle.h2_cmd_dialogue.specs.declared.heard.Heard.{Heard}
 use Rattle.h2_cmd_dialogue.specs.declared.step.Means.{Means}
 use Rattle.h2_cmd_dialogue.specs.declared.step.Means.TheVariants as means
-use Rattle.h2_cmd_dialogue.specs.declared.step.SendsLine.{SendsLine}
+use Rattle.h2_cmd_dialogue.specs.Steps.{SendsLine, Step, based, is_pong}
 use Rattle.h2_cmd_dialogue.specs.declared.verdict.Taken.{Taken}
 use Rattle.h2_cmd_dialogue.specs.declared.verdict.Taken.TheVariants as taken
 
@@ -68,10 +67,10 @@ fragment_of h payload = if h.kind == 1 then fragment_in payload (part_of h paylo
 
 abbrev pub begins_so : SendsLine → Head → List ℕ → Bool
 begins_so l h payload =
-    (bit_and h.flags l.frame.head.flags == l.frame.head.flags) && starts_with nat_eq (fragment_of h payload) l.frame.payload.items
+    (bit_and h.flags l.frame.head.flags == l.frame.head.flags) && starts_with nat_eq (fragment_of h payload) l.frame.payload
 
 abbrev pub sends_as : Means → SendsLine → Head → List ℕ → Bool
-sends_as means.Frame l h payload = (h.flags == l.frame.head.flags) && bytes_eq payload l.frame.payload.items
+sends_as means.Frame l h payload = (h.flags == l.frame.head.flags) && bytes_eq payload l.frame.payload
 sends_as means.Beginning l h payload = begins_so l h payload
 sends_as means.Never l h payload = begins_so l h payload
 
@@ -86,6 +85,10 @@ abbrev pub with_sent : (base : ℕ) → List SendsLine → Head → List ℕ →
 with_sent base [] h payload = []
 with_sent base (l ∷ ls) h payload =
     (if sends base l h payload then Sends l.line ∷ [] else []) ++ with_sent base ls h payload
+
+-- the same of the lines of steps
+abbrev pub sent_after : (base : ℕ) → List Step → Head → List ℕ → List Event
+sent_after base steps h payload = flat_map (λ (s : Step). with_sent base s.sends h payload) steps
 
 abbrev pub is_event : ℕ → Event → Bool
 is_event line Pong = false

@@ -1,6 +1,10 @@
 pub mod Steps
+pub mod Items
 pub mod Woven
 pub mod Plays
 pub mod Heard
 pub mod Verdicts
 pub mod Limits
+pub mod Watches
+pub mod Findings
+pub mod Causes

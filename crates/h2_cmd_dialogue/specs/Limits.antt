@@ -1,6 +1,7 @@
 -- What the SETTINGS that go to a client let it do, and what it does against that (RFC 9113, 6.5.2 and 6.5.3).
-use Rattle.std.specs.Prelude.{ℕ, ◌-◌, ◌%◌, max, ◌==◌, ◌&&◌, ◌||◌, not, nat_le, nat_lt, Bool, true, false, List, [], ◌∷◌, ◌++◌, length, if◌then◌else◌, Option, Some, None}
+use Rattle.std.specs.Prelude.{ℕ, zero, suc, ◌-◌, ◌%◌, max, ◌==◌, ◌&&◌, ◌||◌, not, nat_le, nat_lt, Bool, List, [], ◌∷◌, ◌++◌, length, if◌then◌else◌, Option, Some, None}
 use Rattle.std.specs.List.{position, remove}
+use Rattle.h2_explain_words.specs.Sent.{FirstFrame, first_frame}
 use Rattle.h2_spec.specs.declared.frames.Head.{Head}
 use Rattle.h2_spec.specs.Frames.FrameType.{has}
 use Rattle.h2_spec.specs.Frames.Payload.{setting_pairs}
@@ -65,6 +66,15 @@ with_grant l (Some grant) = record l { waiting = l.waiting ++ grant ∷ [] }
 -- a frame went to the client
 abbrev pub sent : Limits → Head → List ℕ → Limits
 sent l h payload = with_grant (ended_by h l) (grant_in h payload)
+
+abbrev pub sent_first : Limits → Option FirstFrame → (Limits → List ℕ → Limits) → Limits
+sent_first l None follow = l
+sent_first l (Some f) follow = follow (sent l f.head f.payload) f.rest
+
+-- at most this many frames went to the client
+abbrev pub sent_frames : ℕ → Limits → List ℕ → Limits
+sent_frames zero l octets = l
+sent_frames (suc more) l octets = sent_first l (first_frame octets) (sent_frames more)
 
 -- ---- what the client sends
 

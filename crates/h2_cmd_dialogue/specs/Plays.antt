@@ -5,15 +5,17 @@ use Rattle.h2_cmd_exchange.specs.declared.link.LinkRead.{LinkRead}
 use Rattle.h2_cmd_exchange.specs.declared.link.LinkRead.TheVariants as read
 use Rattle.h2_conn.specs.Connection.{Connection}
 use Rattle.h2_conn.specs.Runs.{Fed}
-use Rattle.h2_cmd_dialogue.specs.Steps.{Incoming}
-use Rattle.h2_cmd_dialogue.specs.Woven.{Answered, Weaving, after_item, after_items, woven, woven_item}
-use Rattle.h2_cmd_dialogue.specs.declared.step.Step.{Step}
+use Rattle.h2_cmd_dialogue.specs.Watches.{Watched, watched_items}
+use Rattle.h2_cmd_dialogue.specs.Woven.{Answered, Weaving, after_items, woven}
+use Rattle.h2_cmd_dialogue.specs.Steps.{Incoming, Step}
 
--- how far a connection was played: the server's connection, the steps of the script, what came and is no whole item yet, and
--- what is to be written
+-- how far a connection was played: the server's connection, the steps of the script, what the client does, the octets of all
+-- items, what came and is no whole item yet, and what is to be written
 pub record Course : Type 0 where
   pub conn : Connection
   pub weaving : Weaving
+  pub watched : Watched
+  pub octets : List ℕ
   pub inbox : List ℕ
   pub out : List ℕ
 
@@ -34,6 +36,8 @@ FeedsAll c (e ∷ es) c' = (d : Connection) × Fed c e.octets [] d e.sent × Fee
 pub record Takes (steps : List Step) (c : Course) (es : List Answered) (c' : Course) : Type 0 where
   pub feeds : FeedsAll c.conn es c'.conn
   pub weaving : c'.weaving ≡ after_items steps c.weaving es
+  pub watched : c'.watched ≡ watched_items steps c.weaving c.watched es
+  pub octets : c'.octets ≡ c.octets ++ octets_of es
   pub out : c'.out ≡ c.out ++ woven steps c.weaving es
   pub inbox : c'.inbox ≡ c.inbox
 
@@ -85,4 +89,6 @@ pub record Goes (steps : List Step) (c : Course) (log : Option (List LinkEvent))
   pub came : c.inbox ++ flat_map got events ≡ octets_of items ++ c'.inbox
   pub feeds : FeedsAll c.conn items c'.conn
   pub weaving : c'.weaving ≡ after_items steps c.weaving items
+  pub watched : c'.watched ≡ watched_items steps c.weaving c.watched items
+  pub octets : c'.octets ≡ c.octets ++ octets_of items
   pub written : flat_map put events ++ c'.out ≡ c.out ++ woven steps c.weaving items

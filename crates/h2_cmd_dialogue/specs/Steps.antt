@@ -8,6 +8,29 @@ use Rattle.h2_cmd_dialogue.specs.declared.step.Awaited.TheVariants as awaited
 use Rattle.h2_cmd_dialogue.specs.declared.step.Pattern.{Pattern}
 use Rattle.h2_cmd_dialogue.specs.declared.step.Incoming as code
 use Rattle.h2_cmd_dialogue.specs.declared.step.Incoming.TheVariants as incoming
+use Rattle.h2_cmd_dialogue.specs.declared.step.Means.{Means}
+use Rattle.h2_cmd_dialogue.specs.declared.verdict.WantedLine.{WantedLine}
+
+-- a frame of a script, with streams as in the file
+pub record ScriptFrame : Type 0 where
+  pub head : Head
+  pub payload : List ℕ
+
+-- a line `;<`: its number, and the frames that it means
+pub record SendsLine : Type 0 where
+  pub line : ℕ
+  pub means : Means
+  pub frame : ScriptFrame
+
+-- a step: the number of its first line, the item that it waits for, whether its frames go out instead of what the server sends,
+-- and its lines `;!` and `;<`
+pub record Step : Type 0 where
+  pub line : ℕ
+  pub awaited : Awaited
+  pub is_instead : Bool
+  pub frames : List ScriptFrame
+  pub wanted : List WantedLine
+  pub sends : List SendsLine
 
 -- what comes from a client: at the beginning of the connection nothing
 pub data Incoming : Type 0 where

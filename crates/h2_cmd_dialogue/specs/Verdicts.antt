@@ -1,7 +1,6 @@
 -- The verdict on what a client does with the octets of a step (RFC 9113, 5.4).
 use Rattle.std.specs.Prelude.{ℕ, ◌==◌, ◌&&◌, nat_le, Bool, true, false, List, [], ◌∷◌, if◌then◌else◌, Option, Some, None}
 use Rattle.h2_spec.specs.Causes.Conforming.{allows, errors, only}
-use Rattle.h2_spec.specs.declared.conforming.Codes.{Codes}
 use Rattle.h2_spec.specs.declared.conforming.Codes.TheVariants as code
 use Rattle.h2_spec.specs.declared.conforming.Conforming.{Conforming}
 use Rattle.h2_spec.specs.declared.conforming.Least.TheVariants as least

@@ -1,5 +1,5 @@
 -- What goes out for each item of a client, where a script adds frames to what the server sends.
-use Rattle.std.specs.Prelude.{ℕ, zero, suc, ◌+◌, ◌%◌, min, ◌==◌, ◌&&◌, not, Bool, true, false, List, [], ◌∷◌, ◌++◌, length, take, drop, slice_get, flat_map, option_to_list, if◌then◌else◌, Option, Some, None, Result, Ok, Err}
+use Rattle.std.specs.Prelude.{ℕ, zero, suc, ◌+◌, ◌%◌, min, ◌==◌, ◌&&◌, not, List, [], ◌∷◌, ◌++◌, length, take, drop, slice_get, flat_map, option_to_list, if◌then◌else◌, Option, Some, None, Result, Ok, Err}
 use Rattle.std.specs.List.{list_any}
 use Rattle.h2_explain_words.specs.Sent.{FirstFrame, first_frame}
 use Rattle.h2_spec.specs.declared.frames.Head.{Head}
@@ -7,10 +7,8 @@ use Rattle.h2_spec.specs.declared.causes.Cause.{Cause}
 use Rattle.h2_spec.specs.Frames.Frame.{frame, frame_octets}
 use Rattle.h2_spec.specs.Frames.Payload.{Part, part_of, OfData, OfHeaders, OfPriority, OfRstStream, OfSettings, OfSettingsAck, OfPushPromise, OfPing, OfGoaway, OfWindowUpdate, OfContinuation, OfUnknown}
 use Rattle.h2_spec.specs.Octets.{big_endian}
-use Rattle.h2_cmd_dialogue.specs.declared.step.ScriptFrame.{ScriptFrame}
-use Rattle.h2_cmd_dialogue.specs.declared.step.Step.{Step}
 use Rattle.h2_cmd_dialogue.specs.declared.verdict.WantedLine.{WantedLine}
-use Rattle.h2_cmd_dialogue.specs.Steps.{Incoming, based, names, probe, with_request}
+use Rattle.h2_cmd_dialogue.specs.Steps.{Incoming, ScriptFrame, Step, based, names, probe, with_request}
 
 -- how many steps were taken, one less than the stream of the client's first request, and the streams that the script has reset
 pub record Weaving : Type 0 where
@@ -83,7 +81,7 @@ with_last (Some last) payload = big_endian 4 last ++ take 16777211 (drop 4 paylo
 -- a frame of the script; its payload is no longer than a frame's can be
 abbrev pub script_frame : (base : ℕ) → ScriptFrame → List ℕ
 script_frame base f = frame_octets (frame f.head.kind f.head.flags (stream_sent base f.head)
-    (with_last (last_sent base f.head f.payload.items) f.payload.items))
+    (with_last (last_sent base f.head f.payload) f.payload))
 
 abbrev pub script_frames : (base : ℕ) → List ScriptFrame → List ℕ
 script_frames base frames = flat_map (script_frame base) frames
@@ -97,7 +95,7 @@ probe_if (l ∷ ls) = probe_frame
 
 -- the frames of a step, and a PING where the client has to do something then
 abbrev pub script_octets : (base : ℕ) → Step → List ℕ
-script_octets base s = script_frames base s.frames.items ++ probe_if s.wanted.items
+script_octets base s = script_frames base s.frames ++ probe_if s.wanted
 
 -- the stream that a frame of the script resets
 abbrev pub reset_by : (base : ℕ) → ScriptFrame → Option ℕ
@@ -126,7 +124,7 @@ written w (Some s) sent = (if s.is_instead then [] else kept w.reset sent) ++ sc
 
 abbrev pub later : Weaving → Option Step → Weaving
 later w None = w
-later w (Some s) = record w { taken = min (w.taken + 1) 18446744073709551615; reset = w.reset ++ resets (base_of w.base) s.frames.items }
+later w (Some s) = record w { taken = min (w.taken + 1) 18446744073709551615; reset = w.reset ++ resets (base_of w.base) s.frames }
 
 -- what goes out for an item, for which the server sends this
 abbrev pub woven_item : List Step → Weaving → Incoming → List ℕ → List ℕ

@@ -1,14 +1,15 @@
-//! Why the server ended a connection.
+//! Why the server ended a connection. Definitions: `specs/Causes.antt`.
 
 ghost use Rattle.std.specs.Prelude.{◌≡◌, [], IfOk};
 ghost use Rattle.h2_conn.specs.Connection.{going};
+ghost use Rattle.h2_cmd_dialogue.specs.Causes.{last_cause};
 ghost use Rattle.h2_spec.specs.State.{opening};
 
+use crate::item::behind;
 use h2_conn::{Conn, ConnFault};
 use h2_request_book::book::Book;
 use h2_spec::causes::Cause;
 use h2_spec::connection::Config;
-use h2_spec::octets::octets_from;
 use std::alloc::{AllocError, Global};
 
 /// A new connection.
@@ -26,7 +27,9 @@ pub fn last_cause(
     book: &Book<Global>,
     config: Config,
     octets: &[u8],
-) -> Result<Option<Cause>, AllocError> {
+) -> Result<Option<Cause>, AllocError>
+    ensures { IfOk result (λ cause. cause ≡ last_cause (opening book.now config) octets.now) }
+{
     let Ok(mut conn) = open(book, config, alloc) else {
         return Err(AllocError);
     };
@@ -38,7 +41,7 @@ pub fn last_cause(
             return Ok(cause);
         };
         cause = taken.cause;
-        rest = octets_from(rest, taken.used.min(rest.len()));
+        rest = behind(rest, taken.used);
     }
     Ok(cause)
 }

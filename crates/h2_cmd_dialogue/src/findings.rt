@@ -1,10 +1,15 @@
 //! What is found in a dialogue that was played: a verdict for each step, up to the first that the client did not go on from.
+//! Definitions: `specs/Findings.antt`.
 
-use crate::heard::{Ending, Event, Heard, is_sent, reaction_to};
-use crate::limits::LimitFault;
+ghost use Rattle.std.specs.Prelude.{◌≡◌, ◌++◌, ◌∷◌, [], IfOk, OnOk};
+ghost use Rattle.h2_cmd_dialogue.specs.Findings.{end_found, finding, findings_of, have_going_on, limits_found, lingers, missed_line, step_found, steps_found, taken_found, taken_from, with_played};
+
+use crate::heard::{Ending, Heard, reaction_to};
+use crate::limits::{LimitFault, Limits};
 use crate::play::{Course, End};
-use crate::step::{Means, Step};
+use crate::step::Step;
 use crate::verdict::{ByLine, Duty, Judged, Taken, WantedLine, best_of};
+use crate::watched::events_from;
 use std::alloc::{AllocError, Global};
 
 /// What is found.
@@ -35,18 +40,15 @@ pub struct Finding {
     pub found: Found,
 }
 
-/// The events of a client between two places.
-fn events_between(events: &[Event], first: usize, end: usize) -> &[Event] {
-    events.get(first..end).unwrap_or_default()
-}
-
 /// Appends what is found.
 fn push(
     judged: Judged,
     line: usize,
     found: Found,
     findings: &mut Vec<Finding>,
-) -> Result<(), AllocError> {
+) -> Result<(), AllocError>
+    ensures { OnOk result (findings.new.items ≡ findings.old.items ++ finding judged line found ∷ []) }
+{
     match findings.push(Finding {
         judged,
         line,
@@ -58,29 +60,55 @@ fn push(
 }
 
 /// Whether a client has to go on, by the first of these lines.
-fn goes_on(lines: &[WantedLine]) -> bool {
+fn have_going_on(lines: &[WantedLine]) -> bool
+    ensures { result ≡ have_going_on lines.now }
+{
     match lines.first() {
         Some(line) => line.wanted.goes_on(),
         None => false,
     }
 }
 
-/// The verdict where a line `;<` of a step does not hold.
-fn missed_line(lines: &[WantedLine]) -> Judged {
+/// The verdict where a line `;<` does not hold, by the first of these lines of its step.
+fn missed_line(lines: &[WantedLine]) -> Judged
+    ensures { result ≡ missed_line lines.now }
+{
     match lines.first() {
-        Some(
-            WantedLine {
-                duty: Duty::Must,
-                ..
-            },
-        ) => Judged::Broken,
-        _ => Judged::Allowed,
+        Some(line) => match line.duty {
+            Duty::Must => Judged::Broken,
+            Duty::Unsettled | Duty::Should | Duty::May => Judged::Allowed,
+        },
+        None => Judged::Allowed,
     }
 }
 
-/// Whether this is the same.
-fn is_same(judged: Judged) -> bool {
-    matches!(judged, Judged::Same)
+/// Appends how a connection ended, where that is none of the client's.
+fn judge_end(end: End, findings: &mut Vec<Finding>) -> Result<(), AllocError>
+    ensures { OnOk result (findings.new.items ≡ findings.old.items ++ end_found end) }
+{
+    match end {
+        End::Closed | End::Silent => Ok(()),
+        End::ByServer(_) | End::NoFrames | End::TooMuch | End::Late => {
+            push(Judged::Broken, 0, Found::Ended(end), findings)
+        }
+    }
+}
+
+/// Appends what the client did against its limits.
+fn judge_limits(limits: &Limits, findings: &mut Vec<Finding>) -> Result<(), AllocError>
+    ensures { OnOk result (findings.new.items ≡ findings.old.items ++ limits_found limits.now) }
+{
+    let late = limits.late();
+    match limits.fault() {
+        Some(fault) => push(Judged::Broken, 0, Found::Limit(fault), findings),
+        None => {
+            if late > 0 {
+                push(Judged::Broken, 0, Found::Late(late), findings)
+            } else {
+                Ok(())
+            }
+        }
+    }
 }
 
 /// A connection that was played, and how it ended.
@@ -91,139 +119,122 @@ pub struct Ended<'c, 'b> {
 }
 
 impl Ended<'_, '_> {
-    /// The place of the first event after a step.
-    fn mark(&self, step: usize) -> usize {
-        let course = self.course;
-        let watched = &course.watched;
-        match watched.marks.as_slice().get(step) {
-            Some(mark) => *mark,
-            None => watched.events.len(),
-        }
-    }
-
     /// What the client did from a step on.
-    fn reaction(&self, number: usize, goes_on: bool) -> Taken {
+    fn reaction(&self, number: usize, goes_on: bool) -> Taken
+        ensures { result ≡ taken_from self.now.course.now self.now.end number goes_on }
+    {
         let course = self.course;
         let watched = &course.watched;
-        let all = watched.events.as_slice();
-        let heard = Heard::of(events_between(all, self.mark(number), all.len()), goes_on);
+        let events = events_from(watched.events.as_slice(), watched.mark(number));
         let ending = Ending {
-            is_closed: matches!(self.end, End::Closed),
+            is_closed: self.end.is_closed(),
             waits: watched.limits.is_unanswered(),
             is_later: number.saturating_add(1) < watched.marks.len(),
         };
-        reaction_to(course.weaver.base(), goes_on, heard, ending)
-    }
-
-    /// The last line `;<` of a step that does not hold, and whether what it means was sent.
-    fn missed_sends(&self, number: usize, step: &Step) -> Option<(usize, bool)> {
-        let course = self.course;
-        let events = course.watched.events.as_slice();
-        let first = self.mark(number);
-        let next = self.mark(number.saturating_add(1));
-        let mut missed = None;
-        for line in step.sends.as_slice() {
-            let is_never = matches!(line.means, Means::Never);
-            let end = if is_never { next } else { events.len() };
-            let sent = is_sent(line.line, events_between(events, first, end));
-            if sent == is_never {
-                missed = Some((line.line, sent));
-            }
-        }
-        missed
+        reaction_to(
+            course.weaver.base(),
+            goes_on,
+            Heard::of(events, goes_on),
+            ending,
+        )
     }
 
     /// Appends the verdict on a step that was taken. Says whether the client went on from it.
+    fn judge_taken(
+        &self,
+        number: usize,
+        step: &Step,
+        findings: &mut Vec<Finding>,
+    ) -> Result<bool, AllocError>
+        ensures found { OnOk result (findings.new.items ≡ findings.old.items ++ (taken_found self.now.course.now self.now.end number step.now).0) }
+        ensures on { IfOk result (λ on. on ≡ (taken_found self.now.course.now self.now.end number step.now).1) }
+    {
+        let wanted = step.wanted.as_slice();
+        let taken = self.reaction(number, have_going_on(wanted));
+        let Some(ByLine { line, judged }) = best_of(wanted, taken) else {
+            return Ok(true);
+        };
+        if !judged.is_same() {
+            push(judged, line.line, Found::Reaction(line, taken), findings)?;
+            return Ok(taken.does_go_on() && !judged.is_broken());
+        }
+        let course = self.course;
+        match course.watched.missed_sends(number, step.sends.as_slice()) {
+            None => Ok(taken.does_go_on()),
+            Some((line, sent)) => {
+                let judged = missed_line(wanted);
+                push(judged, line, Found::Sends(sent), findings)?;
+                Ok(taken.does_go_on() && !judged.is_broken())
+            }
+        }
+    }
+
+    /// Appends the verdict on a step. Says whether those after it are judged.
     fn judge_step(
         &self,
         number: usize,
         step: &Step,
         findings: &mut Vec<Finding>,
-    ) -> Result<bool, AllocError> {
-        let wanted = step.wanted.as_slice();
-        let taken = self.reaction(number, goes_on(wanted));
-        let Some(ByLine { line, judged }) = best_of(wanted, taken) else {
+    ) -> Result<bool, AllocError>
+        ensures found { OnOk result (findings.new.items ≡ findings.old.items ++ (step_found self.now.course.now self.now.end number step.now).0) }
+        ensures on { IfOk result (λ on. on ≡ (step_found self.now.course.now self.now.end number step.now).1) }
+    {
+        let course = self.course;
+        if number < course.weaver.taken() {
+            return self.judge_taken(number, step, findings);
+        }
+        if step.is_optional() {
             return Ok(true);
-        };
-        let went_on = matches!(taken, Taken::GoesOn);
-        if !is_same(judged) {
-            push(judged, line.line, Found::Reaction(line, taken), findings)?;
-            return Ok(went_on && !matches!(judged, Judged::Broken));
         }
-        match self.missed_sends(number, step) {
-            None => Ok(went_on),
-            Some((line, sent)) => {
-                let judged = missed_line(wanted);
-                push(judged, line, Found::Sends(sent), findings)?;
-                Ok(went_on && !matches!(judged, Judged::Broken))
-            }
-        }
+        push(Judged::Broken, step.line, Found::Missing, findings)?;
+        Ok(false)
     }
 
     /// Appends the verdicts on steps. Says whether the client went on from all of them.
-    fn judge_steps(&self, steps: &[Step], findings: &mut Vec<Finding>) -> Result<bool, AllocError> {
-        let course = self.course;
-        let taken = course.weaver.taken();
+    fn judge_steps(&self, steps: &[Step], findings: &mut Vec<Finding>) -> Result<bool, AllocError>
+        ensures found { OnOk result (findings.new.items ≡ findings.old.items ++ (steps_found self.now.course.now self.now.end 0 steps.now).0) }
+        ensures on { IfOk result (λ on. on ≡ (steps_found self.now.course.now self.now.end 0 steps.now).1) }
+    {
         for (number, step) in steps.iter().enumerate() {
-            let is_taken = number < taken;
-            if !is_taken && !(step.frames.is_empty() && step.wanted.is_empty()) {
-                push(Judged::Broken, step.line, Found::Missing, findings)?;
-                return Ok(false);
-            }
-            if is_taken && !self.judge_step(number, step, findings)? {
+            if !self.judge_step(number, step, findings)? {
                 return Ok(false);
             }
         }
         Ok(true)
     }
 
-    /// Appends what the client did against its limits.
-    fn judge_limits(&self, findings: &mut Vec<Finding>) -> Result<(), AllocError> {
+    /// Whether the connection is open after GOAWAY with an error.
+    fn lingers(&self) -> bool
+        ensures { result ≡ lingers self.now.end self.now.course.now.watched.events }
+    {
         let course = self.course;
-        let limits = &course.watched.limits;
-        match limits.fault() {
-            Some(fault) => push(Judged::Broken, 0, Found::Limit(fault), findings),
-            None => {
-                if limits.late() > 0 {
-                    push(Judged::Broken, 0, Found::Late(limits.late()), findings)
-                } else {
-                    Ok(())
-                }
-            }
-        }
+        self.end.is_silent() && course.watched.has_goaway()
     }
 
-    /// Whether the client has sent GOAWAY with an error.
-    fn has_goaway(&self) -> bool {
+    /// Appends what is found of a connection that the server did not end.
+    fn judge_played(&self, steps: &[Step], findings: &mut Vec<Finding>) -> Result<(), AllocError>
+        ensures { OnOk result (findings.new.items ≡ with_played self.now.course.now self.now.end steps.now findings.old.items) }
+    {
         let course = self.course;
-        course
-            .watched
-            .events
-            .as_slice()
-            .iter()
-            .any(|event| matches!(event, Event::Goaway(_)))
+        if self.judge_steps(steps, findings)? {
+            judge_limits(&course.watched.limits, findings)?;
+        }
+        if self.lingers() {
+            push(Judged::Allowed, 0, Found::Lingers, findings)?;
+        }
+        Ok(())
     }
 
     /// All that is found, but what is as it should be.
     ///
     /// `AllocError` where memory is refused.
-    pub fn findings(&self, alloc: Global, steps: &[Step]) -> Result<Vec<Finding>, AllocError> {
+    pub fn findings(&self, alloc: Global, steps: &[Step]) -> Result<Vec<Finding>, AllocError>
+        ensures { IfOk result (λ found. found.items ≡ findings_of self.now.course.now self.now.end steps.now) }
+    {
         let mut findings = Vec::new(alloc);
-        match self.end {
-            End::Closed | End::Silent => {}
-            End::ByServer(_) => {
-                push(Judged::Broken, 0, Found::Ended(self.end), &mut findings)?;
-                return Ok(findings);
-            }
-            End::NoFrames | End::TooMuch | End::Late => {
-                push(Judged::Broken, 0, Found::Ended(self.end), &mut findings)?;
-            }
-        }
-        if self.judge_steps(steps, &mut findings)? {
-            self.judge_limits(&mut findings)?;
-        }
-        if matches!(self.end, End::Silent) && self.has_goaway() {
-            push(Judged::Allowed, 0, Found::Lingers, &mut findings)?;
+        judge_end(self.end, &mut findings)?;
+        if !self.end.is_by_server() {
+            self.judge_played(steps, &mut findings)?;
         }
         Ok(findings)
     }

@@ -1,9 +1,9 @@
 //! What a client does that a dialogue looks at, and its reaction to a step. Definitions: `specs/Heard.antt`.
 
-ghost use Rattle.std.specs.Prelude.{◌≡◌, ◌++◌, OnOk};
-ghost use Rattle.h2_cmd_dialogue.specs.Heard.{based_on, event_of, fragment_of, gives_up, goaway_event, heard_from, heard_with, is_sent, nothing_heard, reaction_to, sends, with_sent};
+ghost use Rattle.std.specs.Prelude.{◌≡◌, ◌++◌, option_to_list, OnOk};
+ghost use Rattle.h2_cmd_dialogue.specs.Heard.{based_on, event_of, fragment_of, gives_up, goaway_event, heard_from, heard_with, is_sent, nothing_heard, reaction_to, sends, sent_after, with_sent};
 
-use crate::step::{Means, SendsLine, based, is_pong};
+use crate::step::{Means, SendsLine, Step, based, is_pong};
 use crate::verdict::Taken;
 use h2_frame::{FrameRef, HeadersPart, Part, part_of};
 use h2_spec::frames::HEADERS;
@@ -45,7 +45,7 @@ pub struct Ending {
 }
 
 /// What a frame says of a client: an error, or that it answers.
-pub fn event_of(frame: FrameRef<'_>) -> Option<Event>
+fn event_of(frame: FrameRef<'_>) -> Option<Event>
     ensures { result ≡ event_of frame.entry.head frame.entry.payload.now }
 {
     if is_pong(frame) {
@@ -55,6 +55,21 @@ pub fn event_of(frame: FrameRef<'_>) -> Option<Event>
         Ok(Part::Goaway(_, code)) => goaway_event(code),
         Ok(Part::RstStream(code)) => Some(Event::Reset(frame.head.stream, code)),
         _ => None,
+    }
+}
+
+/// Appends what a frame says of a client, if it says something.
+///
+/// `AllocError` where memory is refused.
+pub fn push_event(frame: FrameRef<'_>, events: &mut Vec<Event>) -> Result<(), AllocError>
+    ensures { OnOk result (events.new.items ≡ events.old.items ++ option_to_list (event_of frame.entry.head frame.entry.payload.now)) }
+{
+    match event_of(frame) {
+        Some(event) => match events.push(event) {
+            Ok(()) => Ok(()),
+            Err(_) => Err(AllocError),
+        },
+        None => Ok(()),
     }
 }
 
@@ -105,7 +120,7 @@ impl SendsLine {
 /// Appends what is meant by these lines of what a frame is.
 ///
 /// `AllocError` where memory is refused.
-pub fn push_sends(
+fn push_sends(
     base: u32,
     lines: &[SendsLine],
     frame: FrameRef<'_>,
@@ -120,6 +135,23 @@ pub fn push_sends(
                 Err(_) => return Err(AllocError),
             }
         }
+    }
+    Ok(())
+}
+
+/// Appends what is meant of what a frame is by the lines of these steps.
+///
+/// `AllocError` where memory is refused.
+pub fn push_steps(
+    base: u32,
+    steps: &[Step],
+    frame: FrameRef<'_>,
+    events: &mut Vec<Event>,
+) -> Result<(), AllocError>
+    ensures { OnOk result (events.new.items ≡ events.old.items ++ sent_after base steps.now frame.entry.head frame.entry.payload.now) }
+{
+    for step in steps {
+        push_sends(base, step.sends.as_slice(), frame, events)?;
     }
     Ok(())
 }

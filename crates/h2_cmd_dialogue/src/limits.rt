@@ -4,9 +4,10 @@
 ghost use Rattle.std.specs.Prelude.{◌≡◌, ◌<◌, ◌==◌, IfSome, OnOk, None, length, nat_lt};
 ghost use Rattle.std.specs.List.{position};
 ghost use Rattle.h2_frame.specs.Parts.{settings_in};
-ghost use Rattle.h2_cmd_dialogue.specs.Limits.{acknowledged, came, counted, ended_by, grant_in, grant_of, higher, is_end, most_frame, most_streams, new_limits, noted, opened, sent, value_of, with_control, with_first, with_length, without};
+ghost use Rattle.h2_cmd_dialogue.specs.Limits.{acknowledged, came, counted, ended_by, grant_in, grant_of, higher, is_end, most_frame, most_streams, new_limits, noted, opened, sent, sent_frames, value_of, with_control, with_first, with_length, without};
 
 use crate::step::is_pong;
+use h2_explain_words::sent::next_frame;
 use h2_frame::{FrameRef, Head, SettingsPart};
 use h2_spec::frames::{ACK, DATA, END_STREAM, HEADERS, RST_STREAM, SETTINGS};
 use std::alloc::{AllocError, Global};
@@ -195,9 +196,7 @@ impl Limits {
     }
 
     /// A frame went to the client.
-    ///
-    /// `AllocError` where memory is refused.
-    pub fn sent(&mut self, frame: FrameRef<'_>) -> Result<(), AllocError>
+    fn sent(&mut self, frame: FrameRef<'_>) -> Result<(), AllocError>
         ensures { OnOk result (self.new ≡ sent self.old frame.entry.head frame.entry.payload.now) }
     {
         self.end(frame.head);
@@ -208,6 +207,23 @@ impl Limits {
             },
             None => Ok(()),
         }
+    }
+
+    /// Frames went to the client.
+    ///
+    /// `AllocError` where memory is refused.
+    pub fn all_sent(&mut self, octets: &[u8]) -> Result<(), AllocError>
+        ensures { OnOk result (self.new ≡ sent_frames (length octets.now) self.old octets.now) }
+    {
+        let mut rest = octets;
+        for _frame in 0..octets.len() {
+            let Some((frame, behind)) = next_frame(rest) else {
+                return Ok(());
+            };
+            self.sent(frame)?;
+            rest = behind;
+        }
+        Ok(())
     }
 
     /// The client did something against its limits.

@@ -1,23 +1,21 @@
 //! A connection of a client: what comes is taken item by item, and what goes out for each is woven with the script. Definitions:
-//! `specs/Plays.antt`.
+//! `specs/Plays.antt`; what the client does: `specs/Watches.antt`.
 
-ghost use Rattle.std.specs.Prelude.{◌≡◌, ◌++◌, ◌≤◌, List, [], drop, length, take, vec_len, Option, IfOk, OnOk};
+ghost use Rattle.std.specs.Prelude.{◌≡◌, ◌++◌, ◌≤◌, List, [], drop, length, is_some, take, vec_len, Option, IfOk, OnOk};
 ghost use Rattle.h2_cmd_exchange.specs.Links.{IsWithin, LinkEvent};
 ghost use Rattle.h2_conn.specs.Runs.{Fed};
-ghost use Rattle.h2_cmd_dialogue.specs.Steps.{incoming_of, Start};
-ghost use Rattle.h2_cmd_dialogue.specs.Woven.{after_item, no_steps_taken, woven_item};
-ghost use Rattle.h2_cmd_dialogue.specs.declared.step.Step.{Step};
+ghost use Rattle.h2_cmd_dialogue.specs.Woven.{after_item, next_step, no_steps_taken, with_item, woven_item};
+ghost use Rattle.h2_cmd_dialogue.specs.Findings.{is_by_server, is_closed, is_silent_end};
+ghost use Rattle.h2_cmd_dialogue.specs.Watches.{heard_item, nothing_watched, watched_item, with_octets};
+ghost use Rattle.h2_cmd_dialogue.specs.Steps.{Start, Step, incoming_of};
 ghost use Rattle.h2_cmd_dialogue.specs.Plays.{Goes, TakesOne, TakesSome, with_read};
 
-use crate::heard::{Event, event_of, push_sends};
-use crate::item::{front_item, is_client};
-use crate::limits::Limits;
+use crate::item::{behind, front_item, is_client};
 use crate::step::{Incoming, Step};
+use crate::watched::Watched;
 use crate::weave::Weaver;
 use h2_cmd_exchange::link::{Link, LinkRead};
 use h2_conn::Conn;
-use h2_explain_words::sent::next_frame;
-use h2_frame::FrameRef;
 use h2_spec::octets::{drop_front, octets_from, octets_up_to};
 use std::alloc::{AllocError, Global};
 use std::marker::Model;
@@ -52,13 +50,27 @@ pub enum End {
     Late,
 }
 
-/// What a client does on a connection.
-#[derive(Drop)]
-pub struct Watched {
-    pub events: Vec<Event>,
-    /// How many events there were when each step was taken.
-    pub marks: Vec<usize>,
-    pub limits: Limits,
+impl End {
+    /// Whether the client ended the connection.
+    pub fn is_closed(self) -> bool
+        ensures { result ≡ is_closed self }
+    {
+        matches!(self, End::Closed)
+    }
+
+    /// Whether nothing came any more.
+    pub fn is_silent(self) -> bool
+        ensures { result ≡ is_silent_end self }
+    {
+        matches!(self, End::Silent)
+    }
+
+    /// Whether the server ended it.
+    pub fn is_by_server(self) -> bool
+        ensures { result ≡ is_by_server self }
+    {
+        matches!(self, End::ByServer(_))
+    }
 }
 
 /// A connection, and how far its dialogue was played.
@@ -85,70 +97,17 @@ impl<'b> Model for Course<'b> {
 
     ghost Value = { plays.Course };
 
-    ghost view = { λ c. record { conn = c.conn; weaving = c.weaver; inbox = c.inbox.items; out = c.out.items } };
-}
-
-impl Watched {
-    /// Nothing happened.
-    fn new(alloc: Global) -> Watched {
-        Watched {
-            events: Vec::new(alloc),
-            marks: Vec::new(alloc),
-            limits: Limits::new(alloc),
-        }
-    }
-
-    /// A frame of the client came, after these steps.
-    fn came(&mut self, base: u32, steps: &[Step], frame: FrameRef<'_>) -> Result<(), AllocError> {
-        if let Some(event) = event_of(frame) {
-            match self.events.push(event) {
-                Ok(()) => {}
-                Err(_) => return Err(AllocError),
-            }
-        }
-        for step in steps {
-            push_sends(base, step.sends.as_slice(), frame, &mut self.events)?;
-        }
-        self.limits.came(frame)
-    }
-
-    /// These octets go to the client.
-    fn sent(&mut self, octets: &[u8]) -> Result<(), AllocError> {
-        let mut rest = octets;
-        for _frame in 0..octets.len() {
-            let Some((frame, behind)) = next_frame(rest) else {
-                return Ok(());
-            };
-            self.limits.sent(frame)?;
-            rest = behind;
-        }
-        Ok(())
-    }
-
-    /// These octets go to the client; whether a step was taken with them.
-    fn note(&mut self, octets: &[u8], is_step: bool) -> Result<(), AllocError> {
-        self.sent(octets)?;
-        if !is_step {
-            return Ok(());
-        }
-        match self.marks.push(self.events.len()) {
-            Ok(()) => Ok(()),
-            Err(_) => Err(AllocError),
-        }
-    }
-}
-
-/// The octets from a place on; none where there are fewer.
-fn behind(octets: &[u8], start: usize) -> &[u8] {
-    octets.get(start..).unwrap_or_default()
+    ghost view = { λ c. record { conn = c.conn; weaving = c.weaver; watched = c.watched; octets = c.octets.items; inbox = c.inbox.items; out = c.out.items } };
 }
 
 /// The first steps, as many as were taken.
-fn steps_taken(steps: &[Step], count: usize) -> &[Step] {
-    match steps.get(..count) {
-        Some(taken) => taken,
-        None => steps,
+fn steps_taken(steps: &[Step], count: usize) -> &[Step]
+    ensures { result.now ≡ take count steps.now }
+{
+    if steps.len() <= count {
+        return steps;
     }
+    &steps[..count]
 }
 
 impl<'b> Course<'b> {
@@ -164,6 +123,8 @@ impl<'b> Course<'b> {
         ensures { IfOk result (λ course. course ≡ record {
           conn = conn.entry;
           weaving = after_item steps.now no_steps_taken Start;
+          watched = watched_item steps.now no_steps_taken nothing_watched Start opening.now;
+          octets = [];
           inbox = [];
           out = woven_item steps.now no_steps_taken Start opening.now;
         }) }
@@ -184,7 +145,9 @@ impl<'b> Course<'b> {
     }
 
     /// The octets of all items that came.
-    pub fn octets(&self) -> &[u8] {
+    pub fn octets(&self) -> &[u8]
+        ensures { result.now ≡ self.now.octets }
+    {
         self.octets.as_slice()
     }
 
@@ -199,17 +162,15 @@ impl<'b> Course<'b> {
     fn weave(&mut self, steps: &[Step], item: Incoming<'_>, sent: &[u8]) -> Result<(), AllocError>
         ensures { OnOk result (self.new ≡ record self.old {
           weaving = after_item steps.now self.old.weaving (incoming_of item.entry);
+          watched = with_octets self.old.watched (woven_item steps.now self.old.weaving (incoming_of item.entry) sent.now)
+              (is_some (next_step steps.now (with_item self.old.weaving (incoming_of item.entry)) (incoming_of item.entry)));
           out = self.old.out ++ woven_item steps.now self.old.weaving (incoming_of item.entry) sent.now;
         }) }
     {
         let before = self.out.len();
-        match self.weaver.weave(steps, item, sent, &mut self.out) {
-            Ok(is_step) => {
-                let sent = behind(self.out.as_slice(), before);
-                self.watched.note(sent, is_step)
-            }
-            Err(error) => Err(error),
-        }
+        let is_step = self.weaver.weave(steps, item, sent, &mut self.out)?;
+        let sent = behind(self.out.as_slice(), before);
+        self.watched.note(sent, is_step)
     }
 
     /// What the server sends for these octets.
@@ -226,12 +187,12 @@ impl<'b> Course<'b> {
 
     /// An item with these octets came: what the client does with it.
     fn hear(&mut self, steps: &[Step], octets: &[u8], item: Incoming<'_>) -> Result<(), AllocError>
-        ensures { self.new ≡ self.old }
+        ensures { OnOk result (self.new ≡ record self.old {
+          watched = heard_item steps.now self.old.weaving self.old.watched (incoming_of item.entry);
+          octets = self.old.octets ++ octets.now;
+        }) }
     {
-        match self.octets.extend_from_slice(octets) {
-            Ok(()) => {}
-            Err(error) => return Err(error),
-        }
+        self.octets.extend_from_slice(octets)?;
         let Incoming::Frame(frame) = item else {
             return Ok(());
         };
@@ -250,14 +211,9 @@ impl<'b> Course<'b> {
     ) -> Result<(), AllocError>
         ensures { OnOk result (TakesOne steps.now self.old (incoming_of item.entry) octets.now self.new) }
     {
-        let sent = match self.feed(alloc, octets) {
-            Ok(sent) => sent,
-            Err(error) => return Err(error),
-        };
-        match self.hear(steps, octets, item) {
-            Ok(()) => self.weave(steps, item, sent.as_slice()),
-            Err(error) => Err(error),
-        }
+        let sent = self.feed(alloc, octets)?;
+        self.hear(steps, octets, item)?;
+        self.weave(steps, item, sent.as_slice())
     }
 
     /// Takes the item that octets begin with, where it is whole. Gives how many octets it has; 0 where it is not.
@@ -274,10 +230,8 @@ impl<'b> Course<'b> {
             return Ok(0);
         };
         self.has_preface = true;
-        match self.take_item(alloc, steps, octets_up_to(octets, count), item) {
-            Ok(()) => Ok(count),
-            Err(error) => Err(error),
-        }
+        self.take_item(alloc, steps, octets_up_to(octets, count), item)?;
+        Ok(count)
     }
 
     /// Takes all items that octets begin with. Gives how many octets they have.
@@ -292,11 +246,11 @@ impl<'b> Course<'b> {
     {
         let mut at = 0usize;
         for _item in 0..octets.len() {
-            match self.take_front(alloc, steps, octets_from(octets, at)) {
-                Ok(0) => return Ok(at),
-                Ok(count) => at += count,
-                Err(error) => return Err(error),
+            let count = self.take_front(alloc, steps, octets_from(octets, at))?;
+            if count == 0 {
+                return Ok(at);
             }
+            at += count;
         }
         Ok(at)
     }
@@ -324,13 +278,9 @@ impl<'b> Course<'b> {
         ensures { OnOk result ((log : Option (List LinkEvent)) → Goes steps.now self.old log self.new log) }
     {
         let inbox = self.take_inbox(alloc);
-        match self.take_octets(alloc, steps, inbox.as_slice()) {
-            Ok(taken) => {
-                self.put_inbox(inbox, taken);
-                Ok(taken > 0)
-            }
-            Err(error) => Err(error),
-        }
+        let taken = self.take_octets(alloc, steps, inbox.as_slice())?;
+        self.put_inbox(inbox, taken);
+        Ok(taken > 0)
     }
 
     /// What a read gave came. Says whether something did, or the end.
@@ -341,10 +291,8 @@ impl<'b> Course<'b> {
         match read {
             LinkRead::Octets(count) => {
                 self.came = self.came.saturating_add(count);
-                match self.inbox.extend_from_slice(octets_up_to(buffer, count)) {
-                    Ok(()) => Ok(true),
-                    Err(error) => Err(error),
-                }
+                self.inbox.extend_from_slice(octets_up_to(buffer, count))?;
+                Ok(true)
             }
             LinkRead::Quiet => Ok(false),
             LinkRead::Ended => {
@@ -364,10 +312,8 @@ impl<'b> Course<'b> {
         ensures { OnOk result ((steps : List Step) → Goes steps self.old (L.log link.old) self.new (L.log link.new)) }
     {
         let read = link.read(millis, buffer);
-        match self.hear_read(read, buffer) {
-            Ok(came) => Ok(came),
-            Err(error) => Err(error),
-        }
+        let came = self.hear_read(read, buffer)?;
+        Ok(came)
     }
 
     /// Reads until nothing comes any more.
@@ -382,10 +328,8 @@ impl<'b> Course<'b> {
             if self.is_closed || self.came > MOST {
                 return Ok(());
             }
-            match self.read(link, buffer, LAST_MILLIS) {
-                Ok(true) => {}
-                Ok(false) => return Ok(()),
-                Err(error) => return Err(error),
+            if !self.read(link, buffer, LAST_MILLIS)? {
+                return Ok(());
             }
         }
         Ok(())
@@ -401,14 +345,9 @@ impl<'b> Course<'b> {
     ) -> Result<(), AllocError>
         ensures { OnOk result (Goes steps.now self.old (L.log link.old) self.new (L.log link.new)) }
     {
-        match self.read_rest(link, buffer) {
-            Ok(()) => {}
-            Err(error) => return Err(error),
-        }
-        match self.take_all(alloc, steps) {
-            Ok(_) => Ok(()),
-            Err(error) => Err(error),
-        }
+        self.read_rest(link, buffer)?;
+        self.take_all(alloc, steps)?;
+        Ok(())
     }
 
     /// Why the dialogue can't go on, if it can't.
@@ -464,19 +403,16 @@ impl<'b> Course<'b> {
     ) -> Result<Option<End>, AllocError>
         ensures { OnOk result (Goes steps.now self.old (L.log link.old) self.new (L.log link.new)) }
     {
-        match self.take_all(alloc, steps) {
-            Ok(true) => return Ok(None),
-            Ok(false) => {}
-            Err(error) => return Err(error),
+        if self.take_all(alloc, steps)? {
+            return Ok(None);
         }
         if self.is_closed {
             return Ok(Some(End::Closed));
         }
-        match self.read(link, buffer, millis) {
-            Ok(true) => Ok(None),
-            Ok(false) => Ok(Some(End::Silent)),
-            Err(error) => Err(error),
+        if self.read(link, buffer, millis)? {
+            return Ok(None);
         }
+        Ok(Some(End::Silent))
     }
 
     /// One turn of a connection whose output is written.
@@ -493,10 +429,8 @@ impl<'b> Course<'b> {
         if let Some(end) = self.stop(link) {
             return Ok(Some(end));
         }
-        match self.take_or_read(alloc, steps, link, buffer, millis) {
-            Ok(end) => Ok(end),
-            Err(error) => Err(error),
-        }
+        let end = self.take_or_read(alloc, steps, link, buffer, millis)?;
+        Ok(end)
     }
 
     /// One turn: writes, and takes what was read; where there was no item, reads.
@@ -511,18 +445,14 @@ impl<'b> Course<'b> {
         ensures { OnOk result (Goes steps.now self.old (L.log link.old) self.new (L.log link.new)) }
     {
         if !self.write(link) {
-            match self.read_last(alloc, steps, link, buffer) {
-                Ok(()) => return Ok(Some(End::Closed)),
-                Err(error) => return Err(error),
-            }
+            self.read_last(alloc, steps, link, buffer)?;
+            return Ok(Some(End::Closed));
         }
         if self.is_closed && self.inbox.is_empty() {
             return Ok(Some(End::Closed));
         }
-        match self.turn_on(alloc, steps, link, buffer, millis) {
-            Ok(end) => Ok(end),
-            Err(error) => Err(error),
-        }
+        let end = self.turn_on(alloc, steps, link, buffer, millis)?;
+        Ok(end)
     }
 
     /// Plays the connection to its end; a client that is silent for this many milliseconds ends it.
@@ -539,10 +469,8 @@ impl<'b> Course<'b> {
     {
         let mut buffer = [0u8; READ_SIZE];
         for _turn in 0..TURNS {
-            match self.turn(alloc, steps, link, &mut buffer, millis) {
-                Ok(None) => {}
-                Ok(Some(end)) => return Ok(end),
-                Err(error) => return Err(error),
+            if let Some(end) = self.turn(alloc, steps, link, &mut buffer, millis)? {
+                return Ok(end);
             }
         }
         Ok(End::TooMuch)

@@ -1,11 +1,13 @@
 //! The steps of a dialogue, and which item of the client each waits for. Definitions: `specs/Steps.antt`.
 
 ghost use Rattle.std.specs.Prelude.{◌≡◌};
+ghost use Rattle.h2_cmd_dialogue.specs.Findings.{holds, is_optional};
 ghost use Rattle.h2_cmd_dialogue.specs.Steps.{based, fits, incoming_of, is_pong, names, with_request};
 
 use crate::verdict::WantedLine;
 use h2_frame::{FrameRef, Head};
 use h2_spec::frames::{ACK, HEADERS, PING};
+use std::marker::Model;
 
 /// The octets of the PING that follows the frames of a step.
 pub const PROBE: [u8; 8] = *b"h2_bench";
@@ -36,6 +38,14 @@ pub struct ScriptFrame {
     pub payload: Vec<u8>,
 }
 
+impl Model for ScriptFrame {
+    ghost use Rattle.h2_cmd_dialogue.specs.Steps as steps;
+
+    ghost Value = { steps.ScriptFrame };
+
+    ghost view = { λ f. record { head = f.head; payload = f.payload.items } };
+}
+
 /// Which frames a line means.
 #[derive(Clone, Copy)]
 pub enum Means {
@@ -56,6 +66,14 @@ pub struct SendsLine {
     pub frame: ScriptFrame,
 }
 
+impl Model for SendsLine {
+    ghost use Rattle.h2_cmd_dialogue.specs.Steps as steps;
+
+    ghost Value = { steps.SendsLine };
+
+    ghost view = { λ l. record { line = l.line; means = l.means; frame = l.frame } };
+}
+
 /// A step of a dialogue.
 #[derive(Drop)]
 pub struct Step {
@@ -68,6 +86,35 @@ pub struct Step {
     /// What the client does then; a PING follows the frames where there is such a line.
     pub wanted: Vec<WantedLine>,
     pub sends: Vec<SendsLine>,
+}
+
+impl Model for Step {
+    ghost use Rattle.h2_cmd_dialogue.specs.Steps as steps;
+
+    ghost Value = { steps.Step };
+
+    ghost view = { λ s. record { line = s.line; awaited = s.awaited; is_instead = s.is_instead; frames = s.frames.items; wanted = s.wanted.items; sends = s.sends.items } };
+}
+
+impl Means {
+    /// Whether a line holds where what it means was sent, or was not.
+    pub fn holds(self, is_sent: bool) -> bool
+        ensures { result ≡ holds self is_sent }
+    {
+        match self {
+            Means::Frame | Means::Beginning => is_sent,
+            Means::Never => !is_sent,
+        }
+    }
+}
+
+impl Step {
+    /// Whether it need not be reached.
+    pub fn is_optional(&self) -> bool
+        ensures { result ≡ is_optional self.now }
+    {
+        self.frames.is_empty() && self.wanted.is_empty()
+    }
 }
 
 /// What comes from a client.

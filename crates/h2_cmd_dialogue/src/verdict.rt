@@ -2,6 +2,7 @@
 //! is decided by the one table of allowed reactions, `Conforming` of h2_spec. Definitions: `specs/Verdicts.antt`.
 
 ghost use Rattle.std.specs.Prelude.{◌≡◌, None};
+ghost use Rattle.h2_cmd_dialogue.specs.Findings.{does_go_on, is_broken, is_same};
 ghost use Rattle.h2_cmd_dialogue.specs.Verdicts.{best_of, better, is_goes_on, is_reaction, is_silent, judged, missed, observed, rank, row_of, table_verdict};
 
 use h2_spec::conforming::{Codes, Conforming, Least, Observed, Permission, Reactions};
@@ -151,6 +152,13 @@ impl Wanted {
 }
 
 impl Taken {
+    /// Whether the client goes on.
+    pub fn does_go_on(self) -> bool
+        ensures { result ≡ does_go_on self }
+    {
+        matches!(self, Taken::GoesOn)
+    }
+
     /// Whether it is silence.
     fn is_silent(self) -> bool
         ensures { result ≡ is_silent self }
@@ -194,6 +202,20 @@ pub fn judge(duty: Duty, wanted: Wanted, taken: Taken) -> Judged
 }
 
 impl Judged {
+    /// Whether it is what a line says.
+    pub fn is_same(self) -> bool
+        ensures { result ≡ is_same self }
+    {
+        matches!(self, Judged::Same)
+    }
+
+    /// Whether it makes the result of a dialogue `not ok`.
+    pub fn is_broken(self) -> bool
+        ensures { result ≡ is_broken self }
+    {
+        matches!(self, Judged::Broken)
+    }
+
     /// The place of a verdict, from the best to the worst.
     fn rank(self) -> u8
         ensures { result ≡ rank self }

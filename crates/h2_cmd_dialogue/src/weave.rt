@@ -1,16 +1,17 @@
 //! What goes out for each item of a client, where a script adds frames to what the server sends. Definitions:
 //! `specs/Woven.antt`.
 
-ghost use Rattle.std.specs.Prelude.{◌≡◌, ◌++◌, ◌≤◌, length, drop, take, option_map, IfOk, OnOk, is_some, Some};
+ghost use Rattle.std.specs.Prelude.{◌≡◌, ◌++◌, ◌≤◌, length, take, option_map, IfOk, OnOk, is_some, Some};
 ghost use Rattle.h2_spec.specs.Octets.{big_endian};
 ghost use Rattle.h2_cmd_dialogue.specs.Steps.{incoming_of};
 ghost use Rattle.h2_cmd_dialogue.specs.Woven.{after_item, base_of, kept, kept_frame, kept_frames, last_of, last_sent, later, next_step, no_steps_taken, reset_by, resets, script_frame, script_frames, script_octets, stream_sent, with_item, woven_item, written};
 
+use crate::item::behind;
 use crate::step::{Incoming, PROBE, ScriptFrame, Step, based, with_request};
 use h2_explain_words::sent::next_frame;
 use h2_frame::{FrameRef, Part, append_frame, part_of};
 use h2_spec::frames::{PING, RST_STREAM};
-use h2_spec::octets::{first_octets, octets_from, octets_up_to};
+use h2_spec::octets::{first_octets, octets_up_to};
 use std::alloc::{AllocError, Global};
 use std::marker::Model;
 
@@ -61,7 +62,7 @@ fn last_of(base: u32, last: u32) -> Option<u32>
 
 /// That of a frame of the script, if it is GOAWAY.
 fn last_sent(base: u32, frame: &ScriptFrame) -> Option<u32>
-    ensures { result ≡ last_sent base frame.now.head frame.now.payload.items }
+    ensures { result ≡ last_sent base frame.now.head frame.now.payload }
 {
     let frame = FrameRef {
         head: frame.head,
@@ -71,16 +72,6 @@ fn last_sent(base: u32, frame: &ScriptFrame) -> Option<u32>
         Ok(Part::Goaway(last, _)) => last_of(base, last),
         _ => None,
     }
-}
-
-/// The octets after the first four.
-fn behind_four(octets: &[u8]) -> &[u8]
-    ensures { result.now ≡ drop 4 octets.now }
-{
-    if octets.len() < 4 {
-        return &[];
-    }
-    octets_from(octets, 4)
 }
 
 /// The octets of a number.
@@ -113,7 +104,7 @@ fn put_frame(base: u32, frame: &ScriptFrame, out: &mut Vec<u8>) -> Result<(), Al
     match last_sent(base, frame) {
         None => append_frame(kind, flags, stream, &[], at_most(payload, LONGEST), out),
         Some(last) => {
-            let rest = at_most(behind_four(payload), LONGEST - 4);
+            let rest = at_most(behind(payload, 4), LONGEST - 4);
             append_frame(kind, flags, stream, &four_octets(last), rest, out)
         }
     }
@@ -124,10 +115,7 @@ fn put_frames(base: u32, frames: &[ScriptFrame], out: &mut Vec<u8>) -> Result<()
     ensures { OnOk result (out.new.items ≡ out.old.items ++ script_frames base frames.now) }
 {
     for frame in frames {
-        match put_frame(base, frame, out) {
-            Ok(()) => {}
-            Err(error) => return Err(error),
-        }
+        put_frame(base, frame, out)?;
     }
     Ok(())
 }
@@ -136,10 +124,7 @@ fn put_frames(base: u32, frames: &[ScriptFrame], out: &mut Vec<u8>) -> Result<()
 fn put_script(base: u32, step: &Step, out: &mut Vec<u8>) -> Result<(), AllocError>
     ensures { OnOk result (out.new.items ≡ out.old.items ++ script_octets base step.now) }
 {
-    match put_frames(base, step.frames.as_slice(), out) {
-        Ok(()) => {}
-        Err(error) => return Err(error),
-    }
+    put_frames(base, step.frames.as_slice(), out)?;
     if step.wanted.is_empty() {
         return Ok(());
     }
@@ -197,10 +182,7 @@ fn put_all_kept(reset: &[u32], sent: &[u8], out: &mut Vec<u8>) -> Result<(), All
         let Some((frame, behind)) = next_frame(rest) else {
             return Ok(());
         };
-        match put_kept(reset, frame, rest, out) {
-            Ok(()) => {}
-            Err(error) => return Err(error),
-        }
+        put_kept(reset, frame, rest, out)?;
         rest = behind;
     }
     Ok(())
@@ -276,19 +258,10 @@ impl Weaver {
     {
         let base = self.base();
         if !step.is_instead {
-            match put_sent(self.reset.as_slice(), sent, out) {
-                Ok(()) => {}
-                Err(error) => return Err(error),
-            }
+            put_sent(self.reset.as_slice(), sent, out)?;
         }
-        match put_script(base, step, out) {
-            Ok(()) => {}
-            Err(error) => return Err(error),
-        }
-        match put_resets(base, step.frames.as_slice(), &mut self.reset) {
-            Ok(()) => {}
-            Err(error) => return Err(error),
-        }
+        put_script(base, step, out)?;
+        put_resets(base, step.frames.as_slice(), &mut self.reset)?;
         self.taken = self.taken.saturating_add(1);
         Ok(())
     }
@@ -309,14 +282,14 @@ impl Weaver {
     {
         self.base = with_request(self.base, item);
         match self.next_step(steps, item) {
-            Some(step) => match self.take_step(step, sent, out) {
-                Ok(()) => Ok(true),
-                Err(error) => Err(error),
-            },
-            None => match put_sent(self.reset.as_slice(), sent, out) {
-                Ok(()) => Ok(false),
-                Err(error) => Err(error),
-            },
+            Some(step) => {
+                self.take_step(step, sent, out)?;
+                Ok(true)
+            }
+            None => {
+                put_sent(self.reset.as_slice(), sent, out)?;
+                Ok(false)
+            }
         }
     }
 }

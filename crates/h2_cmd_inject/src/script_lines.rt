@@ -69,7 +69,8 @@ pub fn item_of(alloc: Global, text: &[u8]) -> Result<Awaited, LineRefusal> {
     if text == b"pong".as_slice() {
         return Ok(Awaited::Pong);
     }
-    let head = pattern_frame(alloc, text)?.head;
+    let frame = pattern_frame(alloc, text)?;
+    let head = frame.head;
     Ok(Awaited::Frame(Pattern {
         kind: head.kind,
         flags: head.flags,

@@ -5,5 +5,5 @@ use Rattle.h2_cmd_check.proofs.command.debugger_over.Goals as goal
 
 pub returns-in-Ok-load : goal.returns-in-Ok-load
 returns-in-Ok-load c =
-    let same = each_same c.args.octets.now.items c.in_ok-octets.octets.items c.in_ok-octets.ensures.cases.0 in
+    let same = each_same c.args.octets.now.items c.in-Ok.octets.items c.in-Ok.ensures.cases.0 in
     c.in-Ok-load.ensures.ok ∙ ap (loaded c.args.given.now.book.now c.args.given.now.config) same

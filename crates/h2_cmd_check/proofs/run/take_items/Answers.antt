@@ -6,19 +6,19 @@ use Rattle.h2_cmd_check.proofs.run.take_items.Goals as goal
 
 pub overflow_add-at : goal.overflow_add-at
 overflow_add-at c =
-    let item = rw (c.octets_from.ensures, c.in-Some.is) at c.in_ok-take_item.ensures.takes in
+    let item = rw (c.octets_from.ensures, c.in-Some.is) at c.in_ok-used.ensures.takes in
     let within = within_next c.loop-used.conn.state c.take_item.new.conn.state c.args.octets.now c.loop-used.at c.in-Some.used item.event c.loop-used.invariant.within item.comes in
     omega (arith, within.1)
 
 pub loop-used-smaller : goal.loop-used-smaller
 loop-used-smaller c =
-    let item = rw (c.octets_from.ensures, c.in-Some.is) at c.in_ok-take_item.ensures.takes in
+    let item = rw (c.octets_from.ensures, c.in-Some.is) at c.in_ok-used.ensures.takes in
     let within = within_next c.loop-used.conn.state c.take_item.new.conn.state c.args.octets.now c.loop-used.at c.in-Some.used item.event c.loop-used.invariant.within item.comes in
     omega (arith, within.0, within.1)
 
 pub loop-used-preserved : goal.loop-used-preserved
 loop-used-preserved c =
-    let item = rw (c.octets_from.ensures, c.in-Some.is) at c.in_ok-take_item.ensures.takes in
+    let item = rw (c.octets_from.ensures, c.in-Some.is) at c.in_ok-used.ensures.takes in
     let s = c.loop-used.conn.state in
     let t = c.take_item.new.conn.state in
     let within = within_next s t c.args.octets.now c.loop-used.at c.in-Some.used item.event c.loop-used.invariant.within item.comes in
@@ -35,7 +35,7 @@ loop-used-preserved c =
 
 pub returns-in-None : goal.returns-in-None
 returns-in-None c =
-    let none = rw (c.octets_from.ensures, c.in-None.is) at c.in_ok-take_item.ensures.takes in
+    let none = rw (c.octets_from.ensures, c.in-None.is) at c.in_ok-used.ensures.takes in
     let same : c.take_item.new.seen.items ≡ c.loop-used.seen.items = ap (λ (x : Sight). x.items) none.sight in
     record {
       ready = c.take_item.ensures.ready;

@@ -1,4 +1,3 @@
-use Rattle.std.proofs.Common.{List}
 use Rattle.h2_cmd_dialogue.specs.Plays.{Goes}
 use Rattle.h2_cmd_dialogue.proofs.play.Course.play.Given as goal
 

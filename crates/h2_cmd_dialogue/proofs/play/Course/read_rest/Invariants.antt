@@ -1,5 +1,5 @@
 use Rattle.std.proofs.Common.{List}
-use Rattle.h2_cmd_dialogue.specs.declared.step.Step.{Step}
+use Rattle.h2_cmd_dialogue.specs.Steps.{Step}
 use Rattle.h2_cmd_dialogue.specs.Plays.{Goes}
 use Rattle.h2_cmd_dialogue.proofs.play.Course.read_rest.Given as goal
 

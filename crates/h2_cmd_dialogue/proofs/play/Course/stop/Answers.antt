@@ -1,4 +1,3 @@
-use Rattle.std.proofs.Common.{◌≡◌}
 use Rattle.h2_cmd_dialogue.proofs.PlayLaws.{goes-late, goes-none}
 use Rattle.h2_cmd_dialogue.proofs.play.Course.stop.Goals as goal
 

@@ -1,4 +1,4 @@
-use Rattle.std.proofs.Common.{◌≡◌, ◌∙◌, ℕ, List, ap}
+use Rattle.std.proofs.Common.{◌∙◌, ℕ, List, ap}
 use Rattle.h2_cmd_exchange.specs.Links.{Sent, happened}
 use Rattle.h2_cmd_dialogue.proofs.PlayLaws.{goes-none, goes-put}
 use Rattle.h2_cmd_dialogue.proofs.play.Course.write.Goals as goal
