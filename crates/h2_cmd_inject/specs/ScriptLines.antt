@@ -110,7 +110,7 @@ abbrev pub rest_of_words : List ℕ → List ℕ
 rest_of_words text = words_after text (position (λ octet. octet == 32) text)
 
 abbrev pub has_name : (code : ℕ) → List ℕ → Bool
-has_name code name = option_map_or (λ known. bytes_eq known name) false (code_name code)
+has_name code name = option_map_or (λ known. bytes_eq known name) (code_name code) false
 
 -- the first code with a name, of this many from one on
 abbrev pub code_upto : ℕ → (code : ℕ) → List ℕ → Option ℕ

@@ -32,9 +32,9 @@ pub struct Dialogue {
 }
 
 impl Model for Dialogue {
-    ghost use Rattle.h2_cmd_inject.specs.Dialogues as dialogues;
+    ghost use Rattle.h2_cmd_inject.specs.Dialogues as files;
 
-    ghost Value = { dialogues.Dialogue };
+    ghost Value = { files.Dialogue };
 
     ghost view = { λ d. record { first = d.first; count = d.count; steps = d.steps.items } };
 }
@@ -52,9 +52,9 @@ struct Reading {
 }
 
 impl Model for Reading {
-    ghost use Rattle.h2_cmd_inject.specs.Dialogues as dialogues;
+    ghost use Rattle.h2_cmd_inject.specs.Dialogues as files;
 
-    ghost Value = { dialogues.Reading };
+    ghost Value = { files.Reading };
 
     ghost view = { λ r. record { dialogues = r.dialogues.items; first = r.first; steps = r.steps.items; last = r.last } };
 }

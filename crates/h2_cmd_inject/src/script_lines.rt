@@ -1,6 +1,6 @@
 //! The parts of a dialogue's lines: items, frames, and what a client has to do. Definitions: `specs/ScriptLines.antt`.
 
-ghost use Rattle.std.specs.Prelude.{◌≡◌, IfOk, None, bytes_eq, drop, length, option_map_or, position, take, false};
+ghost use Rattle.std.specs.Prelude.{◌≡◌, IfOk, None, bytes_eq, drop, length, position, take, false};
 ghost use Rattle.h2_cmd_inject.specs.ScriptLines.{code_named, digits_of, duty_of, first_word, frame_at, frame_said, front_frame, has_name, is_octets, is_status, item_said, pattern_at, pattern_said, rest_of_words, sends_said, wanted_in, wanted_said, wanted_stream};
 ghost use Rattle.h2_cmd_inject.specs.Whys.{Reads};
 

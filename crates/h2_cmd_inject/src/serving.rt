@@ -123,11 +123,12 @@ fn lines_from<'c, 't>(lines: &'c [&'t [u8]], first: usize) -> &'c [&'t [u8]]
 fn lines_of<'p, 't>(play: Play<'p, 't>) -> &'p [&'t [u8]]
     ensures { result.now ≡ take play.entry.dialogue.now.count (drop play.entry.dialogue.now.first play.entry.lines.now) }
 {
-    let rest = lines_from(play.lines, play.dialogue.first);
-    if rest.len() <= play.dialogue.count {
+    let dialogue = play.dialogue;
+    let rest = lines_from(play.lines, dialogue.first);
+    if rest.len() <= dialogue.count {
         return rest;
     }
-    &rest[..play.dialogue.count]
+    &rest[..dialogue.count]
 }
 
 /// The limits, the settings and the book that a dialogue says, if it says some.
@@ -142,10 +143,11 @@ fn own<F: Files>(
     if !have_words(lines) {
         return Ok(None);
     }
+    let dialogue = play.dialogue;
     let case = Case {
         file: play.file,
         lines,
-        number: play.dialogue.first.saturating_add(1),
+        number: dialogue.first.saturating_add(1),
     };
     match own_of(alloc, files, case) {
         Ok(own) => Ok(Some(own)),
@@ -220,7 +222,8 @@ fn play_first<L: Link, O: Output>(
     requires writer { O.has_failed output.old ≡ false }
     ensures flag { O.has_failed output.new ≡ is_unwritten result }
 {
-    let steps = play.dialogue.steps.as_slice();
+    let dialogue = play.dialogue;
+    let steps = dialogue.steps.as_slice();
     let (course, end) = play_one(alloc, book, config, steps, link)?;
     let ended = Ended {
         course: &course,
@@ -241,7 +244,7 @@ fn play_first<L: Link, O: Output>(
         play.number,
         title,
         play.lines,
-        play.dialogue.first,
+        dialogue.first,
         findings.as_slice(),
         ending,
     )?;
