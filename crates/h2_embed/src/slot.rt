@@ -1,0 +1,51 @@
+//! The slot in which C keeps a connection between calls. Definitions: `specs/Kept.antt`.
+
+ghost use Rattle.std.specs.Prelude.{◌≡◌, Some, None, is_some, option_map, IfSome};
+ghost use Rattle.h2_embed.specs.Kept.{IsReady, IsReadyIf};
+
+use crate::hold::Hold;
+use crate::kept::KeptConnection;
+use crate::parts::Parts;
+use std::alloc::Global;
+use std::mem;
+
+/// A connection that stays between calls, or none. All octets 0 are a slot with none.
+#[repr(C)]
+#[derive(Drop)]
+pub struct Slot {
+    /// Whether there is a connection.
+    is_open: bool,
+    hold: Hold,
+    pub ghost agrees: { is_open ≡ is_some hold.kept },
+    pub ghost ready: { IsReadyIf hold.kept },
+}
+
+/// Takes the connection out of a slot, which has none then.
+pub(crate) fn take(alloc: Global, slot: &mut Slot) -> Option<Box<KeptConnection>>
+    ensures kept { option_map (λ b. b.value) result ≡ slot.old.hold.kept }
+    ensures ready { IfSome result (λ b. IsReady b.value) }
+    ensures none { slot.new.hold.kept ≡ None }
+{
+    let empty = Slot {
+        is_open: false,
+        hold: Hold::none(alloc),
+    };
+    let Slot { is_open, hold } = mem::replace(slot, empty);
+    if is_open {
+        Some(hold.into_parts().into_box())
+    } else {
+        None
+    }
+}
+
+/// Puts a connection into a slot, from which the one before was taken.
+pub(crate) fn put(slot: &mut Slot, kept: Box<KeptConnection>)
+    requires ready { IsReady kept.value }
+    ensures { slot.new.hold.kept ≡ Some kept.value }
+{
+    let full = Slot {
+        is_open: true,
+        hold: Hold::of_parts(Parts::of(kept)),
+    };
+    let _none = mem::replace(slot, full);
+}
