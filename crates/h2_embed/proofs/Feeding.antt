@@ -1,4 +1,4 @@
--- What is said of a connection that is kept goes on from call to call.
+-- The text about a connection that is kept goes on from call to call.
 use Rattle.std.proofs.Common.{◌≡◌, ◌⊎◌, ℕ, ◌+◌, ◌<◌, ◌^◌, ◌++◌, List, [], length, Some, false, refl, sym, ap, subst, ◌∙◌, append_assoc, arith, inl}
 use Rattle.h2_spec.specs.State.{State}
 use Rattle.h2_conn.specs.Connection.{Connection, going}

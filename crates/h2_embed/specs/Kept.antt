@@ -1,4 +1,4 @@
--- A connection that stays between calls: what is said of it over all calls, and what each call gives.
+-- A connection that stays between calls: its text over all calls, and what each call gives.
 use Rattle.std.specs.Prelude.{◌≡◌, ◌⊎◌, ℕ, ◌<◌, ◌≤◌, ◌^◌, ◌++◌, Bool, true, false, List, [], length, Option, Some, None, Result, Ok, Err}
 use Rattle.h2_spec.specs.Requests.Answer.{Entry}
 use Rattle.h2_spec.specs.State.{State, is_allowed, opening}
@@ -30,7 +30,7 @@ IsReadyIf None = Unit {0}
 IsReadyIf (Some k) = IsReady k
 
 -- a connection that began in this state took these octets, in any cut: it is that of the definition after them, and what
--- was given so far, with what waits, begins their explanation
+-- was given so far, with the text that is not given yet, begins their explanation
 abbrev pub Stands : Form → State → (octets given : List ℕ) → KeptConnection → Type 0
 Stands form s octets given k = (k.explanation.form ≡ form) × IsExplaining s octets k.conn k.explanation × IsBeginning s octets k.explanation (given ++ k.pending.items)
 
@@ -38,7 +38,7 @@ Stands form s octets given k = (k.explanation.form ≡ form) × IsExplaining s o
 abbrev pub GoesOn : KeptConnection → List ℕ → KeptConnection → Type 0
 GoesOn k octets k' = (form : Form) (s : State) (before given : List ℕ) → Stands form s before given k → Stands form s (before ++ octets) given k'
 
--- what is said of the end: with all that was said before, the explanation of all octets that came
+-- the text about the end: with all before it, the explanation of all octets that came
 abbrev pub IsEnd : KeptConnection → List ℕ → Type 0
 IsEnd k text = (form : Form) (s : State) (octets given : List ℕ) → Stands form s octets given k → IsExplanation form false s octets ((given ++ k.pending.items) ++ text)
 
@@ -48,7 +48,8 @@ IsState k text = text ≡ show (view k.conn.state)
 
 -- ---- what a call gives
 
--- what waited was put at the front of a place with that much space; or it still waits, where it has no space
+-- the text that was not given was put at the front of a place with that much space; or it is still not given, where it has
+-- no space
 abbrev pub Hands : KeptConnection → (room : ℕ) → (put : List ℕ) → KeptConnection → RunEnd → Type 0
 Hands k room put k' end =
     (k'.conn ≡ k.conn) × (k'.explanation ≡ k.explanation) × (k.pending.items ≡ put ++ k'.pending.items)
@@ -58,8 +59,8 @@ Hands k room put k' end =
 abbrev pub GoesTo : KeptConnection → (octets put : List ℕ) → KeptConnection → Type 0
 GoesTo k octets put k' = (form : Form) (s : State) (before given : List ℕ) → Stands form s before given k → Stands form s (before ++ octets) (given ++ put) k'
 
--- the connection took the octets, and what waited was given with what is said of them, or still waits; or memory was refused,
--- and there is none more
+-- the connection took the octets, and the text that is new was put, or is kept for the next call; or memory was refused, and
+-- there is no connection any more
 abbrev pub FeedsTo : KeptConnection → List ℕ → (room : ℕ) → (put : List ℕ) → Option KeptConnection → RunEnd → Type 0
 FeedsTo k octets room put kept' end =
     ((k' : KeptConnection) × (kept' ≡ Some k') × GoesTo k octets put k' × PutsText (put ++ k'.pending.items) room put end)

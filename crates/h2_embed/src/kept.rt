@@ -1,14 +1,13 @@
 //! A connection that stays between calls, with its explanation. Definitions: `specs/Kept.antt`.
 
-ghost use Rattle.std.specs.Prelude.{◌≡◌, ◌≤◌, ◌⊎◌, [], true, false, length, take, drop, IfOk, IfErr, OnOk};
+ghost use Rattle.std.specs.Prelude.{◌≡◌, ◌≤◌, [], true, length, take, drop, IfOk, OnOk};
 ghost use Rattle.std.specs.String.{string_bytes};
 ghost use Rattle.h2_spec.specs.State.{is_allowed, opening};
-ghost use Rattle.h2_conn.specs.declared.fault.ConnFault.TheVariants.{NoMemory};
 ghost use Rattle.h2_embed.specs.Kept.{GoesOn, Hands, IsEnd, IsReady, IsState, Stands};
 
 use crate::fault::{RunEnd, RunFault, given};
 use crate::put::put;
-use h2_conn::{Conn, ConnFault};
+use h2_conn::Conn;
 use h2_explain::{Form, ItemOutbox, NoRecord, RunExplainer};
 use h2_io::Gathered;
 use h2_request_book::book::Book;
@@ -19,11 +18,11 @@ use std::mem;
 /// More octets than a connection ever has.
 const MOST: usize = 1 << 63;
 
-/// A connection over the octets that came so far, its explanation, and the text that waits to be given.
+/// A connection over the octets that came so far, its explanation, and the text about them that is not given yet.
 pub struct KeptConnection {
     pub(crate) conn: Conn<'static, Global>,
     pub(crate) explanation: RunExplainer,
-    /// What was said of the items so far and is not given yet.
+    /// The text about the items so far that is not given yet.
     pub(crate) pending: Vec<u8>,
     /// How many octets came.
     pub(crate) came: usize,
@@ -42,26 +41,23 @@ impl Drop for KeptConnection {
 }
 
 impl KeptConnection {
-    /// A connection of which no octets came.
+    /// A connection to which no octets came.
     ///
-    /// # Errors
-    ///
-    /// `BadConfig` where a limit or a setting is outside its range; then `NoMemory`.
+    /// `AllocError` where memory is refused.
     pub(crate) fn new(
         alloc: Global,
         book: &'static Book<Global>,
         config: Config,
         form: Form,
-    ) -> Result<KeptConnection, ConnFault>
+    ) -> Result<KeptConnection, AllocError>
+        requires allowed { is_allowed config ≡ true }
         ensures ready { IfOk result (λ kept. IsReady kept) }
         ensures stands { IfOk result (λ kept. Stands form (opening book.now config) [] [] kept) }
-        ensures allowed { OnOk result (is_allowed config ≡ true) }
-        ensures fault { IfErr result (λ fault. (fault ≡ NoMemory) ⊎ (is_allowed config ≡ false)) }
     {
         let mut sent = Vec::new(alloc);
         let conn = match Conn::new(book, config, &mut sent) {
             Ok(conn) => conn,
-            Err(fault) => return Err(fault),
+            Err(_) => return Err(AllocError),
         };
         match RunExplainer::new(alloc, form) {
             Ok(explanation) => Ok(KeptConnection {
@@ -70,11 +66,11 @@ impl KeptConnection {
                 pending: Vec::new(alloc),
                 came: 0,
             }),
-            Err(_) => Err(ConnFault::NoMemory),
+            Err(_) => Err(AllocError),
         }
     }
 
-    /// Takes octets. What there is to say of the items that are whole now comes after what waits to be given.
+    /// Takes octets. The text about the items that are whole now comes after that which is not given yet.
     ///
     /// `AllocError` where memory is refused: the connection can't go on.
     pub(crate) fn feed(&mut self, alloc: Global, octets: &[u8]) -> Result<(), AllocError>
@@ -108,8 +104,8 @@ impl KeptConnection {
         }
     }
 
-    /// Gives what waits, at the front of `out`, and says how the call ended; nothing where it has no space there. Returns
-    /// how many octets were given.
+    /// Gives the text that is not given yet, at the front of `out`, and says how the call ended; nothing where it has no
+    /// space there. Returns how many octets were given.
     pub(crate) fn give(&mut self, out: &mut [u8], end: &mut RunEnd) -> usize
         requires ready { IsReady self.old }
         ensures ready { IsReady self.new }
@@ -137,7 +133,7 @@ impl KeptConnection {
         self.conn.show(alloc)
     }
 
-    /// What is said of the end, after all that was said of items.
+    /// The text about the end, after all texts about items.
     ///
     /// `AllocError` where memory is refused.
     pub(crate) fn end_text(&self, alloc: Global) -> Result<Vec<u8>, AllocError>

@@ -18,7 +18,6 @@ use h2_cmd_args::Words;
 use h2_cmd_args::command::{BookWords, Explain, Plan, Refusal, parse};
 use h2_cmd_batch::book_for_words;
 use h2_cmd_book_file::FilesInMemory;
-use h2_conn::ConnFault;
 use h2_explain::Form;
 use h2_io::Gathered;
 use h2_request_book::book::Book;

@@ -57,7 +57,7 @@ pub(crate) fn put_text(text: &[u8], out: &mut [u8], end: &mut RunEnd) -> usize
     ensures rest { drop result out.new ≡ drop result out.old }
 {
     let count = text.len();
-    if count > out.len() {
+    if out.len() < count {
         *end = given(RunFault::NoRoom.number(), count);
         return 0;
     }
