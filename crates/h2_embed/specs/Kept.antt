@@ -5,7 +5,6 @@ use Rattle.h2_spec.specs.State.{State, is_allowed, opening}
 use Rattle.h2_spec.specs.Texts.Show.{show}
 use Rattle.h2_spec.specs.Texts.View.{view}
 use Rattle.h2_spec.specs.declared.connection.Config.{Config}
-use Rattle.h2_conn.specs.Connection.{going}
 use Rattle.h2_explain.specs.Explaining.{IsBeginning, IsExplaining, total}
 use Rattle.h2_explain.specs.Explains.{IsExplanation}
 use Rattle.h2_explain.specs.declared.run.Form.{Form}
@@ -21,13 +20,9 @@ use Rattle.h2_embed.specs.declared.kept.KeptConnection.{KeptConnection}
 
 -- ---- over all calls
 
--- it can go on: the connection holds no octets itself, and this many came
+-- it can go on: the connection holds no octets itself, was refused no memory, and this many octets came
 abbrev pub IsReady : KeptConnection → Type 0
-IsReady k = (k.conn ≡ going k.conn.state []) × (k.explanation.items ≤ k.explanation.offset) × (total k.explanation ≡ k.came) × (k.came < 2 ^ 63)
-
-abbrev pub IsReadyIf : Option KeptConnection → Type 0
-IsReadyIf None = Unit {0}
-IsReadyIf (Some k) = IsReady k
+IsReady k = (k.conn.rest ≡ []) × (k.conn.failed ≡ false) × (k.explanation.items ≤ k.explanation.offset) × (total k.explanation ≡ k.came) × (k.came < 2 ^ 63)
 
 -- a connection that began in this state took these octets, in any cut: it is that of the definition after them, and what
 -- was given so far, with the text that is not given yet, begins their explanation

@@ -1,7 +1,8 @@
 //! The slot in which C keeps a connection between calls. Definitions: `specs/Kept.antt`.
 
-ghost use Rattle.std.specs.Prelude.{◌≡◌, Some, None, is_some, option_map, IfSome};
-ghost use Rattle.h2_embed.specs.Kept.{IsReady, IsReadyIf};
+ghost use Rattle.std.specs.Prelude.{◌≡◌, Some, None, true, is_some, option_map, IfSome};
+ghost use Rattle.h2_embed.specs.Kept.{IsReady};
+ghost use Rattle.std.proofs.Props.{props};
 
 use crate::hold::Hold;
 use crate::kept::KeptConnection;
@@ -17,7 +18,26 @@ pub struct Slot {
     is_open: bool,
     hold: Hold,
     pub ghost agrees: { is_open ≡ is_some hold.kept },
-    pub ghost ready: { IsReadyIf hold.kept },
+    pub ghost ready: { IfSome hold.kept (λ kept. IsReady kept) } by { Prim.hlevel props },
+}
+
+/// What is held.
+fn release(hold: Hold) -> Box<KeptConnection>
+    requires held { is_some hold.kept ≡ true }
+    requires ready { IfSome hold.kept (λ kept. IsReady kept) }
+    ensures value { Some result.value ≡ hold.kept }
+    ensures ready { IsReady result.value }
+{
+    hold.into_parts().into_box()
+}
+
+/// Holds a connection.
+fn hold(kept: Box<KeptConnection>) -> Hold
+    requires ready { IsReady kept.value }
+    ensures value { result.kept ≡ Some kept.value }
+    ensures ready { IfSome result.kept (λ kept. IsReady kept) }
+{
+    Hold::of_parts(Parts::of(kept))
 }
 
 /// Takes the connection out of a slot, which has none then.
@@ -31,11 +51,7 @@ pub(crate) fn take(alloc: Global, slot: &mut Slot) -> Option<Box<KeptConnection>
         hold: Hold::none(alloc),
     };
     let Slot { is_open, hold } = mem::replace(slot, empty);
-    if is_open {
-        Some(hold.into_parts().into_box())
-    } else {
-        None
-    }
+    if is_open { Some(release(hold)) } else { None }
 }
 
 /// Puts a connection into a slot, from which the one before was taken.
@@ -45,7 +61,7 @@ pub(crate) fn put(slot: &mut Slot, kept: Box<KeptConnection>)
 {
     let full = Slot {
         is_open: true,
-        hold: Hold::of_parts(Parts::of(kept)),
+        hold: hold(kept),
     };
     let _none = mem::replace(slot, full);
 }
