@@ -32,7 +32,7 @@ fn release(hold: Hold) -> Box<KeptConnection>
 }
 
 /// Holds a connection.
-fn hold(kept: Box<KeptConnection>) -> Hold
+fn keep(kept: Box<KeptConnection>) -> Hold
     requires ready { IsReady kept.value }
     ensures value { result.kept ≡ Some kept.value }
     ensures ready { IfSome result.kept (λ kept. IsReady kept) }
@@ -61,7 +61,7 @@ pub(crate) fn put(slot: &mut Slot, kept: Box<KeptConnection>)
 {
     let full = Slot {
         is_open: true,
-        hold: hold(kept),
+        hold: keep(kept),
     };
     let _none = mem::replace(slot, full);
 }
