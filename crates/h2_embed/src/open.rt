@@ -1,6 +1,6 @@
 //! A connection that stays between calls, from the words of a command line. Definitions: `specs/Kept.antt`.
 
-ghost use Rattle.std.specs.Prelude.{◌≡◌, ◌⊎◌, Ok, Err, IfOk, IfErr};
+ghost use Rattle.std.specs.Prelude.{◌≡◌, ◌⊎◌, Ok, Err, true, IfOk, IfErr};
 ghost use Rattle.h2_cmd_args.specs.Grammar.{asked_of, explain};
 ghost use Rattle.h2_cmd_args.specs.Plans.{book_asked, form_asked};
 ghost use Rattle.h2_cmd_batch.specs.Books.{book_said};
