@@ -23,16 +23,19 @@ use crate::case_debugger::CaseDebugger;
 use crate::command::{Given, fault_line, is_obeyed};
 use crate::pattern::{closest, explains, shows};
 use crate::run::{ItemsTaken, take_items};
+use crate::sent::Sent;
 use crate::texts::text_before;
 use crate::verdict::{CaseVerdict, Wrong};
 use h2_cmd_cases::{Line, expect_something, line_of, push_short_line, summed};
 use h2_conn::Conn;
 use h2_debug::{Reply, ReplyText};
 use h2_explain_words::sent::next_frame;
+use h2_frame::Outbox;
 use h2_io::string_of;
 use h2_script::{LineFault, SyntaxKind, add_line, disassemble};
 use h2_spec::causes::Cause;
 use h2_spec::ignored::Ignored;
+use h2_spec::octets::first_octets;
 use std::alloc::{AllocError, Global};
 use std::{mem, str};
 
@@ -42,7 +45,7 @@ pub(crate) struct Walk<'t, 'b> {
     pub octets: Vec<u8>,
     /// How many of them were taken as items.
     pub at: usize,
-    pub seen: ItemsTaken,
+    pub seen: ItemsTaken<'b>,
     pub debugger: CaseDebugger<'b>,
     /// How many of the octets sent lines have spoken about; with a debugger, of those for the item of its position.
     pub spoken: usize,
@@ -88,11 +91,9 @@ impl<'t, 'b> Drop for Walk<'t, 'b> {
 
 /// What is seen at the place of a walk.
 #[derive(Clone, Copy)]
-pub(crate) struct Sight<'s> {
+pub(crate) struct Sight {
     /// How many items there are up to the place.
     pub items: usize,
-    /// The octets that were sent, of which lines speak: those for all items, or for the item of a debugger's position.
-    pub sent: &'s [u8],
     /// Why the first error is one; with a debugger why the item of its position is one.
     pub first: Option<Cause>,
     /// Why the item before is an error.
@@ -169,22 +170,20 @@ fn left_from(octets: &[u8], start: usize) -> &[u8]
     }
 }
 
-/// How many octets the frame has that octets begin with; all of them where there is no whole one.
-fn first_length(octets: &[u8]) -> usize
-    ensures { result ≤ length octets.now }
-{
+/// The frame that octets begin with; all of them where it is not whole.
+fn first_of(octets: &[u8]) -> &[u8] {
     match next_frame(octets) {
-        None => octets.len(),
-        Some((_, rest)) => octets.len().saturating_sub(rest.len()),
+        None => octets,
+        Some((_, rest)) => first_octets(octets, octets.len().saturating_sub(rest.len())),
     }
 }
 
-/// The line of the frame that octets begin with; a dash where there is none.
-fn first_line(alloc: Global, octets: &[u8]) -> Result<String, AllocError> {
+/// The line of a frame; a dash where it has no octets.
+fn line_of_frame(alloc: Global, octets: &[u8]) -> Result<String, AllocError> {
     if octets.is_empty() {
         return String::from_str(alloc, "-");
     }
-    let text = disassemble(alloc, &octets[..first_length(octets)])?;
+    let text = disassemble(alloc, octets)?;
     match text.as_str().split_once('\n') {
         Some((line, _)) => String::from_str(alloc, line),
         None => Ok(text),
@@ -192,8 +191,8 @@ fn first_line(alloc: Global, octets: &[u8]) -> Result<String, AllocError> {
 }
 
 /// The same, or the summary of that frame where it is long.
-fn first_summary(alloc: Global, octets: &[u8]) -> Result<String, AllocError> {
-    let line = first_line(alloc, octets)?;
+fn summary_of_frame(alloc: Global, octets: &[u8]) -> Result<String, AllocError> {
+    let line = line_of_frame(alloc, octets)?;
     let mut short = Vec::new(alloc);
     push_short_line(alloc, line.as_str().as_bytes(), &mut short)?;
     match str::from_utf8(short.as_slice()) {
@@ -212,9 +211,9 @@ fn is_like_summary(line: &[u8]) -> bool {
 
 impl<'t, 'b> Walk<'t, 'b> {
     /// No line yet, of a connection for which these octets were sent.
-    pub(crate) fn new(alloc: Global, sent: Vec<u8>) -> Walk<'t, 'b>
+    pub(crate) fn new(alloc: Global, sent: Outbox<'b, Global>) -> Walk<'t, 'b>
         ensures octets { (result.octets.items ≡ []) × (result.at ≡ 0) }
-        ensures seen { seen_by result.seen ≡ no_item sent.items }
+        ensures seen { seen_by result.seen ≡ no_item sent.entry }
         ensures place { (result.spoken ≡ 0) × (result.speaks ≡ false) }
         ensures debugger { result.debugger ≡ Absent }
         ensures holds { result.holds ≡ true }
@@ -224,7 +223,7 @@ impl<'t, 'b> Walk<'t, 'b> {
             at: 0,
             seen: ItemsTaken {
                 items: 0,
-                sent,
+                sent: Sent::of(sent),
                 first: None,
                 cause: None,
                 ignored: None,
@@ -403,10 +402,8 @@ impl<'t, 'b> Walk<'t, 'b> {
 
     /// What is seen of all items; with a debugger, of the item of its position. In one function, since a proof about what a
     /// debugger has takes long.
-    pub(crate) fn sight(&self) -> Sight<'_>
+    pub(crate) fn sight(&self) -> Sight
         ensures items { result.items ≡ (sight_here self.now).items }
-        ensures sent { result.sent.now ≡ sent_here self.now }
-        ensures few { length (sent_here self.now) < 2 ^ 64 }
         ensures causes { (result.first ≡ (sight_here self.now).first) × (result.cause ≡ (sight_here self.now).cause) }
         ensures ignored { result.ignored ≡ (sight_here self.now).ignored }
     {
@@ -415,7 +412,6 @@ impl<'t, 'b> Walk<'t, 'b> {
                 let debugger = boxed.as_ref();
                 Sight {
                     items: debugger.pos(),
-                    sent: debugger.sent(),
                     first: debugger.cause(),
                     cause: debugger.cause(),
                     ignored: debugger.ignored(),
@@ -423,7 +419,6 @@ impl<'t, 'b> Walk<'t, 'b> {
             }
             CaseDebugger::Absent | CaseDebugger::Left(_) => Sight {
                 items: self.seen.items,
-                sent: self.seen.sent.as_slice(),
                 first: self.seen.first,
                 cause: self.seen.cause,
                 ignored: self.seen.ignored,
@@ -431,20 +426,84 @@ impl<'t, 'b> Walk<'t, 'b> {
         }
     }
 
-    /// The octets that were sent so far; with a debugger, for the item of its position. Lines `;<` say what is in them.
-    pub(crate) fn sent(&self) -> &[u8]
-        ensures octets { result.now ≡ sent_here self.now }
-        ensures few { length (sent_here self.now) < 2 ^ 64 }
-    {
-        self.sight().sent
+    /// The octets that were sent for the item of the debugger's position, if there is a debugger there.
+    fn sent_there(&self) -> Option<&[u8]> {
+        match &self.debugger {
+            CaseDebugger::Present(boxed) => Some(left_from(boxed.as_ref().sent(), self.spoken)),
+            CaseDebugger::Absent | CaseDebugger::Left(_) => None,
+        }
     }
 
-    /// Those octets that no line `;<` has named yet.
-    pub(crate) fn unspoken(&self) -> &[u8]
-        ensures octets { result.now ≡ left_by self.now }
-        ensures few { length (sent_here self.now) < 2 ^ 64 }
+    /// How many octets were sent so far; with a debugger, for the item of its position. Lines `;<` speak of them.
+    pub(crate) fn sent_len(&self) -> usize
+        ensures { result ≡ length (sent_here self.now) }
     {
-        left_from(self.sent(), self.spoken)
+        match &self.debugger {
+            CaseDebugger::Present(boxed) => boxed.as_ref().sent().len(),
+            CaseDebugger::Absent | CaseDebugger::Left(_) => self.seen.sent.len(),
+        }
+    }
+
+    /// Whether there are octets that no line `;<` has named yet.
+    pub(crate) fn has_unspoken(&self) -> bool
+        ensures { is_none (left_by self.now) ≡ not result }
+    {
+        self.spoken < self.sent_len()
+    }
+
+    /// Whether they begin with these.
+    pub(crate) fn next_is(&mut self, wanted: &[u8]) -> Result<bool, AllocError>
+        ensures value { IfOk result (λ is. is ≡ starts_with nat_eq (left_by self.old) wanted.now) }
+        ensures same { self.new ≡ self.old }
+    {
+        match self.sent_there() {
+            Some(octets) => Ok(octets.starts_with(wanted)),
+            None => self.seen.sent.has(self.spoken, wanted),
+        }
+    }
+
+    /// How many octets the frame has that they begin with, if a line is its summary.
+    pub(crate) fn next_summed(
+        &mut self,
+        alloc: Global,
+        line: &[u8],
+    ) -> Result<Option<usize>, AllocError>
+        ensures value { IfOk result (λ count. count ≡ summed line.now (left_by self.old)) }
+        ensures same { self.new ≡ self.old }
+    {
+        match self.sent_there() {
+            Some(octets) => summed(alloc, line, octets),
+            None => self.seen.sent.summed(alloc, self.spoken, line),
+        }
+    }
+
+    /// A copy of the frame that they begin with; of all of them where it is not whole.
+    fn next_octets(&mut self, alloc: Global) -> Result<Vec<u8>, AllocError>
+        ensures same { self.new ≡ self.old }
+    {
+        match self.sent_there() {
+            Some(octets) => Vec::from_slice(alloc, first_of(octets)),
+            None => self.seen.sent.frame(alloc, self.spoken),
+        }
+    }
+
+    /// Its line.
+    fn next_line(&mut self, alloc: Global) -> Result<String, AllocError>
+        ensures same { self.new ≡ self.old }
+    {
+        let octets = self.next_octets(alloc)?;
+        line_of_frame(alloc, octets.as_slice())
+    }
+
+    /// A copy of them.
+    pub(crate) fn unspoken(&mut self, alloc: Global) -> Result<Vec<u8>, AllocError>
+        ensures value { IfOk result (λ octets. octets.items ≡ left_by self.old) }
+        ensures same { self.new ≡ self.old }
+    {
+        match self.sent_there() {
+            Some(octets) => Vec::from_slice(alloc, octets),
+            None => self.seen.sent.left(alloc, self.spoken),
+        }
     }
 
     /// Refuses the first frame that is left, where one is: no other may be sent.
@@ -456,11 +515,11 @@ impl<'t, 'b> Walk<'t, 'b> {
     ) -> Result<(), AllocError>
         ensures { OnOk result (Finds (is_none (left_by self.old)) self.old self.new) }
     {
-        if self.unspoken().is_empty() {
+        if !self.has_unspoken() {
             return Ok(());
         }
-        let found = first_line(alloc, self.unspoken());
-        self.spoken = self.sent().len();
+        let found = self.next_line(alloc);
+        self.spoken = self.sent_len();
         self.refuse(number, wanted, found)
     }
 }
@@ -477,7 +536,7 @@ impl<'t, 'b> Walk<'t, 'b> {
             return self.expect_none(alloc, self.speaker, b"-");
         }
         if self.octets.is_empty() {
-            self.spoken = self.sent().len();
+            self.spoken = self.sent_len();
         }
         Ok(())
     }
@@ -508,7 +567,7 @@ impl<'t, 'b> Walk<'t, 'b> {
     /// More octets of the client: the items that they complete are taken.
     pub(crate) fn feed(
         &mut self,
-        conn: &mut Conn<'_, Global>,
+        conn: &mut Conn<'b, Global>,
         more: &[u8],
     ) -> Result<(), AllocError>
         requires ready { conn.old ≡ going conn.old.state [] }
@@ -524,6 +583,7 @@ impl<'t, 'b> Walk<'t, 'b> {
         let Ok(()) = self.octets.extend_from_slice(more) else {
             return Err(AllocError);
         };
+        self.seen.sent.let_go(self.spoken);
         self.at = take_items(conn, self.octets.as_slice(), self.at, &mut self.seen)?;
         self.end = self.ending(conn);
         Ok(())
@@ -541,7 +601,7 @@ impl<'t, 'b> Walk<'t, 'b> {
     fn play_octets(
         &mut self,
         alloc: Global,
-        conn: &mut Conn<'_, Global>,
+        conn: &mut Conn<'b, Global>,
         more: &[u8],
     ) -> Result<(), AllocError>
         requires ready { conn.old ≡ going conn.old.state [] }
@@ -564,7 +624,7 @@ impl<'t, 'b> Walk<'t, 'b> {
     fn play(
         &mut self,
         alloc: Global,
-        conn: &mut Conn<'_, Global>,
+        conn: &mut Conn<'b, Global>,
         number: usize,
         text: &'t [u8],
         space: &mut Vec<u8>,
@@ -601,23 +661,24 @@ impl<'t, 'b> Walk<'t, 'b> {
         if wanted.is_empty() {
             return self.fault(alloc, number, text, "no frame");
         }
-        if self.unspoken().starts_with(wanted) {
+        if self.next_is(wanted)? {
             self.spoken += wanted.len();
             return Ok(());
         }
-        let found = first_line(alloc, self.unspoken());
+        let found = self.next_line(alloc);
         self.refuse_frame(alloc, number, text, found)
     }
 
     /// Passes over the next frame, whichever that is.
-    fn pass_frame(&mut self)
+    fn pass_frame(&mut self, alloc: Global) -> Result<(), AllocError>
         ensures holds { self.new.holds ≡ self.old.holds }
         ensures octets { (self.new.octets ≡ self.old.octets) × (self.new.at ≡ self.old.at) }
         ensures seen { (self.new.seen ≡ self.old.seen) × (self.new.debugger ≡ self.old.debugger) }
         ensures speaks { self.new.speaks ≡ self.old.speaks }
     {
-        let passed = first_length(self.unspoken());
+        let passed = self.next_octets(alloc)?.len();
         self.spoken = self.spoken.saturating_add(passed);
+        Ok(())
     }
 
     /// Says that a frame is not the next one, but another, which is passed over.
@@ -633,7 +694,7 @@ impl<'t, 'b> Walk<'t, 'b> {
         if self.any {
             return self.fault(alloc, number, text, BEHIND_ANY);
         }
-        self.pass_frame();
+        self.pass_frame(alloc)?;
         self.refuse(number, text, found)
     }
 
@@ -649,10 +710,11 @@ impl<'t, 'b> Walk<'t, 'b> {
         ensures { OnOk result (Compares None self.old self.new) }
     {
         if is_like_summary(text) {
-            let found = first_summary(alloc, self.unspoken());
+            let octets = self.next_octets(alloc)?;
+            let found = summary_of_frame(alloc, octets.as_slice());
             return self.refuse_frame(alloc, number, text, found);
         }
-        self.pass_frame();
+        self.pass_frame(alloc)?;
         self.fault(alloc, number, text, kind_words(kind))
     }
 
@@ -667,7 +729,7 @@ impl<'t, 'b> Walk<'t, 'b> {
     ) -> Result<(), AllocError>
         ensures { OnOk result (Compares (summed text.now (left_by self.old)) self.old self.new) }
     {
-        match summed(alloc, text, self.unspoken())? {
+        match self.next_summed(alloc, text)? {
             Some(count) => {
                 // A frame has nine octets or more; this is for the prover, which then sees that the sum fits.
                 if count > 0 {
@@ -710,7 +772,7 @@ impl<'t, 'b> Walk<'t, 'b> {
         self.speaks = true;
         self.speaker = number;
         if text == b"...".as_slice() {
-            self.spoken = self.sent().len();
+            self.spoken = self.sent_len();
             self.any = true;
             return Ok(());
         }
@@ -862,7 +924,7 @@ impl<'t, 'b> Walk<'t, 'b> {
     fn take_line(
         &mut self,
         alloc: Global,
-        conn: &mut Conn<'_, Global>,
+        conn: &mut Conn<'b, Global>,
         given: &Given<'_, 'b>,
         number: usize,
         line: &'t [u8],
@@ -911,7 +973,7 @@ fn found_line<'t>(text: &'t [u8], expected: &[u8]) -> &'t [u8] {
 /// Goes over the lines of a case, the first of which has this number in the file.
 fn go_over<'t, 'b>(
     alloc: Global,
-    conn: &mut Conn<'_, Global>,
+    conn: &mut Conn<'b, Global>,
     given: &Given<'_, 'b>,
     lines: &[&'t [u8]],
     number: usize,
@@ -936,7 +998,7 @@ fn go_over<'t, 'b>(
 /// `AllocError` where memory is refused.
 pub(crate) fn check_lines<'t, 'b>(
     alloc: Global,
-    conn: &mut Conn<'_, Global>,
+    conn: &mut Conn<'b, Global>,
     given: &Given<'_, 'b>,
     lines: &[&'t [u8]],
     number: usize,
