@@ -78,7 +78,7 @@ pub left_spoken : (start : Start) (w one two : Walk) (more : List ℕ) → seen_
     → one.spoken ≡ cond (not w.speaks && is_none w.octets.items) (length (sent_here w)) w.spoken → Leaves more one two → two.spoken ≡ passed start (place_of w)
 left_spoken start w one two more seen same debugger spoken l =
     let some : is_present one.debugger ≡ is_present w.debugger = ap (λ (d : CaseDebugger). is_present d) debugger in
-    let sent : length one.seen.sent.items ≡ length w.seen.sent.items = ap (λ s. length s.sent.items) same in
+    let sent : length one.seen.sent.octets ≡ length w.seen.sent.octets = ap (λ s. length s.sent.octets) same in
     l.spoken ∙ rw (some, sent, spoken) (passed_is w.debugger w.speaks w.octets.items (seen_by w.seen) w.spoken)
     ∙ ap (λ (x : Sight). cond (is_present w.debugger || (not w.speaks && is_none w.octets.items)) (length x.sent) w.spoken) seen
 

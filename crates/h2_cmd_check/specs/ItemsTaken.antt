@@ -71,7 +71,7 @@ sight_by (Left d) seen = seen
 
 -- the sight that a value has
 abbrev pub seen_by : ItemsTaken → Sight
-seen_by seen = record { items = seen.items; sent = seen.sent.items; first = seen.first; cause = seen.cause; ignored = seen.ignored }
+seen_by seen = record { items = seen.items; sent = seen.sent.octets; first = seen.first; cause = seen.cause; ignored = seen.ignored }
 
 -- the next item of the octets was taken: it has that many of them
 pub record TakesItem (s : State) (b : List ℕ) (seen : Sight) (t : State) (seen' : Sight) (used : ℕ) : Type 0 where

@@ -8,3 +8,4 @@ pub mod JUnit
 pub mod Texts
 pub mod Tap
 pub mod Walks
+pub mod SentOctets

@@ -1,18 +1,19 @@
 //! What was sent in a case. Lines `;<` speak of it from its front on. Bodies of answers are lent by the book, and what lines
 //! have spoken about is let go. Definitions: `specs/SentOctets.antt`.
 
-ghost use Rattle.std.specs.Prelude.{◌≡◌, ◌≤◌, ◌+◌, ◌++◌, ◌⊎◌, [], drop, length, nat_eq, take, IfOk, OnOk};
+ghost use Rattle.std.specs.Prelude.{◌≡◌, ◌+◌, ◌++◌, drop, length, nat_eq, IfOk, OnOk};
 ghost use Rattle.std.specs.List.{starts_with};
 ghost use Rattle.h2_cmd_cases.specs.Frames.{summed};
 ghost use Rattle.h2_conn.specs.Connection.{going};
 ghost use Rattle.h2_conn.specs.First.{TakesIfAny};
 ghost use Rattle.h2_conn.specs.Reports.{reported, used_by};
 ghost use Rattle.h2_spec.specs.Trace.{next_item};
+ghost use Rattle.h2_cmd_check.specs.SentOctets.{IsEnough, frame_length};
 
 use h2_cmd_cases::summed;
 use h2_conn::{Conn, TakenItem};
 use h2_frame::{Outbox, Outgoing, read_head};
-use h2_spec::octets::{first_octets, octets_from};
+use h2_spec::octets::first_octets;
 use std::alloc::{AllocError, Global};
 use std::marker::Model;
 use std::snapshot::Snapshot;
@@ -62,7 +63,7 @@ fn bring(
     count: usize,
 ) -> Result<(), AllocError>
     ensures same { front.new.items ++ rest.new ≡ front.old.items ++ rest.old }
-    ensures enough { OnOk result ((count ≤ length front.new.items) ⊎ (rest.new ≡ [])) }
+    ensures enough { OnOk result (IsEnough count front.new.items rest.new) }
 {
     while front.len() < count && !rest.is_empty() {
         let some = rest.front();
@@ -73,11 +74,48 @@ fn bring(
     Ok(())
 }
 
-/// How many octets the payload has of the frame that octets begin with; none where they have no head.
-fn payload_length(octets: &[u8]) -> usize {
+/// The octets from a place on; none where there are fewer.
+pub(crate) fn left_from(octets: &[u8], start: usize) -> &[u8]
+    ensures { result.now ≡ drop start octets.now }
+{
+    if start < octets.len() {
+        &octets[start..]
+    } else {
+        &[]
+    }
+}
+
+/// How many octets the frame has that octets begin with, by its head; those of a head where they have none.
+fn frame_length(octets: &[u8]) -> usize
+    ensures { result ≡ frame_length octets.now }
+{
     match read_head(octets) {
-        Some(head) => head.length as usize,
-        None => 0,
+        Some(head) => 9 + head.length as usize,
+        None => 9,
+    }
+}
+
+/// Brings the frame that follows this many of the octets in front to one place with them, or all octets.
+fn bring_frame(
+    front: &mut Vec<u8>,
+    rest: &mut Outbox<'_, Global>,
+    at: usize,
+) -> Result<(), AllocError>
+    ensures same { front.new.items ++ rest.new ≡ front.old.items ++ rest.old }
+    ensures whole { OnOk result (IsEnough (at + frame_length (drop at front.new.items)) front.new.items rest.new) }
+{
+    bring(front, rest, longer(at, 9)?)?;
+    let length = frame_length(left_from(front.as_slice(), at));
+    bring(front, rest, longer(at, length)?)
+}
+
+/// How many octets one number of them has more than another; `AllocError` where it has fewer.
+fn behind(start: usize, gone: usize) -> Result<usize, AllocError>
+    ensures { IfOk result (λ at. start ≡ gone + at) }
+{
+    match start.checked_sub(gone) {
+        Some(at) => Ok(at),
+        None => Err(AllocError),
     }
 }
 
@@ -134,31 +172,14 @@ impl<'b> Sent<'b> {
         self.before = Some(whole);
     }
 
-    /// Brings this many octets after the first ones to one place, and says where they are in it.
-    ///
-    /// `AllocError` where memory is refused, or where some of them were let go.
-    fn gather(&mut self, start: usize, count: usize) -> Result<usize, AllocError> {
-        let Some(at) = start.checked_sub(self.gone) else {
-            return Err(AllocError);
-        };
-        bring(&mut self.front, &mut self.rest, longer(at, count)?)?;
-        Ok(at)
-    }
-
-    /// The same of the frame after them.
-    fn gather_frame(&mut self, start: usize) -> Result<usize, AllocError> {
-        let at = self.gather(start, 9)?;
-        let length = payload_length(octets_from(self.front.as_slice(), at));
-        self.gather(start, 9 + length)
-    }
-
     /// Whether the octets after the first ones begin with these.
     pub(crate) fn has(&mut self, start: usize, wanted: &[u8]) -> Result<bool, AllocError>
         ensures value { IfOk result (λ has. has ≡ starts_with nat_eq (drop start self.old.octets) wanted.now) }
         ensures same { self.new ≡ self.old }
     {
-        let at = self.gather(start, wanted.len())?;
-        Ok(octets_from(self.front.as_slice(), at).starts_with(wanted))
+        let at = behind(start, self.gone)?;
+        bring(&mut self.front, &mut self.rest, longer(at, wanted.len())?)?;
+        Ok(left_from(self.front.as_slice(), at).starts_with(wanted))
     }
 
     /// How many octets the frame after the first ones has, if a line is its summary.
@@ -171,16 +192,19 @@ impl<'b> Sent<'b> {
         ensures value { IfOk result (λ count. count ≡ summed line.now (drop start self.old.octets)) }
         ensures same { self.new ≡ self.old }
     {
-        let at = self.gather_frame(start)?;
-        summed(alloc, line, octets_from(self.front.as_slice(), at))
+        let at = behind(start, self.gone)?;
+        bring_frame(&mut self.front, &mut self.rest, at)?;
+        summed(alloc, line, left_from(self.front.as_slice(), at))
     }
 
     /// A copy of the frame after the first ones; of all octets there where it is not whole.
-    pub(crate) fn frame(&mut self, alloc: Global, start: usize) -> Result<Vec<u8>, AllocError> {
-        let at = self.gather_frame(start)?;
-        let octets = octets_from(self.front.as_slice(), at);
-        let count = octets.len().min(9 + payload_length(octets));
-        Vec::from_slice(alloc, first_octets(octets, count))
+    pub(crate) fn frame(&mut self, alloc: Global, start: usize) -> Result<Vec<u8>, AllocError>
+        ensures { self.new ≡ self.old }
+    {
+        let at = behind(start, self.gone)?;
+        bring_frame(&mut self.front, &mut self.rest, at)?;
+        let octets = left_from(self.front.as_slice(), at);
+        Vec::from_slice(alloc, first_octets(octets, frame_length(octets)))
     }
 
     /// A copy of all octets after the first ones.
@@ -188,7 +212,8 @@ impl<'b> Sent<'b> {
         ensures value { IfOk result (λ octets. octets.items ≡ drop start self.old.octets) }
         ensures same { self.new ≡ self.old }
     {
-        let at = self.gather(start, self.len)?;
-        Vec::from_slice(alloc, octets_from(self.front.as_slice(), at))
+        let at = behind(start, self.gone)?;
+        bring(&mut self.front, &mut self.rest, usize::MAX)?;
+        Vec::from_slice(alloc, left_from(self.front.as_slice(), at))
     }
 }

@@ -23,7 +23,7 @@ use crate::case_debugger::CaseDebugger;
 use crate::command::{Given, fault_line, is_obeyed};
 use crate::pattern::{closest, explains, shows};
 use crate::run::{ItemsTaken, take_items};
-use crate::sent::Sent;
+use crate::sent::{Sent, left_from};
 use crate::texts::text_before;
 use crate::verdict::{CaseVerdict, Wrong};
 use h2_cmd_cases::{Line, expect_something, line_of, push_short_line, summed};
@@ -156,17 +156,6 @@ fn reason_name(reason: Option<Ignored>) -> &'static str
     match reason {
         Some(reason) => reason.name(),
         None => "-",
-    }
-}
-
-/// The octets from a place on; none where there are fewer.
-fn left_from(octets: &[u8], start: usize) -> &[u8]
-    ensures { result.now ≡ drop start octets.now }
-{
-    if start < octets.len() {
-        &octets[start..]
-    } else {
-        &[]
     }
 }
 
