@@ -6,7 +6,7 @@ ghost use Rattle.h2_spec.specs.Frames.Parse.{parse_all};
 ghost use Rattle.h2_spec.specs.Trace.{next_event};
 ghost use Rattle.h2_cmd_check.specs.ItemsTaken.{TakesNext, cause_or, seen_by, with_items};
 
-use h2_conn::Conn;
+use h2_conn::{Conn, Scratch};
 use h2_spec::causes::Cause;
 use h2_spec::ignored::Ignored;
 use h2_spec::octets::octets_from;
@@ -25,6 +25,8 @@ pub(crate) struct ItemsTaken {
     pub cause: Option<Cause>,
     /// Why the last item is ignored, if it is.
     pub ignored: Option<Ignored>,
+    /// Memory of items.
+    pub memory: Scratch<Global>,
 }
 
 /// A cause, or else another.
@@ -50,7 +52,7 @@ fn take_item(
     ensures ready { conn.new ≡ going conn.new.state [] }
     ensures takes { IfOk result (λ used. TakesNext conn.old.state octets.now (seen_by seen.old) conn.new.state (seen_by seen.new) used) }
 {
-    let Some(taken) = conn.take_and_report(octets, &mut seen.sent)? else {
+    let Some(taken) = conn.take_and_lend(octets, &mut seen.memory, &mut seen.sent)? else {
         return Ok(None);
     };
     seen.items += 1;

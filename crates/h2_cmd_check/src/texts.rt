@@ -114,7 +114,7 @@ fn text_of(
     let mut account = Account::new(alloc);
     explainer.account(alloc, conn, item, &mut account)?;
     let mut lines = ItemLines::new(alloc)?;
-    lines.put(alloc, item, &account, &explainer.reader, Paint(false))?;
+    lines.put(item, &account, explainer.block(conn), Paint(false))?;
     text_with(alloc, lines.octets())
 }
 
@@ -148,7 +148,7 @@ fn take_text(
     sent.clear();
     let stream = stream_of_next(conn, octets);
     let before = moment_at(conn, stream);
-    let Some(taken) = conn.take_and_report(octets, sent)? else {
+    let Some(taken) = conn.take_and_lend(octets, &mut explainer.memory, sent)? else {
         return Ok(None);
     };
     let used = taken.used;

@@ -26,7 +26,7 @@ use crate::run::{ItemsTaken, take_items};
 use crate::texts::text_before;
 use crate::verdict::{CaseVerdict, Wrong};
 use h2_cmd_cases::{Line, expect_something, line_of, push_short_line, summed};
-use h2_conn::Conn;
+use h2_conn::{Conn, Scratch};
 use h2_debug::{Reply, ReplyText};
 use h2_explain_words::sent::next_frame;
 use h2_io::string_of;
@@ -228,6 +228,7 @@ impl<'t, 'b> Walk<'t, 'b> {
                 first: None,
                 cause: None,
                 ignored: None,
+                memory: Scratch::new(alloc),
             },
             debugger: CaseDebugger::Absent,
             spoken: 0,

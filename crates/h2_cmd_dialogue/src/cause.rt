@@ -6,7 +6,7 @@ ghost use Rattle.h2_cmd_dialogue.specs.Causes.{last_cause};
 ghost use Rattle.h2_spec.specs.State.{opening};
 
 use crate::item::behind;
-use h2_conn::{Conn, ConnFault};
+use h2_conn::{Conn, ConnFault, Scratch};
 use h2_request_book::book::Book;
 use h2_spec::causes::Cause;
 use h2_spec::connection::Config;
@@ -33,11 +33,12 @@ pub fn last_cause(
     let Ok(mut conn) = open(book, config, alloc) else {
         return Err(AllocError);
     };
+    let mut memory = Scratch::new(alloc);
     let mut cause = None;
     let mut rest = octets;
     for _item in 0..octets.len() {
         let mut sent = Vec::new(alloc);
-        let Some(taken) = conn.take_and_report(rest, &mut sent)? else {
+        let Some(taken) = conn.take_and_lend(rest, &mut memory, &mut sent)? else {
             return Ok(cause);
         };
         cause = taken.cause;

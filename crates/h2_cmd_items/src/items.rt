@@ -13,6 +13,7 @@ use h2_cmd_judge::event::Seen;
 use h2_cmd_judge::frames::ServerFrames;
 use h2_conn::{Conn, ConnFault};
 use h2_explain_item::item::{Explained, part_in};
+use h2_explain_item::shown_block::ShownBlock;
 use h2_explain_step::explainer::ItemExplainer;
 use h2_explain_step::taking::{moment_at, stream_of_next};
 use h2_explain_text::account::Account;
@@ -92,14 +93,13 @@ impl Taking {
     }
 
     /// What a judge has to know of an item.
-    fn sent_with(&self, item: &Explained<'_>, account: &Account, explainer: &ItemExplainer) -> Sent
+    fn sent_with(&self, item: &Explained<'_>, account: &Account, block: ShownBlock<'_>) -> Sent
         ensures { IsSentOf item.now (low_if self.now.opens self.now.low (narrow item.now.number)) result }
     {
         let low = low_if(self.opens, self.low, narrow(item.number));
-        let row = row_of(item, account, &explainer.reader, &self.run);
-        let fields = explainer.reader.fields();
-        let left = is_left(item, account, row, fields);
-        sent_of(item, low, row, left, has_protocol(fields))
+        let row = row_of(item, account, block, &self.run);
+        let left = is_left(item, account, row, block.fields);
+        sent_of(item, low, row, left, has_protocol(block.fields))
     }
 
     /// Adds an item, for which these octets were sent.
@@ -138,7 +138,7 @@ impl Taking {
         let mut out = Vec::new(alloc);
         let stream = stream_of_next(conn, octets);
         let before = moment_at(conn, stream);
-        let taken = match conn.take_and_report(octets, &mut out) {
+        let taken = match conn.take_and_lend(octets, &mut explainer.memory, &mut out) {
             Ok(Some(taken)) => taken,
             Ok(None) => return Ok(None),
             Err(error) => return Err(error),
@@ -169,8 +169,9 @@ impl Taking {
             Ok(()) => {}
             Err(error) => return Err(error),
         }
-        let sent = self.sent_with(&item, &account, explainer);
-        self.is_post = either(self.is_post, is_post(explainer.reader.fields()));
+        let block = explainer.block(conn);
+        let sent = self.sent_with(&item, &account, block);
+        self.is_post = either(self.is_post, is_post(block.fields));
         match self.add(alloc, sent, answers) {
             Ok(()) => Ok(Some(used)),
             Err(error) => Err(error),

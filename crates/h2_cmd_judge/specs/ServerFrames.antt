@@ -1,31 +1,40 @@
 -- The events of the octets that a server sends: its frames one after another, with the fields of its answers (RFC 9113, 4,
 -- 6 and 8.1).
-use Rattle.std.specs.Prelude.{ℕ, zero, suc, ◌+◌, ◌*◌, ◌-◌, ◌==◌, ◌&&◌, Bool, true, false, not, List, [], ◌∷◌, ◌++◌, codes, length, nat_le, if◌then◌else◌, is_some, Option, Some, None, Result, Ok, Err}
+use Rattle.std.specs.Prelude.{ℕ, zero, suc, ◌+◌, ◌*◌, ◌-◌, ◌&&◌, Bool, true, false, List, [], ◌∷◌, ◌++◌, codes, length, nat_le, if◌then◌else◌, Option, Some, None, Result, Ok, Err}
 use Rattle.std.specs.Str.{bytes_eq}
 use Rattle.h2_spec.specs.Frames.FrameType.{ACK, END_HEADERS, END_STREAM, has}
 use Rattle.h2_spec.specs.Frames.Payload.{Part, part_of, OfData, OfHeaders, OfPriority, OfRstStream, OfSettings, OfSettingsAck, OfPushPromise, OfPing, OfGoaway, OfWindowUpdate, OfContinuation, OfUnknown}
-use Rattle.h2_spec.specs.Hpack.DynamicTable.{LimitedTable}
 use Rattle.h2_spec.specs.declared.causes.Cause.{Cause}
 use Rattle.h2_spec.specs.declared.frames.Head.{Head}
 use Rattle.h2_explain_words.specs.Sent.{FirstFrame, first_frame}
-use Rattle.h2_explain_words.specs.Spelled.{BlockRead, Spelled, begun_with, read_more}
+use Rattle.h2_spec.specs.Hpack.Block.{Decoded, Integer, Unfinished, Faulty, carried_on, start}
+use Rattle.h2_spec.specs.Hpack.DynamicTable.{Table}
+use Rattle.h2_spec.specs.Hpack.Field.{Field}
+use Rattle.h2_fields.specs.Blocks.{BlockSoFar, decoded_with, finish_of}
+use Rattle.h2_hpack_instruction.specs.declared.fault.BlockFault.{BlockFault}
 use Rattle.h2_cmd_judge.specs.declared.event.Event.{Event}
 use Rattle.h2_cmd_judge.specs.declared.event.Event.TheVariants.{Goaway, Reset, Answered, Ended, Acknowledged, Pong, Credit, Unreadable}
 use Rattle.h2_cmd_judge.specs.declared.event.Seen.{Seen}
 use Rattle.h2_cmd_judge.specs.declared.frames.OpenBlock.{OpenBlock}
 
--- how far the server's frames are read: the decoder of its field blocks, and the block that is open
+-- how far the server's frames are read: the limit of the header table, the last field block as far as it is decoded, and
+-- which block is open
 pub record ServerFrames : Type 0 where
-  pub blocks : BlockRead
+  pub limit : ℕ
+  pub block : Decoded
   pub opened : Option OpenBlock
 
--- a header table without entries, of 4,096 octets, with this limit (RFC 7541, 4.2)
-abbrev pub empty_table : (limit : ℕ) → LimitedTable
-empty_table limit = record { table = record { entries = []; max = 4096 }; limit = limit }
+-- a block of which nothing was read; no size update is asked for
+abbrev pub unread : Table → Decoded
+unread table = record { progress = start table false; outcome = Unfinished [] }
 
--- nothing is read; a server may make its table as large as 65,536 octets
+-- a block as its decoder has it; one for which memory was refused is not read any further, as a faulty one
+abbrev pub block_seen : Table → BlockSoFar → Decoded
+block_seen table b = elim (decoded_with table b) [ Some d ↦ d | None ↦ record { progress = start table false; outcome = Faulty Integer } ]
+
+-- nothing is read; a server may make its table, of 4,096 octets, as large as 65,536 (RFC 7541, 4.2)
 abbrev pub unread_frames : ServerFrames
-unread_frames = record { blocks = begun_with (empty_table 65536); opened = None }
+unread_frames = record { limit = 65536; block = unread (record { entries = []; max = 4096 }); opened = None }
 
 -- after a frame, with what it was
 pub record Taken : Type 0 where
@@ -44,9 +53,9 @@ status_number (a ∷ b ∷ c ∷ []) = if is_digit a && (is_digit b && is_digit 
 status_number _ = None
 
 -- the status of the first :status among fields, if there is one (RFC 9113, 8.3.2)
-abbrev pub status_of : List Spelled → Option ℕ
+abbrev pub status_of : List Field → Option ℕ
 status_of [] = None
-status_of (f ∷ fs) = if bytes_eq f.field.name (codes ":status") then status_number f.field.value else status_of fs
+status_of (f ∷ fs) = if bytes_eq f.name (codes ":status") then status_number f.value else status_of fs
 
 -- ---- the end of a block
 
@@ -60,20 +69,21 @@ abbrev pub answer_event : OpenBlock → Option ℕ → Option Event
 answer_event block (Some status) = event_if (nat_le 200 status) (Answered block.stream status block.ends)
 answer_event block None = if block.ends then Some (Ended block.stream) else Some (Unreadable block.stream)
 
--- whether no more of a block is left unread
-abbrev pub is_read : BlockRead → Bool
-is_read b = not (is_some b.stopped) && length b.rest == 0
+-- what a block is that has ended, by how its decoding ends
+abbrev pub event_by : OpenBlock → List Field → Result (Unit {0}) BlockFault → Option Event
+event_by block fields (Ok end) = answer_event block (status_of fields)
+event_by block fields (Err fault) = Some (Unreadable block.stream)
 
 -- what a block is that has ended
-abbrev pub block_event : OpenBlock → BlockRead → Option Event
-block_event block b = if is_read b then answer_event block (status_of b.reading.fields) else Some (Unreadable block.stream)
+abbrev pub block_event : OpenBlock → Decoded → Option Event
+block_event block d = event_by block d.progress.fields (finish_of d.progress.due (Some d.outcome))
 
 -- a fragment is read; with the last one the block ends
 abbrev pub with_fragment : ServerFrames → OpenBlock → (flags : ℕ) → List ℕ → Taken
 with_fragment s block flags fragment =
-    let blocks = read_more s.blocks fragment in
-    if has flags END_HEADERS then record { after = record { blocks = blocks; opened = None }; event = block_event block blocks }
-    else record { after = record { blocks = blocks; opened = Some block }; event = None }
+    let decoded = carried_on s.limit s.block fragment in
+    if has flags END_HEADERS then record { after = record s { block = decoded; opened = None }; event = block_event block decoded }
+    else record { after = record s { block = decoded; opened = Some block }; event = None }
 
 -- the block that HEADERS opens
 abbrev pub block_of : Head → OpenBlock
@@ -81,7 +91,7 @@ block_of h = record { stream = h.stream; ends = has h.flags END_STREAM }
 
 -- a block begins
 abbrev pub begin : ServerFrames → ServerFrames
-begin s = record s { blocks = begun_with s.blocks.reading.table }
+begin s = record s { block = unread s.block.progress.table }
 
 -- HEADERS opens a block, with this fragment (6.2)
 abbrev pub opened_by : ServerFrames → Head → List ℕ → Taken

@@ -2,13 +2,16 @@
 
 ghost use Rattle.std.specs.Prelude.{◌≡◌, ◌++◌, ℕ, List, IfOk, OnOk};
 ghost use Rattle.h2_frame.specs.Parts.{part_seen};
-ghost use Rattle.h2_cmd_judge.specs.ServerFrames.{answer_event, begin, block_event, block_of, continued, event_if, is_digit, is_read, opened_by, read_on, stamped, status_number, status_of, unread_frames, with_fragment, with_frame, with_part, with_taken};
+ghost use Rattle.h2_spec.specs.Hpack.DynamicTable.{Table};
+ghost use Rattle.h2_cmd_judge.specs.ServerFrames.{answer_event, begin, block_event, block_of, block_seen, continued, event_if, is_digit, opened_by, read_on, stamped, status_number, status_of, unread_frames, with_fragment, with_frame, with_part, with_taken};
 
 use crate::event::{Event, Seen};
 use h2_explain_words::sent::next_frame;
-use h2_explain_words::spelled::{BlockReader, SpelledField};
+use h2_fields::block::BlockDecoder;
+use h2_fields::{BlockFault, Field};
 use h2_frame::{FrameRef, Head, Part, part_of};
 use h2_spec::frames::{ACK, END_HEADERS, END_STREAM};
+use h2_table::DynTable;
 use std::alloc::{AllocError, Global};
 use std::marker::Model;
 
@@ -24,8 +27,10 @@ pub struct OpenBlock {
 /// How far the frames of a server are read.
 #[derive(Drop)]
 pub struct ServerFrames {
-    /// The decoder of its field blocks.
-    blocks: BlockReader,
+    /// The header table of its field blocks.
+    table: DynTable<Global>,
+    /// The decoder of the last block.
+    block: BlockDecoder<Global>,
     /// The block that is open.
     opened: Option<OpenBlock>,
 }
@@ -35,7 +40,7 @@ impl Model for ServerFrames {
 
     ghost Value = { frames.ServerFrames };
 
-    ghost view = { λ s. record { blocks = s.blocks; opened = s.opened } };
+    ghost view = { λ s. record { limit = s.table.limit; block = frames.block_seen s.table.table s.block; opened = s.opened } };
 }
 
 /// Whether an octet is a digit.
@@ -63,7 +68,7 @@ fn status_number(value: &[u8]) -> Option<u32>
 }
 
 /// The status of the first :status among fields, if there is one (RFC 9113, 8.3.2).
-fn status_of(fields: &[SpelledField]) -> Option<u32>
+fn status_of(fields: &[Field<Global>]) -> Option<u32>
     ensures { result ≡ status_of fields.now }
 {
     for field in fields {
@@ -100,21 +105,13 @@ fn event_if(holds: bool, event: Event) -> Option<Event>
     if holds { Some(event) } else { None }
 }
 
-/// Whether no more of a block is left unread.
-fn is_read(blocks: &BlockReader) -> bool
-    ensures { result ≡ is_read blocks.now }
-{
-    blocks.stopped().is_none() && blocks.cut() == 0
-}
-
 /// What a block is that has ended.
-fn block_event(block: OpenBlock, blocks: &BlockReader) -> Option<Event>
-    ensures { result ≡ block_event block blocks.now }
+fn block_event(block: OpenBlock, decoder: &BlockDecoder<Global>) -> Option<Event>
+    ensures { (table : Table) → result ≡ block_event block (block_seen table decoder.now) }
 {
-    if is_read(blocks) {
-        answer_event(block, status_of(blocks.fields()))
-    } else {
-        Some(Event::Unreadable(block.stream))
+    match decoder.finish() {
+        Ok(()) => answer_event(block, status_of(decoder.fields())),
+        Err(_) => Some(Event::Unreadable(block.stream)),
     }
 }
 
@@ -133,10 +130,11 @@ impl ServerFrames {
     pub fn new(alloc: Global) -> Result<ServerFrames, AllocError>
         ensures { IfOk result (λ frames. frames ≡ unread_frames) }
     {
-        let mut blocks = BlockReader::new(alloc, 4096)?;
-        blocks.set_limit(65_536)?;
+        let mut table = DynTable::new(alloc, 4096)?;
+        table.set_limit(65_536)?;
         Ok(ServerFrames {
-            blocks,
+            table,
+            block: BlockDecoder::start(alloc, false),
             opened: None,
         })
     }
@@ -144,20 +142,19 @@ impl ServerFrames {
     /// A fragment is read; with the last one the block ends.
     fn with_fragment(
         &mut self,
-        alloc: Global,
         block: OpenBlock,
         head: Head,
         fragment: &[u8],
     ) -> Result<Option<Event>, AllocError>
         ensures { IfOk result (λ event. with_fragment self.old block head.flags fragment.now ≡ record { after = self.new; event = event }) }
     {
-        match self.blocks.read(alloc, fragment) {
-            Ok(()) => {}
-            Err(error) => return Err(error),
+        match self.block.push(&mut self.table, fragment) {
+            Err(BlockFault::NoMemory) => return Err(AllocError),
+            Ok(()) | Err(_) => {}
         }
         if head.has(END_HEADERS) {
             self.opened = None;
-            Ok(block_event(block, &self.blocks))
+            Ok(block_event(block, &self.block))
         } else {
             self.opened = Some(block);
             Ok(None)
@@ -165,23 +162,18 @@ impl ServerFrames {
     }
 
     /// A block begins.
-    fn begin(&mut self)
+    fn begin(&mut self, alloc: Global)
         ensures { self.new ≡ begin self.old }
     {
-        self.blocks.begin();
+        self.block = BlockDecoder::start(alloc, false);
     }
 
     /// CONTINUATION goes on with the open block (RFC 9113, 6.10).
-    fn continued(
-        &mut self,
-        alloc: Global,
-        head: Head,
-        fragment: &[u8],
-    ) -> Result<Option<Event>, AllocError>
+    fn continued(&mut self, head: Head, fragment: &[u8]) -> Result<Option<Event>, AllocError>
         ensures { IfOk result (λ event. continued self.old self.old.opened head.flags fragment.now ≡ record { after = self.new; event = event }) }
     {
         match self.opened {
-            Some(block) => self.with_fragment(alloc, block, head, fragment),
+            Some(block) => self.with_fragment(block, head, fragment),
             None => Ok(None),
         }
     }
@@ -195,8 +187,8 @@ impl ServerFrames {
     ) -> Result<Option<Event>, AllocError>
         ensures { IfOk result (λ event. opened_by self.old head fragment.now ≡ record { after = self.new; event = event }) }
     {
-        self.begin();
-        self.with_fragment(alloc, block_of(head), head, fragment)
+        self.begin(alloc);
+        self.with_fragment(block_of(head), head, fragment)
     }
 
     /// Takes a frame with this payload, and says what it is.
@@ -216,7 +208,7 @@ impl ServerFrames {
             Part::Ping(octets) => Ok(event_if(head.has(ACK), Event::Pong(octets))),
             Part::Goaway(_, code) => Ok(Some(Event::Goaway(code))),
             Part::WindowUpdate(octets) => Ok(Some(Event::Credit(head.stream, octets))),
-            Part::Continuation(fragment) => { self.continued(alloc, head, fragment) }
+            Part::Continuation(fragment) => self.continued(head, fragment),
             Part::Priority | Part::Settings(_) | Part::PushPromise | Part::Unknown => Ok(None),
         }
     }

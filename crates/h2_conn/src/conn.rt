@@ -211,34 +211,8 @@ impl<'b, A: Allocator + Copy> Conn<'b, A> {
 
     /// Takes the item that these octets begin with, if there is a whole one, and reports what it is, the cause of the
     /// error that it results in, or why it is ignored; none after the end of the connection. No octet is held. What is
-    /// sent for it is appended to `out`.
-    ///
-    /// # Errors
-    ///
-    /// `AllocError` where memory is refused: nothing of the item is done, and the same item can be taken again.
-    pub fn take_and_report<O: Outgoing<'b, A>>(
-        &mut self,
-        octets: &[u8],
-        out: &mut O,
-    ) -> Result<Option<TakenItem>, AllocError>
-        requires ready { self.old ≡ going self.old.state [] }
-        ensures ok { IfOk result (λ taken. TakesIfAny self.old.state octets.now (O.octets out.old) self.new.state (O.octets out.new) (used_by taken)) }
-        ensures report { IfOk result (λ taken. taken ≡ reported self.old.state (next_item self.old.state octets.now)) }
-        ensures ready { self.new ≡ going self.new.state [] }
-        ensures follows { OnOk result (Follows self.old.state self.new.state) }
-        ensures unchanged { OnErr result ((self.new ≡ self.old) × (O.octets out.new ≡ O.octets out.old)) }
-    {
-        report_first_in_order(
-            &mut self.splitter,
-            &mut self.state,
-            &mut self.scratch,
-            octets,
-            out,
-        )
-    }
-
-    /// As `take_and_report`, with memory of the caller: the fields that the item shows of its block are then what `fields`
-    /// lends.
+    /// sent for it is appended to `out`. The fields that it shows of its block are then what `fields` lends, with this
+    /// memory, which is the caller's.
     ///
     /// # Errors
     ///

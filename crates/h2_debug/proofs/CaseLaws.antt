@@ -1,5 +1,5 @@
 -- The special case of an item of a run.
-use Rattle.std.proofs.Common.{◌≡◌, ◌∙◌, Result, Ok, Err, ◌+◌, ◌-◌, ◌<◌, ◌≤◌, ◌||◌, ◌++◌, ℕ, zero, suc, Bool, true, false, List, [], ◌∷◌, ◌⊎◌, inl, inr, drop, get_or, length, take, Option, Some, None, is_some, refl, sym, ap, arith}
+use Rattle.std.proofs.Common.{◌≡◌, ◌∙◌, Result, Ok, Err, ◌+◌, ◌-◌, ◌<◌, ◌≤◌, ◌||◌, ◌++◌, ℕ, zero, suc, Bool, true, false, List, [], ◌∷◌, drop, length, Option, Some, None, is_some, refl, sym, ap, arith}
 use Rattle.h2_spec.specs.declared.causes.Cause.{Cause}
 use Rattle.h2_spec.specs.declared.causes.Cause.TheVariants.{ContinuationOutsideBlock, IntegerTooLong}
 use Rattle.h2_spec.specs.declared.ignored.Ignored.{Ignored}
@@ -18,10 +18,6 @@ use Rattle.h2_spec.specs.Stream.{stream_at}
 use Rattle.h2_spec.specs.Trace.{Event, next_item}
 use Rattle.h2_conn.specs.Connection.{Connection}
 use Rattle.h2_conn.specs.Shown.{Shows, checked_fields, fields_continued, fields_continued_in, fields_opened, item_fields, read_fields}
-use Rattle.std.proofs.lemmas.List.{take_more}
-use Rattle.std.proofs.lemmas.Option.{slice_get_cases}
-use Rattle.std.specs.List.{slice_get}
-use Rattle.h2_explain_item.proofs.FieldLaws.{facts-more}
 use Rattle.h2_explain_item.proofs.SpecialLaws.{other-facts}
 use Rattle.h2_explain_item.specs.CaseFacts.{facts_by, is_beyond_tables}
 use Rattle.h2_explain_item.specs.FieldFacts.{field_facts}
@@ -29,7 +25,7 @@ use Rattle.h2_explain_item.specs.declared.diagnosis.field_facts.FieldFacts.{Fiel
 use Rattle.h2_explain_item.specs.Special.{case_of_cause, special_reason}
 use Rattle.h2_explain_item.specs.declared.diagnosis.special.CaseFacts.{CaseFacts}
 use Rattle.h2_explain_item.specs.declared.diagnosis.special.Seen.{Seen}
-use Rattle.h2_debug.specs.Cases.{block_octets, case_after, case_at, ends_side, facts_in, facts_with, fields_or_none, fragment_of, head_after, is_continuation, is_continued, fragment_of_next, is_ended_by, item_after, item_in, kind_at, leaves_ended, open_octets, opens, part_in, seen_in, shown_stream, shows_by, stream_in}
+use Rattle.h2_debug.specs.Cases.{block_octets, case_after, case_at, ends_side, facts_in, fields_or_none, fragment_of, head_after, is_continuation, is_continued, fragment_of_next, is_ended_by, item_after, item_in, kind_at, leaves_ended, open_octets, opens, part_in, seen_in, shown_stream, shows_by, stream_in}
 use Rattle.h2_debug.specs.Items.{head_of_item}
 use Rattle.h2_debug.specs.Places.{Advances, IsAt, Placed, Source, at, cause_at, end, events, ignored_at}
 use Rattle.h2_debug.specs.declared.reasons.Reasons.{Reasons}
@@ -66,17 +62,6 @@ ended-step r id before after ended now x y e is step =
     let state : before.connection.state ≡ at r before.position = ap (λ (c : Connection). c.state) x.goes in
     let state' : after.connection.state ≡ at r after.position = ap (λ (c : Connection). c.state) y.goes in
     rw (state, state', is) at step ∙ sym (ended-next r id before.position after.position e)
-
--- the facts of the first fields with one more
-pub facts-next : (fields : List Field) (i : ℕ) (facts : FieldFacts) (f : Option Field) → facts ≡ field_facts (take i fields) → i < length fields → f ≡ slice_get fields i
-    → facts_with facts f ≡ field_facts (take (i + 1) fields)
-facts-next fields i facts f is less at = by (slice_get_cases fields i).1
-  where
-    by : ((x : Field) × (i < length fields) × (slice_get fields i ≡ Some x) × (get_or fields i x ≡ x)) ⊎ ((length fields ≤ i) × (slice_get fields i ≡ None)) → facts_with facts f ≡ field_facts (take (i + 1) fields)
-    by (inl x) =
-        let more : take (i + 1) fields ≡ take i fields ++ x.0 ∷ [] = take_more fields i x.0 less ∙ ap (λ (y : Field). take i fields ++ y ∷ []) x.3 in
-        rw (at, x.2, is, more) (sym (facts-more (take i fields) x.0))
-    by (inr x) = absurd (omega (arith, less, x.0))
 
 -- ---- the fields that are shown
 

@@ -1,7 +1,6 @@
 -- Which special case the rule of an item of a run is (RFC 9113, 5.4): by the item, by the state before it, and by the items
 -- before it: whether the last one is CONTINUATION, the octets of its field block, and how the client's side of its stream ended.
 use Rattle.std.specs.Prelude.{ℕ, zero, suc, ◌++◌, ◌==◌, Bool, true, false, ◌&&◌, ◌||◌, not, List, [], ◌∷◌, Option, Some, None, Result, Ok, Err}
-use Rattle.std.specs.Borrow.{Bor}
 use Rattle.h2_spec.specs.declared.causes.Cause.{Cause}
 use Rattle.h2_spec.specs.declared.connection.BlockView.{BlockView}
 use Rattle.h2_spec.specs.declared.frames.Head.{Head}
@@ -12,7 +11,7 @@ use Rattle.h2_spec.specs.declared.streams.StreamState.TheVariants.{Idle, Skipped
 use Rattle.h2_spec.specs.Frames.Frame.{Item, Preface, BadPreface, WholeFrame, Oversize, Next, NoItem, Got}
 use Rattle.h2_spec.specs.Frames.FrameType.{CONTINUATION, DATA, END_STREAM, HEADERS, has}
 use Rattle.h2_spec.specs.Frames.Payload.{Part, OfData, OfHeaders, OfPriority, OfRstStream, OfSettings, OfSettingsAck, OfPushPromise, OfPing, OfGoaway, OfWindowUpdate, OfContinuation, OfUnknown, part_of}
-use Rattle.h2_spec.specs.Hpack.Field.{Field, field}
+use Rattle.h2_spec.specs.Hpack.Field.{Field}
 use Rattle.h2_spec.specs.declared.connection.Purpose.{Purpose}
 use Rattle.h2_spec.specs.ReactionTable.{Cell, run_cell}
 use Rattle.h2_spec.specs.State.{State}
@@ -21,7 +20,7 @@ use Rattle.h2_spec.specs.Texts.View.{shown_block}
 use Rattle.h2_spec.specs.Trace.{Event}
 use Rattle.h2_conn.specs.Shown.{item_fields}
 use Rattle.h2_explain_item.specs.CaseFacts.{facts_by}
-use Rattle.h2_explain_item.specs.FieldFacts.{field_facts, with_field}
+use Rattle.h2_explain_item.specs.FieldFacts.{field_facts}
 use Rattle.h2_explain_item.specs.declared.diagnosis.field_facts.FieldFacts.{FieldFacts}
 use Rattle.h2_explain_item.specs.Item.{readable}
 use Rattle.h2_explain_item.specs.Notes.{has_client_ended}
@@ -93,15 +92,6 @@ fragment_in (Some OfUnknown) = []
 abbrev pub fields_or_none : Option (List Field) → List Field
 fields_or_none None = []
 fields_or_none (Some fields) = fields
-
--- a field whose name and value are lent
-abbrev pub field_lent : Bor (List ℕ) × Bor (List ℕ) → Field
-field_lent f = field f.0.now f.1.now
-
--- the facts of fields with one more, if there is one
-abbrev pub facts_with : FieldFacts → Option Field → FieldFacts
-facts_with facts None = facts
-facts_with facts (Some f) = with_field facts f
 
 -- the octets of the field block that the item which leads to a position goes on with, from its HEADERS on
 abbrev pub open_octets : Option BlockView → List ℕ → List ℕ

@@ -22,7 +22,7 @@ use Rattle.h2_explain.specs.declared.run.Form.{Form}
 use Rattle.h2_explain.specs.declared.verdict.ClientVerdict.{ClientVerdict}
 use Rattle.h2_explain_step.proofs.Taken.{empty-stop, left-none, item-uses, item-more}
 use Rattle.h2_explain_step.specs.Explained.{ExplainsItem}
-use Rattle.h2_explain.specs.Explaining.{Continues, CountsOn, EndsAs, ExplainsAll, ExplainsOn, Handles, HasGained, IsBeginning, IsCutShort, IsExplaining, IsNew, IsSummed, PassesBy, SaysOf, SaysSome, StopsAt, TakesItem}
+use Rattle.h2_explain.specs.Explaining.{Continues, CountsOn, EndsAs, ExplainsAll, ExplainsOn, Handles, HasGained, IsBeginning, IsCutShort, IsExplaining, IsNew, IsSummed, PassesBy, SaysOf, SaysSome, StopsAt, TakesItem, TakesNone}
 use Rattle.h2_explain.specs.Explains.{AreExplained, Gains, IsExplanation, IsItemText, IsRestText, IsWritten, not_written, summary_over}
 use Rattle.h2_explain.specs.Verdicts.{AreTallied, Tallied, TalliesItem, no_tally, verdict_at}
 
@@ -130,6 +130,22 @@ on-cut e e1 s s1 b b1 known known1 x =
     gains-map (Continues e.form s b e.items e.offset s1 b1 e1.items e1.offset) (IsCutShort e s b)
     (λ t on later. let one = on later true [] [] refl in (one.0, subst (λ (d : List ℕ). AreExplained e.form true s (b ++ later) e.items e.offset one.0 d) (append-nil t) one.1))
     known known1 x.written
+
+-- and no item was left
+pub on-none : {A : Type 0} (e f g : RunExplainer A) (s t : State) (b rest : List ℕ) (known known1 known2 : Option (List ℕ)) (c : Connection) → ExplainsOn e s b known f t rest known1 → TakesNone f t rest known1 g c known2 → ExplainsOn e s b known g c.state rest known2
+on-none {A = A} e f g s t b rest known known1 known2 c x y =
+    let stays : ExplainsOn e s b known (record f { explainer = record f.explainer { memory = g.explainer.memory } }) t rest known1 = record {
+      form_is = x.form_is;
+      items_are = x.items_are;
+      offset_is = x.offset_is;
+      counted = x.counted;
+      state_is = x.state_is;
+      rest_is = x.rest_is;
+      written = x.written;
+      tallied = x.tallied;
+    } in
+    let same : ExplainsOn e s b known g t rest known1 = subst (λ (r : RunExplainer A). ExplainsOn e s b known r t rest known1) (sym y.same) stays in
+    rw (y.conn_is, y.quiet) same
 
 -- and nothing more was written after it
 pub on-cut-then : {A : Type 0} (e e1 : RunExplainer A) (s s1 : State) (b b1 : List ℕ) (known known1 known2 : Option (List ℕ)) → ExplainsOn e s b known e1 s1 b1 known1 → Gains (λ (t : List ℕ). t ≡ []) known1 known2 → Gains (IsCutShort e s b) known known2

@@ -116,11 +116,11 @@ pub record TakesItem {A : Type 0} (e : RunExplainer A) (s : State) (b : List ℕ
   pub held_is : e'.held ≡ e.held
   pub late_is : e'.late ≡ e.late
 
--- or there is none, and nothing changes
+-- or there is none, and nothing changes but the memory of items, which means nothing between two of them
 pub record TakesNone {A : Type 0} (e : RunExplainer A) (s : State) (b : List ℕ) (known : Option (List ℕ)) (e' : RunExplainer A) (c : Connection) (known' : Option (List ℕ)) : Type 0 where
   pub none : next_event s b ≡ Stop
   pub conn_is : c ≡ going s []
-  pub same : e' ≡ e
+  pub same : e' ≡ record e { explainer = record e.explainer { memory = e'.explainer.memory } }
   pub quiet : known' ≡ known
 
 abbrev pub TakesIfThere : {A : Type 0} → RunExplainer A → State → List ℕ → Option (List ℕ) → RunExplainer A → Connection → Option (List ℕ) → Option ℕ → Type 0

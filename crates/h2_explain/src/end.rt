@@ -199,7 +199,7 @@ impl<A: Allocator + Copy> End<'_, '_, A> {
         ensures { IfOk result (λ text. EndsLine false (string_bytes text)) }
     {
         let mut out = JsonWords::over(TextBuilder::new(alloc));
-        put_opening(alloc, opening, self.form.brief, &mut out);
+        put_opening(opening, self.form.brief, &mut out);
         out.open_element();
         out.open(member!("end"));
         put_end(self.rest, &mut out);

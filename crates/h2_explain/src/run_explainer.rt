@@ -24,13 +24,13 @@ use crate::shown::{shows_item, shows_opening};
 use crate::verdict::{Tally, verdict_at};
 use h2_conn::{Conn, is_ended};
 use h2_explain_item::item::{Explained, part_in};
+use h2_explain_item::shown_block::ShownBlock;
 use h2_explain_json::json::json_of;
 use h2_explain_step::explainer::ItemExplainer;
 use h2_explain_step::taking::{moment_at, stream_of_next};
 use h2_explain_text::account::Account;
 use h2_explain_text::lines::ItemLines;
 use h2_explain_text::paint::Paint;
-use h2_explain_words::spelled::BlockReader;
 use h2_frame::Outgoing;
 use h2_io::Output;
 use h2_spec::octets::{first_octets, octets_from};
@@ -69,19 +69,19 @@ impl<A: Allocator> Drop for ItemText<A> {
     }
 }
 
-/// Puts an item as a line of JSON in the place of the text before; `reader` has the fields of its block.
+/// Puts an item as a line of JSON in the place of the text before; `block` has the fields of its block.
 #[inline(never)]
 fn put_json<A: Allocator + Copy>(
     alloc: A,
     item: &Explained<'_>,
     account: &Account<A>,
-    reader: &BlockReader<A>,
+    block: ShownBlock<'_, A>,
     lines: &mut ItemLines<A>,
 ) -> Result<(), AllocError>
     ensures { OnOk result (EndsLine false lines.new) }
 {
     let memory = lines.take(alloc);
-    lines.set(json_of(alloc, memory, item, account, reader)?);
+    lines.set(json_of(memory, item, account, block)?);
     Ok(())
 }
 
@@ -102,16 +102,16 @@ fn put_text<A: Allocator + Copy>(
     form: Form,
     item: &Explained<'_>,
     account: &mut Account<A>,
-    reader: &BlockReader<A>,
+    block: ShownBlock<'_, A>,
     lines: &mut ItemLines<A>,
 ) -> Result<(), AllocError>
     ensures { OnOk result (IsShownText form.json form.color form.brief item.now lines.new) }
 {
     fit(form, account);
     if form.json {
-        put_json(alloc, item, account, reader, lines)
+        put_json(alloc, item, account, block, lines)
     } else {
-        lines.put(alloc, item, account, reader, Paint(form.color))
+        lines.put(item, account, block, Paint(form.color))
     }
 }
 
@@ -133,7 +133,7 @@ fn make_text<A: Allocator + Copy>(
     explainer.account(alloc, conn, item, account)?;
     tally.note(item, account.facts, account.warnings)?;
     if shows_item(form, item, account.warnings) {
-        put_text(alloc, form, item, account, &explainer.reader, lines)
+        put_text(alloc, form, item, account, explainer.block(conn), lines)
     } else {
         lines.clear();
         Ok(())
@@ -285,7 +285,8 @@ impl<A: Allocator + Copy> RunExplainer<A> {
         let start = start_of(out, keeps);
         let stream = stream_of_next(conn, octets);
         let before = moment_at(conn, stream);
-        let taken = match conn.take_and_report(octets, out) {
+        let memory = &mut self.explainer.memory;
+        let taken = match conn.take_and_lend(octets, memory, out) {
             Ok(Some(taken)) => taken,
             Ok(None) => return Ok(None),
             Err(_) => return Err(ExplainFault::NoMemory),

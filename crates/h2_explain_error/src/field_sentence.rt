@@ -5,7 +5,7 @@ use h2_explain_item::diagnosis::fields::{
     FieldFault, double_pseudo, first_wrong, has, has_other_scheme, is_connect, is_number,
     late_pseudo, other_length, refused_length,
 };
-use h2_explain_words::spelled::SpelledField;
+use h2_explain_item::shown_block::{SpelledField, SpelledFields};
 use h2_hpack_validity::octets::{bad_octet_of_name, bad_octet_of_value, begins_blank};
 use h2_io::say::{Cut, HexOctet, TextBuilder};
 use h2_io::say_all;
@@ -56,7 +56,7 @@ fn say_blank_end<A: Allocator>(value: &[u8], out: &mut TextBuilder<A>) {
 }
 
 /// Which pseudo-field of a request other than CONNECT is missing or empty (RFC 9113, 8.3.1).
-fn lack_of<A: Allocator>(fields: &[SpelledField<A>]) -> &'static str {
+fn lack_of<A: Allocator>(fields: SpelledFields<'_, A>) -> &'static str {
     if !has(b":method", fields) {
         ":method is missing"
     } else if !has(b":scheme", fields) {
@@ -71,7 +71,7 @@ fn lack_of<A: Allocator>(fields: &[SpelledField<A>]) -> &'static str {
 }
 
 /// What of the pseudo-fields is missing, empty, or too much (RFC 9113, 8.3.1 and 8.5).
-fn say_lacking<A: Allocator>(fields: &[SpelledField<A>], out: &mut TextBuilder<A>) {
+fn say_lacking<A: Allocator>(fields: SpelledFields<'_, A>, out: &mut TextBuilder<A>) {
     if is_connect(fields) {
         say_connect(fields, out);
     } else {
@@ -80,7 +80,7 @@ fn say_lacking<A: Allocator>(fields: &[SpelledField<A>], out: &mut TextBuilder<A
 }
 
 /// What CONNECT has too much, empty where it has not (RFC 9113, 8.5).
-fn too_much<A: Allocator>(fields: &[SpelledField<A>]) -> &'static str {
+fn too_much<A: Allocator>(fields: SpelledFields<'_, A>) -> &'static str {
     match (has(b":scheme", fields), has(b":path", fields)) {
         (true, true) => " has :scheme and :path, and may have neither",
         (true, false) => " has :scheme, and may not have it",
@@ -90,7 +90,7 @@ fn too_much<A: Allocator>(fields: &[SpelledField<A>]) -> &'static str {
 }
 
 /// What CONNECT lacks, and what it has too much (RFC 9113, 8.5).
-fn say_connect<A: Allocator>(fields: &[SpelledField<A>], out: &mut TextBuilder<A>) {
+fn say_connect<A: Allocator>(fields: SpelledFields<'_, A>, out: &mut TextBuilder<A>) {
     let more = too_much(fields);
     say_all!(out; "CONNECT");
     if !has(b":authority", fields) {
@@ -100,9 +100,9 @@ fn say_connect<A: Allocator>(fields: &[SpelledField<A>], out: &mut TextBuilder<A
 }
 
 /// Puts last what is wrong with the content-length that is shown: `other` is one of another number, if there is one.
-fn say_digits<A: Allocator>(
+fn say_digits<'s, A: Allocator>(
     value: &[u8],
-    other: Option<&SpelledField<A>>,
+    other: Option<SpelledField<'s>>,
     out: &mut TextBuilder<A>,
 ) {
     if !is_number(value) {
@@ -110,20 +110,20 @@ fn say_digits<A: Allocator>(
     } else if value.len() > 18 {
         say_all!(out; ", of ", value.len(), " digits; this server takes up to 18");
     } else if let Some(other) = other {
-        say_all!(out; " and \"", Cut(other.value.as_slice()), "\"; they have to be the same number");
+        say_all!(out; " and \"", Cut(other.value), "\"; they have to be the same number");
     }
 }
 
 /// The value or the values of content-length (RFC 9113, 8.1.1).
 fn say_content_length<A: Allocator>(
     cause: Cause,
-    fields: &[SpelledField<A>],
+    fields: SpelledFields<'_, A>,
     out: &mut TextBuilder<A>,
 ) -> bool {
     let Some(field) = refused_length(fields) else {
         return false;
     };
-    let value = field.value.as_slice();
+    let value = field.value;
     say_all!(out; "content-length is \"", Cut(value), "\"");
     if let Cause::ContentMissing = cause {
         say_all!(out; ", and HEADERS ended the stream");
@@ -147,7 +147,7 @@ fn fault_of(cause: Cause) -> Option<FieldFault> {
 }
 
 /// The field that a cause is about.
-fn found<A: Allocator>(cause: Cause, fields: &[SpelledField<A>]) -> Option<&SpelledField<A>> {
+fn found<'s, A: Allocator>(cause: Cause, fields: SpelledFields<'s, A>) -> Option<SpelledField<'s>> {
     match fault_of(cause) {
         Some(fault) => fields.get(first_wrong(fault, 0, fields)?),
         None => double_pseudo(fields),
@@ -175,10 +175,10 @@ fn words_around(cause: Cause) -> &'static (&'static str, &'static str) {
 }
 
 /// What is shown of the field that a cause is about: the value of te, the name of others.
-fn shown_of<A: Allocator>(cause: Cause, field: &SpelledField<A>) -> &[u8] {
+fn shown_of(cause: Cause, field: SpelledField<'_>) -> &[u8] {
     match cause {
-        Cause::BadTe | Cause::TrailersBadTe => field.value.as_slice(),
-        _ => field.name.as_slice(),
+        Cause::BadTe | Cause::TrailersBadTe => field.value,
+        _ => field.name,
     }
 }
 
@@ -211,7 +211,7 @@ fn say_empty_name<A: Allocator>(cause: Cause, out: &mut TextBuilder<A>) {
 }
 
 /// The sentence of a field that a cause is about.
-fn say_found<A: Allocator>(cause: Cause, field: &SpelledField<A>, out: &mut TextBuilder<A>) {
+fn say_found<A: Allocator>(cause: Cause, field: SpelledField<'_>, out: &mut TextBuilder<A>) {
     let shown = shown_of(cause, field);
     if shown.is_empty() && is_of_name(cause) {
         say_empty_name(cause, out);
@@ -222,7 +222,7 @@ fn say_found<A: Allocator>(cause: Cause, field: &SpelledField<A>, out: &mut Text
     if is_of_name(cause) {
         say_name_octet(shown, out);
     } else if is_of_value(cause) {
-        say_value_octet(field.value.as_slice(), out);
+        say_value_octet(field.value, out);
     }
 }
 
@@ -237,11 +237,11 @@ fn is_of_value(cause: Cause) -> bool {
 }
 
 /// A pseudo-field after a regular field (RFC 9113, 8.3).
-fn say_late<A: Allocator>(fields: &[SpelledField<A>], out: &mut TextBuilder<A>) -> bool {
+fn say_late<A: Allocator>(fields: SpelledFields<'_, A>, out: &mut TextBuilder<A>) -> bool {
     let Some((field, before)) = late_pseudo(fields) else {
         return false;
     };
-    let (late, regular) = (Cut(field.name.as_slice()), Cut(before.name.as_slice()));
+    let (late, regular) = (Cut(field.name), Cut(before.name));
     say_all!(out; "\"", late, "\" comes after the field \"", regular, "\"");
     true
 }
@@ -249,7 +249,7 @@ fn say_late<A: Allocator>(fields: &[SpelledField<A>], out: &mut TextBuilder<A>) 
 /// The sentences of requests and trailers.
 pub(crate) fn say_field<A: Allocator>(
     cause: Cause,
-    fields: &[SpelledField<A>],
+    fields: SpelledFields<'_, A>,
     out: &mut TextBuilder<A>,
 ) -> bool {
     match cause {

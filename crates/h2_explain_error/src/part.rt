@@ -4,6 +4,7 @@
 use h2_explain_item::diagnosis::error_context::ErrorContext;
 use h2_explain_item::item::{Explained, Moment};
 use h2_explain_item::notes::StreamNote;
+use h2_explain_item::shown_block::SpelledFields;
 use h2_explain_words::names::TypeWords;
 use h2_explain_words::spelled::Stopped;
 use h2_io::say::{Cut, FieldCount, HexOctet, OctetCount, Say, TextBuilder};
@@ -63,7 +64,7 @@ pub(crate) enum SentencePart {
     /// How many fields the block has, and what their list counts.
     Fields,
     ListSize,
-    /// The index, or the size, at which the second decoder stopped.
+    /// The index, or the size, at which decoding stopped.
     StoppedAt,
     /// The highest index of both tables.
     HighestIndex,
@@ -195,12 +196,24 @@ fn moment_value(part: SentencePart, before: &Moment) -> ShownValue<'static> {
     }
 }
 
-/// Where the second decoder stopped: at an index, or at a table size update.
+/// Where decoding stopped: at an index, or at a table size update.
 fn stopped_at(stopped: Option<Stopped>) -> u64 {
     match stopped {
         Some(Stopped::Index(number) | Stopped::Update(number)) => number,
         Some(Stopped::Other) | None => 0,
     }
+}
+
+/// What the fields that are shown count together, in octets: 32 each beside their own (RFC 9113, 6.5.2).
+fn size_of<A: Allocator>(fields: SpelledFields<'_, A>) -> u64 {
+    let mut size = 0u64;
+    for place in 0..fields.len() {
+        if let Some(field) = fields.get(place) {
+            let octets = field.name.len().saturating_add(field.value.len());
+            size = size.saturating_add(octets as u64).saturating_add(32);
+        }
+    }
+    size
 }
 
 /// A value of the field block.
@@ -217,10 +230,18 @@ fn block_value<A: Allocator + Copy>(
         )),
         SentencePart::CutOctets => ShownValue::Octets(context.reader.cut() as u64),
         SentencePart::Fields => ShownValue::Fields(context.fields().len()),
-        SentencePart::ListSize => ShownValue::Number(context.reader.size() as u64),
-        SentencePart::StoppedAt => ShownValue::Number(stopped_at(context.reader.stopped())),
-        SentencePart::HighestIndex => ShownValue::Number(context.reader.highest_index() as u64),
+        SentencePart::ListSize => ShownValue::Number(size_of(context.fields())),
+        SentencePart::StoppedAt => ShownValue::Number(stopped_at(context.stopped())),
+        SentencePart::HighestIndex => ShownValue::Number(highest_index(context)),
         _ => ShownValue::Words(""),
+    }
+}
+
+/// The highest index that has an entry, 0 where it is not known.
+fn highest_index<A: Allocator + Copy>(context: &ErrorContext<'_, '_, A>) -> u64 {
+    match context.table.highest_index() {
+        Some(index) => index as u64,
+        None => 0,
     }
 }
 

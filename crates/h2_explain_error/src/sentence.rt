@@ -29,7 +29,7 @@ pub fn say_sentence<A: Allocator + Copy>(
 ) {
     let said = say_listed(cause, &context, out)
         || say_setting(cause, &context, out)
-        || say_huffman(alloc, cause, context.reader, out)
+        || say_huffman(alloc, cause, &context, out)
         || say_field(cause, context.fields(), out);
     if !said {
         say_all!(out; cause.row().sentence);
@@ -82,9 +82,12 @@ fn is_at_hand<A: Allocator + Copy>(cause: Cause, context: &ErrorContext<'_, '_, 
         | Cause::DataOnClosed
         | Cause::HeadersOnClosed
         | Cause::TrailersWithoutEndStream => context.note().is_some(),
-        Cause::IndexOutOfTables => matches!(context.reader.stopped(), Some(Stopped::Index(_))),
+        Cause::IndexOutOfTables => {
+            matches!(context.stopped(), Some(Stopped::Index(_)))
+                && context.table.highest_index().is_some()
+        }
         Cause::SizeUpdateLate | Cause::SizeUpdateTooLarge => {
-            matches!(context.reader.stopped(), Some(Stopped::Update(_)))
+            matches!(context.stopped(), Some(Stopped::Update(_)))
         }
         Cause::ContentTooLong | Cause::ContentTooShort => {
             context.item.before.stream.numbers.declared.is_some()
@@ -391,7 +394,7 @@ fn say_setting<A: Allocator + Copy>(
 
 /// Puts last which entry an index would name that was evicted, if there is one (RFC 7541, 4.4).
 fn say_gone<A: Allocator + Copy>(context: &ErrorContext<'_, '_, A>, out: &mut TextBuilder<A>) {
-    let Some(Stopped::Index(index)) = context.reader.stopped() else {
+    let Some(Stopped::Index(index)) = context.stopped() else {
         return;
     };
     if let Some(gone) = context.table.gone_at(index) {

@@ -1,9 +1,9 @@
 //! The sentences of Huffman strings that are refused: which string, and what is wrong with it (RFC 7541, 5.2). The
-//! refused literal is what the second decoder has left.
+//! refused literal is at the front of the rest of its block.
 
 ghost use Rattle.std.specs.Prelude.{◌≤◌};
 
-use h2_explain_words::spelled::BlockReader;
+use h2_explain_item::diagnosis::error_context::ErrorContext;
 use h2_io::say::{Cut, HexOctet, OctetCount, Ordinal, TextBuilder};
 use h2_io::say_all;
 use h2_prim::{HuffFault, IntRead, StrAt, find_str, huff_read, read_int};
@@ -119,10 +119,10 @@ fn say_flaw<A: Allocator>(flaw: Flaw, octets: &[u8], out: &mut TextBuilder<A>) {
     }
 }
 
-/// Puts last which field it is, if the fields before it were all kept.
-fn say_place<A: Allocator + Copy>(reader: &BlockReader<A>, out: &mut TextBuilder<A>) {
-    if reader.size() <= 65536 {
-        say_all!(out; " of the ", Ordinal(reader.fields().len().saturating_add(1)), " field");
+/// Puts last which field it is, if those before it are all shown.
+fn say_place<A: Allocator + Copy>(context: &ErrorContext<'_, '_, A>, out: &mut TextBuilder<A>) {
+    if context.fields().decoded().list_size() <= 65536 {
+        say_all!(out; " of the ", Ordinal(context.fields().len().saturating_add(1)), " field");
     }
 }
 
@@ -130,12 +130,12 @@ fn say_place<A: Allocator + Copy>(reader: &BlockReader<A>, out: &mut TextBuilder
 fn say_name<A: Allocator + Copy>(
     alloc: A,
     name: NameIs<'_>,
-    reader: &BlockReader<A>,
+    context: &ErrorContext<'_, '_, A>,
     out: &mut TextBuilder<A>,
 ) {
     match name {
         NameIs::Index(index) => {
-            if let Some((name, _)) = reader.field_at(index) {
+            if let Some(name) = context.table.name_at(index) {
                 say_all!(out; ", ", Cut(name), ",");
             }
         }
@@ -152,7 +152,7 @@ fn say_value<A: Allocator + Copy>(
     alloc: A,
     name: NameIs<'_>,
     octets: &[u8],
-    reader: &BlockReader<A>,
+    context: &ErrorContext<'_, '_, A>,
     out: &mut TextBuilder<A>,
 ) -> bool {
     let StrAt::Whole(huffman, value, _) = find_str(octets) else {
@@ -161,8 +161,8 @@ fn say_value<A: Allocator + Copy>(
     match flaw_of(alloc, huffman, value) {
         Ok(Some(flaw)) => {
             say_all!(out; "the value");
-            say_place(reader, out);
-            say_name(alloc, name, reader, out);
+            say_place(context, out);
+            say_name(alloc, name, context, out);
             say_flaw(flaw, value, out);
             true
         }
@@ -174,7 +174,7 @@ fn say_value<A: Allocator + Copy>(
 fn say_named<A: Allocator + Copy>(
     alloc: A,
     octets: &[u8],
-    reader: &BlockReader<A>,
+    context: &ErrorContext<'_, '_, A>,
     out: &mut TextBuilder<A>,
 ) -> bool {
     let StrAt::Whole(huffman, name, used) = find_str(octets) else {
@@ -183,39 +183,39 @@ fn say_named<A: Allocator + Copy>(
     match flaw_of(alloc, huffman, name) {
         Ok(Some(flaw)) => {
             say_all!(out; "the name");
-            say_place(reader, out);
+            say_place(context, out);
             say_flaw(flaw, name, out);
             true
         }
         Ok(None) => {
             let name = NameIs::Text(huffman, name);
-            say_value(alloc, name, behind(octets, used), reader, out)
+            say_value(alloc, name, behind(octets, used), context, out)
         }
         Err(_) => false,
     }
 }
 
-/// The sentence of a Huffman string that is refused: that of the literal at which the second decoder stopped.
+/// The sentence of a Huffman string that is refused: that of the literal at which decoding stopped.
 pub(crate) fn say_huffman<A: Allocator + Copy>(
     alloc: A,
     cause: Cause,
-    reader: &BlockReader<A>,
+    context: &ErrorContext<'_, '_, A>,
     out: &mut TextBuilder<A>,
 ) -> bool {
     let Cause::HuffmanString = cause else {
         return false;
     };
-    let octets = reader.rest();
+    let octets = context.reader.rest();
     let Some(first) = octets.first() else {
         return false;
     };
     match read_int(prefix_of(*first), octets) {
-        IntRead::Whole(0, used) => say_named(alloc, behind(octets, used), reader, out),
+        IntRead::Whole(0, used) => say_named(alloc, behind(octets, used), context, out),
         IntRead::Whole(index, used) => say_value(
             alloc,
             NameIs::Index(index),
             behind(octets, used),
-            reader,
+            context,
             out,
         ),
         IntRead::More | IntRead::TooLong => false,

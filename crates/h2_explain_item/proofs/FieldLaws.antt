@@ -1,11 +1,12 @@
 -- The facts of fields, one field after another, the instructions of octets, and the members of a list.
-use Rattle.std.proofs.Common.{◌≡◌, ◌∙◌, ◌⊎◌, inl, inr, ◌+◌, ◌<◌, ◌≤◌, ◌&&◌, ◌||◌, ◌==◌, not, ℕ, zero, suc, Bool, true, false, List, [], ◌∷◌, ◌++◌, length, take, drop, get_or, Result, Err, refl, sym, ap, arith, map}
+use Rattle.std.proofs.Common.{◌≡◌, ◌∙◌, ◌⊎◌, inl, inr, ◌+◌, ◌<◌, ◌≤◌, ◌&&◌, ◌||◌, ◌==◌, not, ℕ, zero, suc, Bool, true, false, List, [], ◌∷◌, ◌++◌, length, take, drop, get_or, Option, Some, None, Result, Err, refl, sym, ap, arith, map}
 use Rattle.std.proofs.Math.Bool.{or-false, and-true}
 use Rattle.std.proofs.lemmas.Bool.{cases_lt}
 use Rattle.std.proofs.lemmas.List.Folds.{list_all-append, list_any-append}
 use Rattle.std.proofs.lemmas.List.Sums.{prefix_len-le-length}
 use Rattle.std.proofs.lemmas.List.{take_all, take_more}
-use Rattle.std.specs.List.{list_all, list_any, position_or_len}
+use Rattle.std.proofs.lemmas.Option.{slice_get_cases}
+use Rattle.std.specs.List.{list_all, list_any, position_or_len, slice_get}
 use Rattle.h2_hpack_instruction.specs.Shapes.{read_of, shape_of}
 use Rattle.h2_hpack_instruction.specs.declared.shape.ShapeFault.{ShapeFault}
 use Rattle.h2_hpack_instruction.specs.declared.shape.ShapeFault.TheVariants as cut
@@ -15,9 +16,8 @@ use Rattle.h2_spec.specs.Hpack.Instruction.{Shape, instr_at, instr_only, next_sh
 use Rattle.h2_spec.specs.Read.{Read, Whole, More, TooLong}
 use Rattle.h2_spec.proofs.InstructionLaws.{whole-takes}
 use Rattle.h2_spec.proofs.ParseLaws.{Uses, parse_all-step}
-use Rattle.h2_explain_words.specs.Spelled.{Spelled, fields_of}
 use Rattle.h2_explain_item.specs.declared.diagnosis.field_facts.FieldFacts.{FieldFacts}
-use Rattle.h2_explain_item.specs.FieldFacts.{field_facts, is_trailers_alone, is_trailers_member, members, with_field, with_octet}
+use Rattle.h2_explain_item.specs.FieldFacts.{facts_with, field_facts, is_trailers_alone, is_trailers_member, members, with_field, with_octet}
 
 -- ---- one field more
 
@@ -31,23 +31,16 @@ pub facts-more : (fields : List Field) (f : Field) → field_facts (fields ++ f 
 unfolding field_facts
 facts-more fields f = simp (any-more, all-more) refl
 
-fields-append : (xs ys : List Spelled) → fields_of (xs ++ ys) ≡ fields_of xs ++ fields_of ys
-fields-append [] ys = refl
-fields-append (x ∷ xs) ys = ap (λ (fs : List Field). x.field ∷ fs) (fields-append xs ys)
-
--- of fields with their spellings
-pub spelled-more : (fields : List Spelled) (i : ℕ) (d : Spelled) → i < length fields → field_facts (fields_of (take (i + 1) fields)) ≡ with_field (field_facts (fields_of (take i fields))) (get_or fields i d).field
-spelled-more fields i d less =
-    ap (λ (xs : List Spelled). field_facts (fields_of xs)) (take_more fields i d less) ∙ ap field_facts (fields-append (take i fields) (get_or fields i d ∷ []))
-    ∙ facts-more (fields_of (take i fields)) (get_or fields i d).field
-
--- and of the field that a loop has at hand
-pub facts-step : (fields : List Spelled) (i : ℕ) (x : Spelled) (before after : FieldFacts) (name value : List ℕ) → i < length fields → x ≡ get_or fields i x → before ≡ field_facts (fields_of (take i fields))
-    → name ≡ x.field.name → value ≡ x.field.value → after ≡ with_field before (field name value) → after ≡ field_facts (fields_of (take (i + 1) fields))
-facts-step fields i x before after name value less at is n v step =
-    let one : field name value ≡ x.field = rw (n, v) refl in
-    step ∙ ap (λ (t : FieldFacts). with_field t (field name value)) is
-    ∙ ap (λ (f : Field). with_field (field_facts (fields_of (take i fields))) f) (one ∙ ap (λ (s : Spelled). s.field) at) ∙ sym (spelled-more fields i x less)
+-- of the first fields
+pub facts-next : (fields : List Field) (i : ℕ) (facts : FieldFacts) (f : Option Field) → facts ≡ field_facts (take i fields) → i < length fields → f ≡ slice_get fields i
+    → facts_with facts f ≡ field_facts (take (i + 1) fields)
+facts-next fields i facts f is less at = by (slice_get_cases fields i).1
+  where
+    by : ((x : Field) × (i < length fields) × (slice_get fields i ≡ Some x) × (get_or fields i x ≡ x)) ⊎ ((length fields ≤ i) × (slice_get fields i ≡ None)) → facts_with facts f ≡ field_facts (take (i + 1) fields)
+    by (inl x) =
+        let more : take (i + 1) fields ≡ take i fields ++ x.0 ∷ [] = take_more fields i x.0 less ∙ ap (λ (y : Field). take i fields ++ y ∷ []) x.3 in
+        rw (at, x.2, is, more) (sym (facts-more (take i fields) x.0))
+    by (inr x) = absurd (omega (arith, less, x.0))
 
 -- ---- instructions
 

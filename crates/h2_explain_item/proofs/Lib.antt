@@ -2,3 +2,4 @@ pub mod ChangeLaws
 pub mod SettingLaws
 pub mod FieldLaws
 pub mod SpecialLaws
+mod ShownLaws

@@ -1,6 +1,6 @@
 -- What the fields of a block are, as far as special cases of malformed requests and trailers depend on it (RFC 9113, 8.2 and
 -- 8.3).
-use Rattle.std.specs.Prelude.{ℕ, ◌-◌, Bool, true, ◌&&◌, ◌||◌, not, List, [], ◌∷◌, length, take, drop, ◌==◌, if◌then◌else◌, codes, bytes_eq, map}
+use Rattle.std.specs.Prelude.{ℕ, ◌-◌, Bool, true, ◌&&◌, ◌||◌, not, List, [], ◌∷◌, length, take, drop, ◌==◌, if◌then◌else◌, codes, bytes_eq, map, Option, Some, None}
 use Rattle.std.specs.Char.{is_ascii_whitespace, to_ascii_lowercase}
 use Rattle.std.specs.List.{list_any, list_all, prefix_len, suffix_len}
 use Rattle.h2_spec.specs.Hpack.Field.{Field}
@@ -96,3 +96,7 @@ with_field x f = record {
   short_lengths = x.short_lengths && has_short_length f;
   numeric_lengths = x.numeric_lengths && has_length f;
 }
+
+abbrev pub facts_with : FieldFacts → Option Field → FieldFacts
+facts_with x None = x
+facts_with x (Some f) = with_field x f

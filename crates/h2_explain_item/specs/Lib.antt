@@ -11,3 +11,5 @@ pub mod FrameFacts
 pub mod RunFacts
 pub mod Warnings
 pub mod Others
+pub mod ShownBlock
+pub mod AnswerFields

@@ -8,7 +8,10 @@
 //! h2_explain_step's.
 #![tactic(auto)]
 
+pub mod answer_fields;
 pub mod change;
 pub mod diagnosis;
 pub mod item;
 pub mod notes;
+pub mod shown_block;
+pub mod shown_laws;

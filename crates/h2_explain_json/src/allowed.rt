@@ -4,10 +4,10 @@ use crate::json_words::JsonWords;
 use crate::member;
 use h2_explain_item::diagnosis::accepted::{all_listed, is_accepted};
 use h2_explain_item::item::Explained;
+use h2_explain_item::shown_block::SpelledFields;
 use h2_explain_text::account::Account;
 use h2_explain_text::others::{ended_fields, no_errors};
 use h2_explain_words::names::code_name;
-use h2_explain_words::spelled::BlockReader;
 use h2_spec::accepted::Accepted;
 use h2_spec::conforming::{Codes, Conforming, Observed, Reactions};
 use std::alloc::Allocator;
@@ -84,10 +84,10 @@ fn put_one<A: Allocator>(accepted: Accepted, out: &mut JsonWords<A>) {
 pub(crate) fn put_accepted<A: Allocator + Copy>(
     item: &Explained<'_>,
     account: &Account<A>,
-    reader: &BlockReader<A>,
+    fields: SpelledFields<'_, A>,
     out: &mut JsonWords<A>,
 ) {
-    let fields = ended_fields(account, reader);
+    let fields = ended_fields(account, fields);
     let mut is_begun = false;
     for accepted in all_listed() {
         if is_accepted(*accepted, item, account.warnings, fields) {

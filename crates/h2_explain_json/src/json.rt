@@ -10,6 +10,7 @@ use crate::allowed::{put_accepted, put_allowed};
 use crate::json_words::{JsonWords, Member};
 use crate::warnings::put_warnings;
 use crate::{element, member};
+use h2_explain_item::answer_fields::{AnswerPart, next_part};
 use h2_explain_item::change::changes::{ShownChange, UnshownChange};
 use h2_explain_item::change::count::Count;
 use h2_explain_item::change::header_table::EntryChange;
@@ -17,14 +18,15 @@ use h2_explain_item::diagnosis::special::{
     case_of_error, case_of_reason, rule_of_cause, rule_of_reason,
 };
 use h2_explain_item::item::Explained;
+use h2_explain_item::shown_block::{ShownBlock, SpelledField, SpelledFields};
 use h2_explain_text::account::Account;
-use h2_explain_text::text::{mode_name, read_answer, say_item};
+use h2_explain_text::text::{mode_name, say_item};
 use h2_explain_words::frame_words::say_frame_in;
 use h2_explain_words::names::{
     TypeWords, code_name, kind_name, registered_setting, registered_type, setting_name,
 };
 use h2_explain_words::sent::next_frame;
-use h2_explain_words::spelled::{BlockReader, SpelledField, Spelling};
+use h2_explain_words::spelled::Spelling;
 use h2_frame::{FrameRef, FrameType, Head, HeadersPart, Part, SettingsPart, part_of};
 use h2_io::json_text::JsonText;
 use h2_io::say::{Hex, HexOctet, Say, TextBuilder};
@@ -215,18 +217,25 @@ impl Say for FrameWords<'_> {
 }
 
 /// The fields of HEADERS that were sent.
-fn put_answer<A: Allocator + Copy>(alloc: A, frame: FrameRef<'_>, out: &mut JsonWords<A>) {
+fn put_answer<A: Allocator>(frame: FrameRef<'_>, out: &mut JsonWords<A>) {
     if let FrameType::Headers = frame.head.frame_type() {
-        match read_answer(alloc, frame.payload) {
-            Ok(reader) => put_fields(&reader, out),
-            Err(_) => out.refuse(),
+        out.open_list(member!("fields"));
+        let mut rest = frame.payload;
+        for _part in 0..frame.payload.len() {
+            let Some((part, after)) = next_part(rest) else {
+                break;
+            };
+            rest = after;
+            if let AnswerPart::Field(field) = part {
+                put_field(field, out);
+            }
         }
+        out.close_list();
     }
 }
 
 /// A frame that was sent, and its octets; its fields unless they are left out.
-fn put_sent_frame<A: Allocator + Copy>(
-    alloc: A,
+fn put_sent_frame<A: Allocator>(
     frame: FrameRef<'_>,
     octets: &[u8],
     is_brief: bool,
@@ -234,7 +243,7 @@ fn put_sent_frame<A: Allocator + Copy>(
 ) {
     out.open_element();
     if !is_brief {
-        put_answer(alloc, frame, out);
+        put_answer(frame, out);
     }
     put_head(&frame.head, out);
     out.name(member!("octets", "hex"));
@@ -247,27 +256,22 @@ fn put_sent_frame<A: Allocator + Copy>(
 }
 
 /// The frames that octets have, in their order.
-fn put_frames<A: Allocator + Copy>(
-    alloc: A,
-    octets: &[u8],
-    is_brief: bool,
-    out: &mut JsonWords<A>,
-) {
+fn put_frames<A: Allocator>(octets: &[u8], is_brief: bool, out: &mut JsonWords<A>) {
     let mut rest = octets;
     for _frame in 0..octets.len() {
         let Some((frame, after)) = next_frame(rest) else {
             return;
         };
         let used = rest.len().saturating_sub(after.len());
-        put_sent_frame(alloc, frame, first_octets(rest, used), is_brief, out);
+        put_sent_frame(frame, first_octets(rest, used), is_brief, out);
         rest = after;
     }
 }
 
 /// The frames that were sent, in their order.
-fn put_sent<A: Allocator + Copy>(alloc: A, octets: &[u8], is_brief: bool, out: &mut JsonWords<A>) {
+fn put_sent<A: Allocator>(octets: &[u8], is_brief: bool, out: &mut JsonWords<A>) {
     out.open_list(member!("sent"));
-    put_frames(alloc, octets, is_brief, out);
+    put_frames(octets, is_brief, out);
     out.close_list();
 }
 
@@ -291,26 +295,28 @@ fn put_spelling<A: Allocator>(spelling: Spelling, out: &mut JsonWords<A>) {
 }
 
 /// A field.
-fn put_field<A: Allocator>(field: &SpelledField<A>, out: &mut JsonWords<A>) {
-    put_octets(element!("name", "hex"), field.name.as_slice(), out);
+fn put_field<A: Allocator>(field: SpelledField<'_>, out: &mut JsonWords<A>) {
+    put_octets(element!("name", "hex"), field.name, out);
     put_spelling(field.spelling, out);
-    put_octets(member!("value", "hex"), field.value.as_slice(), out);
+    put_octets(member!("value", "hex"), field.value, out);
     out.close();
 }
 
 /// The fields of a block.
-fn put_fields<A: Allocator + Copy>(reader: &BlockReader<A>, out: &mut JsonWords<A>) {
+fn put_fields<A: Allocator>(fields: SpelledFields<'_, A>, out: &mut JsonWords<A>) {
     out.open_list(member!("fields"));
-    for field in reader.fields() {
-        put_field(field, out);
+    for place in 0..fields.len() {
+        if let Some(field) = fields.get(place) {
+            put_field(field, out);
+        }
     }
     out.close_list();
 }
 
 /// The table size updates of a block.
-fn put_updates<A: Allocator + Copy>(reader: &BlockReader<A>, out: &mut JsonWords<A>) {
+fn put_updates<A: Allocator>(updates: &[u64], out: &mut JsonWords<A>) {
     out.open_list(member!("table_updates"));
-    for max in reader.updates() {
+    for max in updates {
         out.element(*max);
     }
     out.close_list();
@@ -559,7 +565,7 @@ fn shows_fields<A: Allocator + Copy>(account: &Account<A>) -> bool {
 fn put_why<A: Allocator + Copy>(
     item: &Explained<'_>,
     account: &Account<A>,
-    reader: &BlockReader<A>,
+    block: ShownBlock<'_, A>,
     out: &mut JsonWords<A>,
 ) {
     put_changes(account, out);
@@ -569,7 +575,7 @@ fn put_why<A: Allocator + Copy>(
         put_error(cause, is_connection, case, account, out);
     }
     if shows_fields(account) {
-        put_fields(reader, out);
+        put_fields(block.fields, out);
     }
     if let Some(head) = item.head() {
         put_head(&head, out);
@@ -592,31 +598,21 @@ impl Say for ItemWords<'_> {
 }
 
 /// Puts the item in: its number, its octets, and what was sent for it.
-fn put_item<A: Allocator + Copy>(
-    alloc: A,
-    item: &Explained<'_>,
-    is_brief: bool,
-    out: &mut JsonWords<A>,
-) {
+fn put_item<A: Allocator>(item: &Explained<'_>, is_brief: bool, out: &mut JsonWords<A>) {
     out.number(member!("item"), item.number);
     put_octets(member!("octets", "hex"), item.octets, out);
     out.number(member!("offset"), item.offset as u64);
     if let Some(frame) = item.frame() {
         put_payload(frame, item.part, out);
     }
-    put_sent(alloc, item.sent, is_brief, out);
+    put_sent(item.sent, is_brief, out);
 }
 
 /// The version of the form of the lines.
 const VERSION: u64 = 1;
 
 /// The line of what the server sent before the first item, if there is anything. It has no changes.
-pub fn put_opening<A: Allocator + Copy>(
-    alloc: A,
-    opening: &[u8],
-    is_brief: bool,
-    out: &mut JsonWords<A>,
-) {
+pub fn put_opening<A: Allocator>(opening: &[u8], is_brief: bool, out: &mut JsonWords<A>) {
     if opening.is_empty() {
         return;
     }
@@ -628,42 +624,36 @@ pub fn put_opening<A: Allocator + Copy>(
     out.number(member!("item"), 0);
     put_octets(member!("octets", "hex"), &[], out);
     out.number(member!("offset"), 0);
-    put_sent(alloc, opening, is_brief, out);
+    put_sent(opening, is_brief, out);
     out.number(member!("version"), VERSION);
     out.plain(member!("words"), "the server's opening");
     out.close();
     out.end_line();
 }
 
-/// The octets of the line of an item, before it that of the server's opening, if the item is the first; `reader` has the
+/// The octets of the line of an item, before it that of the server's opening, if the item is the first; `block` has the
 /// fields of its block. They are in the memory of `octets`, whatever these are.
 ///
 /// `AllocError` where memory is refused.
 pub fn json_of<A: Allocator + Copy>(
-    alloc: A,
     octets: Vec<u8, A>,
     item: &Explained<'_>,
     account: &Account<A>,
-    reader: &BlockReader<A>,
+    block: ShownBlock<'_, A>,
 ) -> Result<Vec<u8, A>, AllocError>
     ensures { IfOk result (λ octets. EndsLine false octets.items) }
 {
     let mut out = JsonWords::over(TextBuilder::over(octets, account.is_full));
-    put_opening(
-        alloc,
-        account.opening.as_slice(),
-        account.is_brief,
-        &mut out,
-    );
+    put_opening(account.opening.as_slice(), account.is_brief, &mut out);
     out.open_element();
     if !account.is_brief {
-        put_accepted(item, account, reader, &mut out);
+        put_accepted(item, account, block.fields, &mut out);
     }
-    put_why(item, account, reader, &mut out);
-    put_item(alloc, item, account.is_brief, &mut out);
+    put_why(item, account, block, &mut out);
+    put_item(item, account.is_brief, &mut out);
     put_entries(account, &mut out);
     if shows_fields(account) {
-        put_updates(reader, &mut out);
+        put_updates(block.updates, &mut out);
     }
     put_warnings(account.warnings, &mut out);
     out.plain(member!("words"), ItemWords(item));

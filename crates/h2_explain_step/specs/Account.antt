@@ -17,11 +17,12 @@ use Rattle.h2_spec.specs.declared.frames.Head.{Head}
 use Rattle.h2_spec.specs.declared.frames.ItemHead.{ItemHead}
 use Rattle.h2_spec.specs.declared.frames.ItemHead.TheVariants as head
 use Rattle.h2_spec.specs.declared.streams.Stream.{Stream}
-use Rattle.h2_explain_words.specs.Spelled.{BlockRead, begun_with}
 use Rattle.h2_explain_words.specs.Sent.{FirstFrame, first_frame}
 use Rattle.h2_spec.specs.State.{State}
 use Rattle.h2_spec.specs.Stream.{stream_at}
-use Rattle.h2_explain_item.specs.Item.{head_in}
+use Rattle.h2_spec.specs.Hpack.Field.{Field}
+use Rattle.h2_explain_item.specs.Item.{frame_in, head_in, part_in}
+use Rattle.h2_explain_item.specs.ShownBlock.{BlocksRead, read_on, unread}
 use Rattle.h2_explain_item.specs.Notes.{AreNotes, block_end_after, note_of, with_later_note, with_note}
 use Rattle.h2_explain_item.specs.Changes.{Differs, connection_changes, stream_changes}
 use Rattle.h2_explain_item.specs.declared.change.changes.ShownChange.{ShownChange}
@@ -93,6 +94,36 @@ shows_fields_of (head.Frame h) before cause phase = shows_fields before.block h 
 abbrev pub shows_fields_with : Explained → Bool
 shows_fields_with x = shows_fields_of x.what x.before x.cause x.after.counts.phase
 
+-- ---- the block of the client
+
+-- a block begins where none is open
+abbrev pub begun_if : Option BlockView → BlocksRead → BlocksRead
+begun_if None b = unread
+begun_if (Some block) b = b
+
+-- the block with a fragment more, if there is one
+abbrev pub read_with : BlocksRead → List Field → (limit : ℕ) → Option (List ℕ) → BlocksRead
+read_with b fields limit None = b
+read_with b fields limit (Some fragment) = read_on b fields limit fragment
+
+-- the same with a frame of the block, read unless a connection error came before its fields; the block has these fields
+-- with it
+abbrev pub read_frame : Explained → List Field → BlocksRead → Head → BlocksRead
+read_frame x fields b h =
+    if is_of_block x.before.block h then (let begun = begun_if x.before.block b in
+    if reads_fields x.cause x.after.counts.phase then read_with begun fields x.before.counts.own.table (fragment_in (part_in (frame_in x.what x.octets.now))) else begun) else b
+
+-- the same with an item, by what it is
+abbrev pub read_as : Explained → List Field → BlocksRead → ItemHead → BlocksRead
+read_as x fields b head.Preface = b
+read_as x fields b head.BadPreface = b
+read_as x fields b (head.Oversize h) = b
+read_as x fields b (head.Frame h) = read_frame x fields b h
+
+-- the last block of the client after an item, with which it has these fields
+abbrev pub blocks_with : Explained → List Field → BlocksRead → BlocksRead
+blocks_with x fields b = read_as x fields b x.what
+
 -- the item that began the open field block, after an item: HEADERS where none was open begins one (4.3)
 abbrev pub block_begun : (begun number : ℕ) → Option BlockView → Head → ℕ
 block_begun begun number None h = if is_of_block None h then number else begun
@@ -113,10 +144,6 @@ begun_by x begun = begun_after begun x.number x.before.block x.what
 abbrev pub ended_with : (begun number : ℕ) → Option BlockView → Option Head → ℕ
 ended_with begun number block None = number
 ended_with begun number block (Some h) = if is_of_block block h then begun else number
-
--- a reader of field blocks that has read nothing, whose table has this maximum and limit (RFC 7541, 4.2)
-abbrev pub unread : ℕ → BlockRead
-unread limit = begun_with (record { table = record { entries = []; max = limit }; limit = limit })
 
 -- ---- what an item changed
 

@@ -5,13 +5,16 @@ ghost use Rattle.std.specs.Prelude.{◌≡◌, ◌++◌, Some, false, IfOk, OnOk
 ghost use Rattle.std.specs.BTreeMap.{IsEmpty};
 ghost use Rattle.std.specs.Option.{option_map};
 ghost use Rattle.h2_explain_item.specs.Item.{frame_in, head_in, part_in};
-ghost use Rattle.h2_explain_step.specs.Account.{KeepsBlocks, ListsChanges, NotesItem, begun_by, block_end_with, changes_of_sent, changes_seen, ended_with, unread, fragment_in, is_compression, is_of_block, is_of_fields, moves_windows, noted_with, notes_of_sent, notes_seen, opening_if, reads_fields, shows_fields_with};
+ghost use Rattle.h2_explain_step.specs.Account.{KeepsBlocks, ListsChanges, NotesItem, begun_by, blocks_with, block_end_with, changes_of_sent, changes_seen, ended_with, fragment_in, is_compression, is_of_block, is_of_fields, moves_windows, noted_with, notes_of_sent, notes_seen, opening_if, reads_fields, shows_fields_with};
+ghost use Rattle.h2_conn.specs.Shown.{fields_at_hand};
+ghost use Rattle.h2_explain_item.specs.ShownBlock.{fields_seen, shown_fields, unread};
+ghost use Rattle.h2_explain_step.specs.Reader.{KeepsReader};
 ghost use Rattle.h2_explain_item.specs.Notes.{AreNotes, note_of};
 ghost use Rattle.h2_explain_item.specs.RunFacts.{empties_after, run_facts};
 ghost use Rattle.h2_explain_item.specs.Warnings.{AreWarnings};
 
 use crate::unshown_changes::{Live, note_moved, put_moved, sent_streams};
-use h2_conn::{Conn, is_ended, write_opening};
+use h2_conn::{Conn, Scratch, is_ended, write_opening};
 use h2_explain_error::sentence::say_sentence;
 use h2_explain_item::change::changes::{
     Changes, connection_changes, is_same_stream, stream_changes,
@@ -28,9 +31,9 @@ use h2_explain_item::diagnosis::special::CaseFacts;
 use h2_explain_item::diagnosis::warning::{opens_stream, warnings_of};
 use h2_explain_item::item::Explained;
 use h2_explain_item::notes::{Notes, StreamNote};
+use h2_explain_item::shown_block::{BlockReader, ShownBlock};
 use h2_explain_text::account::Account;
 use h2_explain_words::sent::next_frame;
-use h2_explain_words::spelled::BlockReader;
 use h2_frame::Part;
 use h2_io::say::TextBuilder;
 use h2_spec::causes::Cause;
@@ -45,7 +48,9 @@ use std::collections::BTreeMap;
 pub struct ItemExplainer<A: Allocator = Global> {
     /// What was noted of the connection and its streams.
     pub notes: Notes<A>,
-    /// The second decoder of the client's field blocks.
+    /// The memory of items, with which the connection lends the fields of the last block.
+    pub memory: Scratch<A>,
+    /// How the client's field blocks are spelled.
     pub reader: BlockReader<A>,
     /// The streams that are live.
     pub live: BTreeMap<u32, (), A>,
@@ -161,12 +166,13 @@ impl<A: Allocator + Copy> ItemExplainer<A> {
     /// Nothing is known.
     pub fn new(alloc: A) -> Result<ItemExplainer<A>, AllocError>
         ensures streams { IfOk result (λ explainer. IsEmpty explainer.notes.streams) }
-        ensures reader { IfOk result (λ explainer. explainer.reader ≡ unread 4096) }
+        ensures reader { IfOk result (λ explainer. explainer.reader ≡ unread) }
         ensures blocks { IfOk result (λ explainer. (explainer.notes.block ≡ 0) × (explainer.notes.block_end ≡ 0)) }
     {
         Ok(ItemExplainer {
             notes: Notes::new(alloc),
-            reader: BlockReader::new(alloc, 4096)?,
+            memory: Scratch::new(alloc),
+            reader: BlockReader::new(alloc),
             live: BTreeMap::new(alloc),
             table: Followed::new(alloc, 4096),
             refused_ends: BTreeMap::new(alloc),
@@ -178,8 +184,10 @@ impl<A: Allocator + Copy> ItemExplainer<A> {
 
     /// Reads what a frame has of a field block, and says whether the fields of the block are shown with it (RFC 9113,
     /// 4.3).
-    fn read_block(&mut self, alloc: A, item: &Explained<'_>) -> Result<bool, AllocError>
+    fn read_block(&mut self, conn: &Conn<'_, A>, item: &Explained<'_>) -> Result<bool, AllocError>
         ensures shows { IfOk result (λ shows. shows ≡ shows_fields_with item.now) }
+        ensures reader { OnOk result (self.new.reader ≡ blocks_with item.now (fields_at_hand conn.now.state.block self.old.memory.decoding.fields) self.old.reader) }
+        ensures memory { self.new.memory ≡ self.old.memory }
         ensures notes { OnOk result (self.new.notes ≡ record self.old.notes { block = begun_by item.now self.old.notes.block }) }
         ensures full { self.new.is_full ≡ self.old.is_full }
     {
@@ -192,13 +200,14 @@ impl<A: Allocator + Copy> ItemExplainer<A> {
         if item.before.block.is_none() {
             self.notes.begin(item.number);
             self.reader.begin();
-            self.reader.set_limit(item.before.counts.own.table)?;
         }
         if !reads_fields(item) {
             return Ok(false);
         }
         if let Some(fragment) = fragment_of(item) {
-            self.reader.read(alloc, fragment)?;
+            let limit = item.before.counts.own.table;
+            let fields = conn.fields(&self.memory);
+            self.reader.read(fields, limit, fragment)?;
         }
         Ok(head.has(END_HEADERS) || is_ended(item.after.counts.phase))
     }
@@ -223,7 +232,7 @@ impl<A: Allocator + Copy> ItemExplainer<A> {
         ensures changes { OnOk result (out.new.items ≡ out.old.items ++ changes_of_sent item.now conn.now.state (note_of self.old.notes)) }
         ensures notes { OnOk result (AreNotes self.new.notes (notes_of_sent item.now conn.now.state (note_of self.old.notes))) }
         ensures blocks { OnOk result (KeepsBlocks self.old.notes self.new.notes) }
-        ensures full { self.new.is_full ≡ self.old.is_full }
+        ensures keeps { KeepsReader self.old self.new }
     {
         let mut rest = item.sent;
         for _frame in 0..item.sent.len() {
@@ -248,7 +257,7 @@ impl<A: Allocator + Copy> ItemExplainer<A> {
         ensures changes { OnOk result (out.new.items ≡ out.old.items ++ changes_seen item.now conn.now.state (note_of self.old.notes) stream) }
         ensures notes { OnOk result (AreNotes self.new.notes (notes_seen item.now conn.now.state (note_of self.old.notes) stream)) }
         ensures blocks { OnOk result (KeepsBlocks self.old.notes self.new.notes) }
-        ensures full { self.new.is_full ≡ self.old.is_full }
+        ensures keeps { KeepsReader self.old self.new }
     {
         match self.notes.of(stream) {
             Some(note) => self.see_again(conn, item, stream, &note, out),
@@ -270,7 +279,7 @@ impl<A: Allocator + Copy> ItemExplainer<A> {
         ensures changes { OnOk result (out.new.items ≡ out.old.items ++ changes_seen item.now conn.now.state (note_of self.old.notes) stream) }
         ensures notes { OnOk result (AreNotes self.new.notes (notes_seen item.now conn.now.state (note_of self.old.notes) stream)) }
         ensures blocks { OnOk result (KeepsBlocks self.old.notes self.new.notes) }
-        ensures full { self.new.is_full ≡ self.old.is_full }
+        ensures keeps { KeepsReader self.old self.new }
     {
         let now = conn.stream(stream);
         if now.id == stream && note.is_settled() && is_same_stream(&note.seen, &now) {
@@ -346,31 +355,40 @@ impl<A: Allocator + Copy> ItemExplainer<A> {
     }
 
     /// What is wrong with the request that an item opens a stream with; nothing where it opens none.
-    fn request_facts(&self, item: &Explained<'_>) -> RequestFacts {
+    fn request_facts(&self, conn: &Conn<'_, A>, item: &Explained<'_>) -> RequestFacts {
         if !opens_stream(item) {
             return RequestFacts::none();
         }
-        request_facts(self.reader.fields())
+        request_facts(self.block(conn).fields)
     }
 
     /// What is wrong with the field block that ends with an item; nothing where none does, or the item is an error.
-    fn block_facts(&self, item: &Explained<'_>, ends: bool) -> BlockFacts {
+    fn block_facts(&self, conn: &Conn<'_, A>, item: &Explained<'_>, ends: bool) -> BlockFacts {
         if !ends || item.cause.is_some() {
             return BlockFacts::none();
         }
-        block_facts(&self.reader)
+        block_facts(self.block(conn))
+    }
+
+    /// The field block of the item that a connection has taken last, up to that item.
+    pub fn block<'f>(&'f self, conn: &'f Conn<'_, A>) -> ShownBlock<'f, A>
+        ensures updates { result.updates.now ≡ self.now.reader.block.taken.updates }
+        ensures fields { fields_seen result.fields ≡ shown_fields self.now.reader (fields_at_hand conn.now.state.block self.now.memory.decoding.fields) }
+    {
+        self.reader.block(conn.fields(&self.memory))
     }
 
     /// What sentences draw their values from.
     fn context<'f, 'o>(
         &'f self,
-        conn: &Conn<'_, A>,
+        conn: &'f Conn<'_, A>,
         item: &'f Explained<'o>,
     ) -> ErrorContext<'f, 'o, A> {
         ErrorContext {
             item,
             notes: &self.notes,
             reader: &self.reader,
+            fields: self.block(conn).fields,
             table: &self.table,
             config: conn.config(),
             widest: self.widest(conn, item),
@@ -401,7 +419,7 @@ impl<A: Allocator + Copy> ItemExplainer<A> {
     /// Notes that the server has reset a stream at an item that ended the client's side, if it is so.
     fn note_refused_end(&mut self, item: &Explained<'_>) -> Result<(), AllocError>
         ensures notes { self.new.notes ≡ self.old.notes }
-        ensures full { self.new.is_full ≡ self.old.is_full }
+        ensures keeps { KeepsReader self.old self.new }
     {
         let stream = item.after.stream.id;
         match (item.before.stream.kind, item.after.stream.kind) {
@@ -428,7 +446,7 @@ impl<A: Allocator + Copy> ItemExplainer<A> {
         ensures block { OnOk result (self.new.notes.block ≡ self.old.notes.block) }
         ensures block_end { OnOk result (self.new.notes.block_end ≡ block_end_with self.old.notes.block_end item.now.number (head_in item.now.what)) }
         ensures still { OnOk result (moves_windows item.now ≡ false → self.new.notes.streams ≡ self.old.notes.streams) }
-        ensures full { self.new.is_full ≡ self.old.is_full }
+        ensures keeps { KeepsReader self.old self.new }
     {
         self.note_refused_end(item)?;
         note_moved(conn, item, &mut self.notes, &mut self.live, sent)?;
@@ -456,15 +474,17 @@ impl<A: Allocator + Copy> ItemExplainer<A> {
         ensures texts { OnOk result (account.new.is_full ≡ self.old.is_full) }
         ensures notes { OnOk result (NotesItem item.now conn.now.state self.old.notes self.new.notes) }
         ensures full { self.new.is_full ≡ self.old.is_full }
+        ensures reader { OnOk result (self.new.reader ≡ blocks_with item.now (fields_at_hand conn.now.state.block self.old.memory.decoding.fields) self.old.reader) }
+        ensures memory { self.new.memory ≡ self.old.memory }
     {
         let empties = self.empties;
         let run = run_facts(&mut self.granted, empties, item)?;
         account.is_full = self.is_full;
-        account.shows_fields = self.read_block(alloc, item)?;
-        self.follow_refused(alloc, item)?;
+        account.shows_fields = self.read_block(conn, item)?;
+        self.follow_refused(alloc, conn, item)?;
         account.facts = self.facts(conn, item);
-        let request = self.request_facts(item);
-        let block = self.block_facts(item, account.shows_fields);
+        let request = self.request_facts(conn, item);
+        let block = self.block_facts(conn, item, account.shows_fields);
         account.warnings = warnings_of(item, account.facts, request, block, run);
         self.put_error(alloc, conn, item, account)?;
         let sent = sent_streams(alloc, item)?;
@@ -478,7 +498,7 @@ impl<A: Allocator + Copy> ItemExplainer<A> {
         )?;
         self.put_changes(conn, item, &mut account.changes)?;
         self.note_rest(conn, item, &sent)?;
-        self.put_entries(alloc, item, &mut account.entries)?;
+        self.put_entries(alloc, conn, item, &mut account.entries)?;
         put_opening(alloc, conn, item.number == 1, &mut account.opening)?;
         self.empties = empties_after(empties, item.head());
         Ok(())
@@ -486,12 +506,20 @@ impl<A: Allocator + Copy> ItemExplainer<A> {
 
     /// Follows the block of an item that is refused for an index that no entry has.
     #[inline(always)]
-    fn follow_refused(&mut self, alloc: A, item: &Explained<'_>) -> Result<(), AllocError>
+    fn follow_refused(
+        &mut self,
+        alloc: A,
+        conn: &Conn<'_, A>,
+        item: &Explained<'_>,
+    ) -> Result<(), AllocError>
         ensures notes { self.new.notes ≡ self.old.notes }
-        ensures full { self.new.is_full ≡ self.old.is_full }
+        ensures keeps { KeepsReader self.old self.new }
     {
         match item.cause {
-            Some(_) => self.table.follow_refused(alloc, item, &self.reader),
+            Some(_) => {
+                let block = self.reader.block(conn.fields(&self.memory));
+                self.table.follow_refused(alloc, item, block)
+            }
             None => Ok(()),
         }
     }
@@ -501,17 +529,18 @@ impl<A: Allocator + Copy> ItemExplainer<A> {
     fn put_entries(
         &mut self,
         alloc: A,
+        conn: &Conn<'_, A>,
         item: &Explained<'_>,
         entries: &mut Vec<EntryChange<A>, A>,
     ) -> Result<(), AllocError>
         ensures notes { self.new.notes ≡ self.old.notes }
-        ensures full { self.new.is_full ≡ self.old.is_full }
+        ensures keeps { KeepsReader self.old self.new }
     {
         if !entries.is_empty() {
             entries.clear();
         }
         match item.head() {
-            Some(head) if is_of_block(item, &head) => self.follow(alloc, item, entries),
+            Some(head) if is_of_block(item, &head) => self.follow(alloc, conn, item, entries),
             _ => Ok(()),
         }
     }
@@ -521,17 +550,19 @@ impl<A: Allocator + Copy> ItemExplainer<A> {
     fn follow(
         &mut self,
         alloc: A,
+        conn: &Conn<'_, A>,
         item: &Explained<'_>,
         entries: &mut Vec<EntryChange<A>, A>,
     ) -> Result<(), AllocError>
         ensures notes { self.new.notes ≡ self.old.notes }
-        ensures full { self.new.is_full ≡ self.old.is_full }
+        ensures keeps { KeepsReader self.old self.new }
     {
         if item.before.block.is_none() {
             self.table.begin();
         }
         if !is_ended(item.after.counts.phase) {
-            *entries = self.table.follow(alloc, item, &self.reader)?;
+            let block = self.reader.block(conn.fields(&self.memory));
+            *entries = self.table.follow(alloc, item, block)?;
         }
         Ok(())
     }
@@ -548,7 +579,7 @@ impl<A: Allocator + Copy> ItemExplainer<A> {
         ensures changes { OnOk result (ListsChanges item.now conn.now.state self.old.notes.block (note_of self.old.notes) list.new.items) }
         ensures notes { OnOk result (AreNotes self.new.notes (notes_of_sent item.now conn.now.state (noted_with item.now self.old.notes.block (note_of self.old.notes)))) }
         ensures blocks { OnOk result (KeepsBlocks self.old.notes self.new.notes) }
-        ensures full { self.new.is_full ≡ self.old.is_full }
+        ensures keeps { KeepsReader self.old self.new }
     {
         list.clear();
         let (before, after) = (&item.before, &item.after);
@@ -563,7 +594,7 @@ impl<A: Allocator + Copy> ItemExplainer<A> {
     fn see_own(&mut self, item: &Explained<'_>) -> Result<(), AllocError>
         ensures notes { OnOk result (AreNotes self.new.notes (noted_with item.now self.old.notes.block (note_of self.old.notes))) }
         ensures blocks { OnOk result (KeepsBlocks self.old.notes self.new.notes) }
-        ensures full { self.new.is_full ≡ self.old.is_full }
+        ensures keeps { KeepsReader self.old self.new }
     {
         if item.after.stream.id == 0 {
             return Ok(());

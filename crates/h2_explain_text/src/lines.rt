@@ -11,16 +11,15 @@ use crate::account::Account;
 use crate::others::{say_accepted, say_beside_error, say_beside_reason};
 use crate::paint::{Paint, Role};
 use crate::text::{
-    answer_reader, say_all_moved, say_also, say_changes, say_entries, say_fields, say_item,
-    say_opening, say_sent,
+    say_all_moved, say_also, say_changes, say_entries, say_fields, say_item, say_opening, say_sent,
 };
 use crate::warning_words::say_warnings;
 use h2_explain_item::diagnosis::special::{
     case_of_error, case_of_reason, rule_of_cause, rule_of_reason,
 };
 use h2_explain_item::item::Explained;
+use h2_explain_item::shown_block::ShownBlock;
 use h2_explain_words::names::{error_name, scope_word};
-use h2_explain_words::spelled::BlockReader;
 use h2_io::say::TextBuilder;
 use h2_io::{DeviceFault, Gathered, Output, Text, texts};
 use h2_spec::causes::Cause;
@@ -309,12 +308,12 @@ fn part(words: &[u8], from: usize, to: usize) -> Octets<'_> {
 /// Puts the lines of the fields of the block that ends with an item last, if they are shown with it.
 fn say_shown_fields<A: Allocator + Copy>(
     account: &Account<A>,
-    reader: &BlockReader<A>,
+    block: ShownBlock<'_, A>,
     paint: Paint,
     out: &mut TextBuilder<A>,
 ) {
     if account.shows_fields {
-        say_fields(reader, paint, out);
+        say_fields(block, paint, out);
     }
 }
 
@@ -329,14 +328,12 @@ fn say_all_changes<A: Allocator + Copy>(
     say_entries(account.entries.as_slice(), paint, out);
 }
 
-/// Puts the words of an item in the place of those before; `answers` reads the fields of answers.
+/// Puts the words of an item in the place of those before.
 fn say_words<A: Allocator + Copy>(
-    alloc: A,
     item: &Explained<'_>,
     account: &Account<A>,
-    reader: &BlockReader<A>,
+    block: ShownBlock<'_, A>,
     paint: Paint,
-    answers: &mut BlockReader<A>,
     out: &mut TextBuilder<A>,
 ) -> Ends {
     out.clear(account.is_full);
@@ -344,15 +341,15 @@ fn say_words<A: Allocator + Copy>(
     let opening = out.len();
     say_item(item, out);
     let item_end = out.len();
-    say_shown_fields(account, reader, paint, out);
+    say_shown_fields(account, block, paint, out);
     let fields = out.len();
     say_beside_error(item, account, paint, out);
     say_also(account.also.as_slice(), paint, out);
     let also = out.len();
     say_beside_reason(item, account, paint, out);
-    say_accepted(item, account, reader, paint, out);
+    say_accepted(item, account, block.fields, paint, out);
     say_warnings(account.warnings, paint, out);
-    say_sent(alloc, item.sent, paint, account.is_brief, answers, out);
+    say_sent(item.sent, paint, account.is_brief, out);
     let sent = out.len();
     say_all_changes(account, paint, out);
     Ends {
@@ -483,18 +480,12 @@ pub struct ItemLines<A: Allocator = Global> {
     text: Gathered<A>,
     /// The words that no definition has.
     words: TextBuilder<A>,
-    /// The reader of the fields of answers.
-    answers: BlockReader<A>,
 }
 
 /// By hand, so that a function that drops one makes one call.
 impl<A: Allocator> Drop for ItemLines<A> {
     fn drop(self) {
-        let Self {
-            text: _,
-            words: _,
-            answers: _,
-        } = self;
+        let Self { text: _, words: _ } = self;
     }
 }
 
@@ -512,7 +503,6 @@ impl<A: Allocator + Copy> ItemLines<A> {
         Ok(ItemLines {
             text: Gathered::new(alloc),
             words: TextBuilder::new(alloc),
-            answers: answer_reader(alloc)?,
         })
     }
 
@@ -543,22 +533,20 @@ impl<A: Allocator + Copy> ItemLines<A> {
     }
 
     /// Puts the text of an item in the place of that before, and first that of the server's opening, if the item is the
-    /// first; that of the preface itself is empty. `reader` has the fields of its block. Of a brief account the lines of
+    /// first; that of the preface itself is empty. `block` is the block that it ends. Of a brief account the lines of
     /// fields, and of what changed, are left out.
     ///
     /// `AllocError` where memory is refused.
     pub fn put(
         &mut self,
-        alloc: A,
         item: &Explained<'_>,
         account: &Account<A>,
-        reader: &BlockReader<A>,
+        block: ShownBlock<'_, A>,
         paint: Paint,
     ) -> Result<(), AllocError>
         ensures { OnOk result ((w : Said) × (self.new ≡ lines_of paint.0 item.now (shown_words account.now.is_brief w))) }
     {
-        let (answers, said) = (&mut self.answers, &mut self.words);
-        let ends = say_words(alloc, item, account, reader, paint, answers, said);
+        let ends = say_words(item, account, block, paint, &mut self.words);
         let words = self.words.octets()?;
         let out = &mut self.text;
         if is_silent(item.what) {

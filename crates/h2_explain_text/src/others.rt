@@ -10,8 +10,8 @@ use h2_explain_item::diagnosis::special::{
     case_of_error, case_of_reason, rule_of_cause, rule_of_reason,
 };
 use h2_explain_item::item::Explained;
+use h2_explain_item::shown_block::SpelledFields;
 use h2_explain_words::names::Code;
-use h2_explain_words::spelled::{BlockReader, SpelledField};
 use h2_io::say::TextBuilder;
 use h2_io::say_all;
 use h2_spec::accepted::Accepted;
@@ -197,12 +197,12 @@ pub fn accepting_words(row: Row) -> &'static str {
 }
 
 /// The fields of the block that an item ends, if they are shown with it.
-pub fn ended_fields<'r, A: Allocator + Copy>(
+pub fn ended_fields<'f, A: Allocator>(
     account: &Account<A>,
-    reader: &'r BlockReader<A>,
-) -> Option<&'r [SpelledField<A>]> {
+    fields: SpelledFields<'f, A>,
+) -> Option<SpelledFields<'f, A>> {
     if account.shows_fields {
-        Some(reader.fields())
+        Some(fields)
     } else {
         None
     }
@@ -223,14 +223,14 @@ fn say_one_accepted<A: Allocator>(accepted: Accepted, paint: Paint, out: &mut Te
 pub(crate) fn say_accepted<A: Allocator + Copy>(
     item: &Explained<'_>,
     account: &Account<A>,
-    reader: &BlockReader<A>,
+    fields: SpelledFields<'_, A>,
     paint: Paint,
     out: &mut TextBuilder<A>,
 ) {
     if account.is_brief || !account.is_full {
         return;
     }
-    let fields = ended_fields(account, reader);
+    let fields = ended_fields(account, fields);
     for accepted in all_listed() {
         if is_accepted(*accepted, item, account.warnings, fields) {
             say_one_accepted(*accepted, paint, out);

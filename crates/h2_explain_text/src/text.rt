@@ -2,14 +2,16 @@
 //! changed. No definition speaks of them, the format is in docs/EXPLAIN.md.
 
 use crate::paint::{Paint, Role};
+use h2_explain_item::answer_fields::{AnswerPart, next_part};
 use h2_explain_item::change::changes::{ShownChange, UnshownChange};
 use h2_explain_item::change::count::Count;
 use h2_explain_item::change::header_table::EntryChange;
 use h2_explain_item::item::Explained;
+use h2_explain_item::shown_block::{ShownBlock, SpelledField};
 use h2_explain_words::frame_words::{say_frame, say_frame_in, say_head};
 use h2_explain_words::names::kind_name;
 use h2_explain_words::sent::next_frame;
-use h2_explain_words::spelled::{BlockReader, SpelledField, Spelling};
+use h2_explain_words::spelled::Spelling;
 use h2_frame::FrameRef;
 use h2_hpack_instruction::instruction::Mode;
 use h2_io::say::{Cut, OctetCount, Say, TextBuilder};
@@ -17,7 +19,7 @@ use h2_io::say_all;
 use h2_spec::causes::Cause;
 use h2_spec::connection::BlockView;
 use h2_spec::frames::{FrameType, ItemHead};
-use std::alloc::{AllocError, Allocator};
+use std::alloc::Allocator;
 
 /// Puts the item in words last.
 pub fn say_item<A: Allocator>(item: &Explained<'_>, out: &mut TextBuilder<A>) {
@@ -62,9 +64,9 @@ fn say_spelling<A: Allocator>(spelling: Spelling, out: &mut TextBuilder<A>) {
 }
 
 /// Puts the line of a field last.
-fn say_field<A: Allocator>(field: &SpelledField<A>, paint: Paint, out: &mut TextBuilder<A>) {
+fn say_field<A: Allocator>(field: SpelledField<'_>, paint: Paint, out: &mut TextBuilder<A>) {
     paint.lead(Role::Field, "        field ", out);
-    let (name, value) = (Cut(field.name.as_slice()), Cut(field.value.as_slice()));
+    let (name, value) = (Cut(field.name), Cut(field.value));
     say_all!(out; name, ": \"", value);
     say_spelling(field.spelling, out);
     say_all!(out; ")");
@@ -72,12 +74,8 @@ fn say_field<A: Allocator>(field: &SpelledField<A>, paint: Paint, out: &mut Text
 }
 
 /// Puts the lines of a block's table size updates last.
-fn say_updates<A: Allocator + Copy>(
-    reader: &BlockReader<A>,
-    paint: Paint,
-    out: &mut TextBuilder<A>,
-) {
-    for max in reader.updates() {
+fn say_updates<A: Allocator>(updates: &[u64], paint: Paint, out: &mut TextBuilder<A>) {
+    for max in updates {
         paint.begin(Role::Field, out);
         say_all!(out; "table size update to ", *max);
         paint.end(out);
@@ -85,48 +83,31 @@ fn say_updates<A: Allocator + Copy>(
 }
 
 /// Puts the lines of a block's updates and fields last.
-pub(crate) fn say_fields<A: Allocator + Copy>(
-    reader: &BlockReader<A>,
+pub(crate) fn say_fields<A: Allocator>(
+    block: ShownBlock<'_, A>,
     paint: Paint,
     out: &mut TextBuilder<A>,
 ) {
-    say_updates(reader, paint, out);
-    for field in reader.fields() {
-        say_field(field, paint, out);
+    say_updates(block.updates, paint, out);
+    for place in 0..block.fields.len() {
+        if let Some(field) = block.fields.get(place) {
+            say_field(field, paint, out);
+        }
     }
 }
 
-/// The most octets of the header table of answers. Their fields are literals that do not enter it, and the only table
-/// size update that they begin with is one to 0 (RFC 7541, 4.2 and 6.2.2): so a table without space reads them all.
-const ANSWER_TABLE: u32 = 0;
-
-/// A reader of the fields of answers, one after another.
-pub(crate) fn answer_reader<A: Allocator + Copy>(alloc: A) -> Result<BlockReader<A>, AllocError> {
-    BlockReader::new(alloc, ANSWER_TABLE)
-}
-
-/// The fields of an answer.
-pub fn read_answer<A: Allocator + Copy>(
-    alloc: A,
-    block: &[u8],
-) -> Result<BlockReader<A>, AllocError> {
-    let mut reader = answer_reader(alloc)?;
-    reader.read(alloc, block)?;
-    Ok(reader)
-}
-
 /// Puts the lines of the fields of an answer last.
-fn say_answer<A: Allocator + Copy>(
-    alloc: A,
-    block: &[u8],
-    paint: Paint,
-    answers: &mut BlockReader<A>,
-    out: &mut TextBuilder<A>,
-) {
-    answers.begin();
-    match answers.read(alloc, block) {
-        Ok(()) => say_fields(answers, paint, out),
-        Err(_) => out.refuse(),
+fn say_answer<A: Allocator>(block: &[u8], paint: Paint, out: &mut TextBuilder<A>) {
+    let mut rest = block;
+    for _part in 0..block.len() {
+        let Some((part, after)) = next_part(rest) else {
+            return;
+        };
+        rest = after;
+        match part {
+            AnswerPart::Update(max) => say_updates(&[max], paint, out),
+            AnswerPart::Field(field) => say_field(field, paint, out),
+        }
     }
 }
 
@@ -138,29 +119,24 @@ fn say_sent_line<A: Allocator>(frame: FrameRef<'_>, paint: Paint, out: &mut Text
 }
 
 /// Puts the line of a frame that was sent last, and, unless they are left out, those of its fields.
-fn say_sent_frame<A: Allocator + Copy>(
-    alloc: A,
+fn say_sent_frame<A: Allocator>(
     frame: FrameRef<'_>,
     paint: Paint,
     is_brief: bool,
-    answers: &mut BlockReader<A>,
     out: &mut TextBuilder<A>,
 ) {
     say_sent_line(frame, paint, out);
     match frame.head.frame_type() {
-        FrameType::Headers if !is_brief => say_answer(alloc, frame.payload, paint, answers, out),
+        FrameType::Headers if !is_brief => say_answer(frame.payload, paint, out),
         _ => {}
     }
 }
 
-/// Puts the lines of the frames that were sent last, without their fields where the text is brief; `answers` reads the
-/// fields of answers.
-pub(crate) fn say_sent<A: Allocator + Copy>(
-    alloc: A,
+/// Puts the lines of the frames that were sent last, without their fields where the text is brief.
+pub(crate) fn say_sent<A: Allocator>(
     sent: &[u8],
     paint: Paint,
     is_brief: bool,
-    answers: &mut BlockReader<A>,
     out: &mut TextBuilder<A>,
 ) {
     let mut rest = sent;
@@ -169,7 +145,7 @@ pub(crate) fn say_sent<A: Allocator + Copy>(
             return;
         };
         rest = after;
-        say_sent_frame(alloc, frame, paint, is_brief, answers, out);
+        say_sent_frame(frame, paint, is_brief, out);
     }
 }
 

@@ -1,6 +1,3 @@
-pub mod Agreeing
+mod Along
 pub mod Fronts
-pub mod Keeping
-pub mod Kept
-pub mod ReadingOn
-pub mod Stepping
+mod ReadingOn

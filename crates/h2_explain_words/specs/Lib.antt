@@ -1,3 +1,4 @@
+pub mod Along
 pub mod Names
 pub mod Sent
 pub mod Spelled

@@ -1,10 +1,10 @@
 //! Frames, settings, error codes and fields in words.
-//! `frame_words` has a frame in words, `spelled` the fields of field blocks, each with how it was spelled.
+//! `frame_words` has a frame in words, `spelled` how the fields of field blocks are spelled (the law of
+//! that is in `laws`).
 #![tactic(auto)]
 
 pub mod frame_words;
-mod kept_fields;
+pub mod laws;
 pub mod names;
-mod reading;
 pub mod sent;
 pub mod spelled;

@@ -1,18 +1,20 @@
-//! The fields of field blocks, each with how it was spelled: a second decoder, with a header table of its own, that is
-//! given each fragment (RFC 7541, 3 and 6). The definitions are in specs/Spelled.antt, on those of `h2_spec`,
-//! specs/Hpack/Block.antt.
+//! How the fields of a field block are spelled, read from its octets alone (RFC 7541, 6). No table is held and no string
+//! is decoded: how many instructions were carried out is seen by how many fields the connection has decoded. The
+//! definitions are in specs/Spelled.antt.
 
-ghost use Rattle.std.specs.Prelude.{◌≡◌, ◌+◌, ◌^◌, ◌-◌, [], ◌++◌, length, min, option_map, None, IfOk, OnOk, OnErr};
-ghost use Rattle.h2_spec.specs.Hpack.Block.{decoded, list_size};
-ghost use Rattle.h2_spec.specs.Hpack.DynamicTable.{field_at};
-ghost use Rattle.h2_hpack_list.specs.Lent.{lent_field};
-ghost use Rattle.h2_explain_words.specs.Spelled.{Agrees, begun_with, fields_of, progress_of, read_more};
+ghost use Rattle.std.specs.Prelude.{◌≡◌, ◌≤◌, length, drop, map, false, IfOk, OnOk};
+ghost use Rattle.h2_spec.specs.Hpack.Instruction.{instr_at};
+ghost use Rattle.h2_hpack_instruction.specs.Shapes.{mode_of, name_of, shape_of};
+ghost use Rattle.h2_explain_words.specs.Spelled.{IsStep, after, literal_spelling, read_more, read_to, some_if, spelling_seen, stopped_at, stopped_by, unread, with_given, with_update};
 
-use crate::reading::Reading;
 use h2_hpack_instruction::instruction::Mode;
+use h2_hpack_instruction::shape::{Point, RawName, Shape, ShapeFault, shape_from, short_index};
 use h2_spec::octets::octets_from;
 use std::alloc::{AllocError, Allocator, Global};
 use std::marker::Model;
+
+/// How many spellings of a block there may be for their memory to be used again.
+const REUSED: usize = 256;
 
 /// How a field was spelled.
 #[derive(Clone, Copy)]
@@ -24,26 +26,7 @@ pub enum Spelling {
     Literal(Mode, Option<u64>, bool, bool),
 }
 
-/// A field as it came: the octets of its name and value, and how it was spelled.
-#[derive(Drop)]
-pub struct SpelledField<A: Allocator = Global> {
-    /// The octets of the name, decoded.
-    pub name: Vec<u8, A>,
-    /// The octets of the value, decoded.
-    pub value: Vec<u8, A>,
-    /// Its instruction (RFC 7541, 6).
-    pub spelling: Spelling,
-}
-
-impl<A: Allocator> Model for SpelledField<A> {
-    ghost use Rattle.h2_explain_words.specs.Spelled.{Spelled, spelling_seen};
-
-    ghost Value = { Spelled };
-
-    ghost view = { λ f. record { field = record { name = f.name.items; value = f.value.items }; spelling = spelling_seen f.spelling } };
-}
-
-/// What the decoder stopped at.
+/// What decoding stopped at.
 #[derive(Clone, Copy)]
 pub enum Stopped {
     /// An index that no entry has (RFC 7541, 2.3.3 and 6.1).
@@ -54,114 +37,224 @@ pub enum Stopped {
     Other,
 }
 
-/// The decoder of all field blocks of one side of a connection.
+/// What the instructions of a block gave.
 #[derive(Drop)]
-pub struct BlockReader<A: Allocator = Global> {
-    reading: Reading<A>,
+struct Taken<A: Allocator> {
+    /// How each field was spelled.
+    given: Vec<Spelling, A>,
+    /// The table size updates.
+    updates: Vec<u64, A>,
+}
+
+impl<A: Allocator> Model for Taken<A> {
+    ghost use Rattle.std.specs.Prelude.{map};
+    ghost use Rattle.h2_explain_words.specs.Spelled as spec;
+
+    ghost Value = { spec.Taken };
+
+    ghost view = { λ t. record { given = map spec.spelling_seen t.given.items; updates = t.updates.items } };
+}
+
+/// The spellings of one block after another, each as far as the connection has decoded it.
+#[derive(Drop)]
+pub struct Spellings<A: Allocator = Global> {
+    taken: Taken<A>,
     /// The octets after the instructions that were carried out.
     rest: Vec<u8, A>,
-    stopped: Option<Stopped>,
 }
 
-impl<A: Allocator> Model for BlockReader<A> {
-    ghost use Rattle.h2_explain_words.specs.Spelled.{BlockRead};
+impl<A: Allocator> Model for Spellings<A> {
+    ghost use Rattle.h2_explain_words.specs.Spelled.{BlockSpelled};
 
-    ghost Value = { BlockRead };
+    ghost Value = { BlockSpelled };
 
-    ghost view = { λ b. record { reading = b.reading; rest = b.rest.items; stopped = b.stopped } };
+    ghost view = { λ s. record { taken = s.taken; rest = s.rest.items } };
 }
 
-impl<A: Allocator + Copy> BlockReader<A> {
-    /// A decoder whose dynamic table is empty, with this limit and maximum in octets (RFC 7541, 4.2).
-    ///
-    /// # Errors
-    ///
-    /// `AllocError` where memory was refused.
-    pub fn new(alloc: A, limit: u32) -> Result<Self, AllocError>
-        ensures { IfOk result (λ b. b ≡ begun_with (record { table = record { entries = []; max = limit }; limit = limit })) }
-    {
-        Ok(BlockReader {
-            reading: Reading::new(alloc, limit)?,
-            rest: Vec::new(alloc),
-            stopped: None,
-        })
+/// How a literal is spelled; `huffman` says whether its value is a Huffman string.
+pub fn literal_spelling(mode: Mode, name: RawName<'_>, huffman: bool) -> Spelling
+    ensures { spelling_seen result ≡ literal_spelling (mode_of mode) (name_of name.entry) huffman }
+{
+    match name {
+        RawName::Ref(index) => Spelling::Literal(mode, Some(index), false, huffman),
+        RawName::Named(name) => Spelling::Literal(mode, None, name.huffman, huffman),
     }
+}
 
-    /// Sets the limit of the dynamic table in octets, to which a table size update may raise its maximum. Its entries
-    /// and its maximum stay (RFC 7541, 4.2).
-    ///
-    /// # Errors
-    ///
-    /// `AllocError` where memory was refused; nothing has changed.
-    pub fn set_limit(&mut self, limit: u32) -> Result<(), AllocError>
-        ensures limited { OnOk result (self.new ≡ record self.old { reading = record self.old.reading { table = record self.old.reading.table { limit = limit } } }) }
-        ensures unchanged { OnErr result (self.new ≡ self.old) }
-    {
-        self.reading.set_limit(limit)
-    }
-
-    /// Begins a new block: all but the table is as if nothing had been read. A fault of the block before is forgotten.
-    pub fn begin(&mut self)
-        ensures { self.new ≡ begun_with self.old.reading.table }
-    {
-        self.reading.begin();
-        self.rest.clear();
-        self.stopped = None;
-    }
-
-    /// Reads one fragment more: the instructions in the rest of those before it and in its own octets, up to the first
-    /// that is not whole or is refused (RFC 7541, 3.2). Once stopped, it does nothing.
-    ///
-    /// The fields are kept until they count more than 65,536 octets together, 32 each beside their own; the table is
-    /// always that of the whole block. All of it takes time in proportion to the octets of the fragments and to what
-    /// the fields copy, however the block is cut.
-    ///
-    /// # Errors
-    ///
-    /// `AllocError` where memory was refused; the decoder should not be used again.
-    pub fn read(&mut self, alloc: A, fragment: &[u8]) -> Result<(), AllocError>
-        ensures read { OnOk result (self.new ≡ read_more self.old fragment.now) }
-        ensures agrees { OnOk result (self.old.stopped ≡ None → Agrees (decoded self.old.reading.table.limit (progress_of self.old.reading) (self.old.rest ++ fragment.now)) self.new) }
-    {
-        if self.stopped.is_some() {
-            return Ok(());
+/// What an instruction is that was refused; `is_index` says whether for an index that no entry has.
+fn stopped_by(is_index: bool, shape: Shape<'_>) -> Stopped
+    ensures { result ≡ stopped_by is_index (shape_of shape.entry) }
+{
+    match shape {
+        Shape::Indexed(index) => Stopped::Index(index),
+        Shape::Update(max) => Stopped::Update(max),
+        Shape::Literal(_, RawName::Ref(index), _) => {
+            if is_index {
+                Stopped::Index(index)
+            } else {
+                Stopped::Other
+            }
         }
+        Shape::Literal(_, RawName::Named(_), _) => Stopped::Other,
+    }
+}
+
+impl<A: Allocator> Taken<A> {
+    /// Notes how a field is spelled, and says whether the block has given it: `count` is how many there are.
+    fn note(&mut self, count: usize, spelling: Spelling) -> Result<bool, AllocError>
+        ensures taken { IfOk result (λ taken. some_if taken self.new ≡ with_given count self.old (spelling_seen spelling)) }
+        ensures stays { IfOk result (λ taken. taken ≡ false → self.new ≡ self.old) }
+    {
+        if self.given.len() < count {
+            self.given.push(spelling)?;
+            Ok(true)
+        } else {
+            Ok(false)
+        }
+    }
+
+    /// Notes a table size update, and says whether it was carried out: in front of a field, or of none where it is at most
+    /// the limit.
+    fn update(&mut self, count: usize, limit: u32, max: u64) -> Result<bool, AllocError>
+        ensures taken { IfOk result (λ taken. some_if taken self.new ≡ with_update count limit self.old max) }
+        ensures stays { IfOk result (λ taken. taken ≡ false → self.new ≡ self.old) }
+    {
+        if self.given.len() < count || (count == 0 && max <= u64::from(limit)) {
+            self.updates.push(max)?;
+            Ok(true)
+        } else {
+            Ok(false)
+        }
+    }
+
+    /// Notes an instruction, and says whether it was carried out.
+    fn take(&mut self, count: usize, limit: u32, shape: Shape<'_>) -> Result<bool, AllocError>
+        ensures taken { IfOk result (λ taken. some_if taken self.new ≡ after count limit self.old (shape_of shape.entry)) }
+        ensures stays { IfOk result (λ taken. taken ≡ false → self.new ≡ self.old) }
+    {
+        match shape {
+            Shape::Update(max) => self.update(count, limit, max),
+            Shape::Indexed(index) => self.note(count, Spelling::Indexed(index)),
+            Shape::Literal(mode, name, value) => {
+                self.note(count, literal_spelling(mode, name, value.huffman))
+            }
+        }
+    }
+
+    /// Takes the instruction at the front of octets, and says how many octets it has; none where it is not whole, or was
+    /// not carried out. An index of one octet, which is most frequent, is read by itself.
+    fn read_one(
+        &mut self,
+        count: usize,
+        limit: u32,
+        octets: &[u8],
+    ) -> Result<Option<usize>, AllocError>
+        ensures { IfOk result (λ step. IsStep count limit self.old octets.now self.new step) }
+    {
+        if let Some(index) = short_index(Point::start(), octets) {
+            let taken = self.note(count, Spelling::Indexed(index))?;
+            return Ok(if taken { Some(1) } else { None });
+        }
+        match shape_from(Point::start(), octets) {
+            Ok((shape, used)) => {
+                let taken = self.take(count, limit, shape)?;
+                Ok(if taken { Some(used) } else { None })
+            }
+            Err(_) => Ok(None),
+        }
+    }
+
+    /// Takes the instructions at the front of octets that were carried out, and says how many octets they have.
+    fn read_all(&mut self, count: usize, limit: u32, octets: &[u8]) -> Result<usize, AllocError>
+        ensures within { IfOk result (λ used. used ≤ length octets.now) }
+        ensures read { IfOk result (λ used. read_to count limit self.old octets.now ≡ record { taken = self.new; rest = drop used octets.now }) }
+    {
+        let mut at = 0;
+        loop {
+            match self.read_one(count, limit, octets_from(octets, at))? {
+                Some(used) => at += used,
+                None => return Ok(at),
+            }
+        }
+    }
+}
+
+impl<A: Allocator> Spellings<A> {
+    /// No block was read. Takes no memory.
+    pub fn new(alloc: A) -> Self
+    where
+        A: Copy,
+        ensures { result ≡ unread }
+    {
+        Spellings {
+            taken: Taken {
+                given: Vec::new(alloc),
+                updates: Vec::new(alloc),
+            },
+            rest: Vec::new(alloc),
+        }
+    }
+
+    /// A new block begins. The memory is used again, unless it is that of a large block.
+    pub fn begin(&mut self)
+        ensures { self.new ≡ unread }
+    {
+        let count = self.taken.given.len();
+        self.taken.given.clear();
+        self.taken.updates.clear();
+        self.rest.clear();
+        if count > REUSED {
+            self.taken.given.shrink_to_fit();
+        }
+    }
+
+    /// Reads a fragment more of a block that has given `count` fields with it, by a connection whose header table has
+    /// `limit` octets at most: the instructions that gave these fields, and the table size updates before them. Those
+    /// after them are left: the first of these was refused, or is not whole.
+    ///
+    /// # Errors
+    ///
+    /// `AllocError` where memory was refused; the block should not be read any further.
+    pub fn read(&mut self, count: usize, limit: u32, fragment: &[u8]) -> Result<(), AllocError>
+        ensures { OnOk result (self.new ≡ read_more count limit self.old fragment.now) }
+    {
         if self.rest.is_empty() {
-            let (used, stopped) = self.reading.read_all(alloc, fragment)?;
-            self.rest.extend_from_slice(octets_from(fragment, used))?;
-            self.stopped = stopped;
-            return Ok(());
+            let used = self.taken.read_all(count, limit, fragment)?;
+            return self.rest.extend_from_slice(octets_from(fragment, used));
         }
         self.rest.extend_from_slice(fragment)?;
-        let (used, stopped) = self.reading.read_all(alloc, self.rest.as_slice())?;
+        let used = self.taken.read_all(count, limit, self.rest.as_slice())?;
         self.rest.drain(..used);
-        self.stopped = stopped;
         Ok(())
     }
 
-    /// The fields of the block so far, in their order.
-    pub fn fields(&self) -> &[SpelledField<A>]
-        ensures { result.now ≡ self.now.reading.fields }
+    /// How the fields of the block so far were spelled, in their order.
+    pub fn given(&self) -> &[Spelling]
+        ensures { map spelling_seen result.now ≡ self.now.taken.given }
     {
-        self.reading.fields()
+        self.taken.given.as_slice()
     }
 
     /// The table size updates of the block so far, in octets, in their order (RFC 7541, 6.3).
     pub fn updates(&self) -> &[u64]
-        ensures { result.now ≡ self.now.reading.updates }
+        ensures { result.now ≡ self.now.taken.updates }
     {
-        self.reading.updates()
+        self.taken.updates.as_slice()
     }
 
-    /// What the decoder stopped at, if it did.
-    pub fn stopped(&self) -> Option<Stopped>
-        ensures { result ≡ self.now.stopped }
+    /// What the octets after the instructions that were carried out are: of the instruction that was refused, where one
+    /// was. `is_index` says whether it was for an index that no entry has.
+    pub fn stopped(&self, is_index: bool) -> Option<Stopped>
+        ensures { result ≡ stopped_at is_index (instr_at self.now.rest) }
     {
-        self.stopped
+        match shape_from(Point::start(), self.rest.as_slice()) {
+            Ok((shape, _)) => Some(stopped_by(is_index, shape)),
+            Err(ShapeFault::TooLong) => Some(Stopped::Other),
+            Err(ShapeFault::More(_)) => None,
+        }
     }
 
-    /// How many octets there are after the instructions that were carried out: those of an instruction that is not
-    /// whole, or, once stopped, those from the refused instruction on.
+    /// How many octets there are after the instructions that were carried out.
     pub fn cut(&self) -> usize
         ensures { result ≡ length self.now.rest }
     {
@@ -173,28 +266,5 @@ impl<A: Allocator + Copy> BlockReader<A> {
         ensures { result.now ≡ self.now.rest }
     {
         self.rest.as_slice()
-    }
-
-    /// The name and the value at an index of the static and the dynamic table; none where no entry has it (RFC 7541,
-    /// 2.3.3).
-    pub fn field_at(&self, index: u64) -> Option<(&[u8], &[u8])>
-        ensures { option_map lent_field result ≡ field_at index self.now.reading.table.table.entries }
-    {
-        self.reading.field_at(index)
-    }
-
-    /// The highest index that has an entry in the static or the dynamic table, 61 or more (RFC 7541, 2.3.3).
-    pub fn highest_index(&self) -> usize
-        ensures { result ≡ min (length self.now.reading.table.table.entries + 61) (2 ^ 64 - 1) }
-    {
-        self.reading.entries().saturating_add(61)
-    }
-
-    /// What the fields so far count together, in octets: 32 each beside their own (RFC 9113, 6.5.2); 2^64 - 1 where it
-    /// is more.
-    pub fn size(&self) -> usize
-        ensures { result ≡ list_size (fields_of self.now.reading.fields) }
-    {
-        self.reading.size()
     }
 }

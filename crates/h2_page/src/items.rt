@@ -10,7 +10,7 @@ ghost use Rattle.h2_cmd_play.specs.declared.places.PlacesFault.TheVariants.{NoMe
 ghost use Rattle.h2_page.specs.Whys.{TakesAnyWhy, why_text, why_texts};
 
 use h2_cmd_play::{PlacesFault, ShownPlaces, write_shown};
-use h2_conn::Conn;
+use h2_conn::{Conn, Scratch};
 use h2_explain_text::why::WhyHead;
 use h2_io::{DeviceFault, Number, Output, Text, texts};
 use h2_spec::causes::Cause;
@@ -71,13 +71,14 @@ fn write_why<O: Output>(
 fn take_why<A: Allocator + Copy>(
     alloc: A,
     conn: &mut Conn<'_, A>,
+    memory: &mut Scratch<A>,
     octets: &[u8],
 ) -> Result<Option<TakenWhy>, AllocError>
     requires { conn.old ≡ going conn.old.state [] }
     ensures { IfOk result (TakesAnyWhy conn.old.state octets.now conn.new) }
 {
     let mut sent = Vec::new(alloc);
-    let Some(taken) = conn.take_and_report(octets, &mut sent)? else {
+    let Some(taken) = conn.take_and_lend(octets, memory, &mut sent)? else {
         return Ok(None);
     };
     Ok(Some(TakenWhy {
@@ -107,10 +108,11 @@ pub(crate) fn write_whys<A: Allocator + Copy, O: Output>(
     ensures cut { let whys = why_texts 1 conn.old.state (trace conn.old.state octets.now).events in
         IfErr result (λ why. (held : List ℕ) → O.written output.old ≡ Some held → StopsAt shown whys held (O.written output.new) why) }
 {
+    let mut memory = Scratch::new(alloc);
     let mut at = 0usize;
     let mut place = 0usize;
     while shown.goes_on(place) {
-        match take_why(alloc, conn, octets_from(octets, at)) {
+        match take_why(alloc, conn, &mut memory, octets_from(octets, at)) {
             Ok(Some(taken)) => {
                 at += taken.used;
                 place += 1;

@@ -27,10 +27,9 @@ use h2_conn::{Conn, Phase, Scratch};
 use h2_conn_rules::block::headers_purpose;
 use h2_conn_rules::checks::refusal;
 use h2_explain_item::diagnosis::facts::case_facts;
-use h2_explain_item::diagnosis::field_facts::FieldFacts;
+use h2_explain_item::diagnosis::field_facts::{FieldFacts, field_facts};
 use h2_explain_item::diagnosis::special::{case_of_cause, seen_by};
 use h2_explain_item::notes::has_client_ended;
-use h2_fields::collected::Collected;
 use h2_frame::{FrameRef, Item, Part, first_item, part_of, read_head};
 use h2_spec::causes::Cause;
 use h2_spec::connection::BlockView;
@@ -232,27 +231,6 @@ fn fragment_in<'o>(part: Option<Part<'o>>) -> &'o [u8]
     }
 }
 
-/// The facts of fields with one more, if there is one.
-fn facts_with(facts: FieldFacts, field: Option<(&[u8], &[u8])>) -> FieldFacts
-    ensures { result ≡ spec.facts_with facts (option_map spec.field_lent field.entry) }
-{
-    match field {
-        Some((name, value)) => facts.with(name, value),
-        None => facts,
-    }
-}
-
-/// The facts of fields that the connection has decoded.
-fn facts_of_fields<A: Allocator>(fields: &Collected<A>) -> FieldFacts
-    ensures { result ≡ field_facts fields.now.fields }
-{
-    let mut facts = FieldFacts::none();
-    for place in 0..fields.len() {
-        facts = facts_with(facts, fields.get(place));
-    }
-    facts
-}
-
 /// The stream of the open block.
 fn block_stream(block: Option<BlockView>) -> Option<u32>
     ensures { result ≡ spec.shown_stream block }
@@ -324,7 +302,7 @@ fn fields_ahead<A: Allocator + Copy>(
     let mut memory = Scratch::new(alloc);
     let mut sent = Vec::new(alloc);
     copy.take_and_lend(octets, &mut memory, &mut sent)?;
-    Ok(facts_of_fields(copy.fields(&memory)))
+    Ok(field_facts(copy.fields(&memory)))
 }
 
 /// The facts of the fields of the next item, if it shows any.

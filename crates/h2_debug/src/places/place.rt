@@ -17,7 +17,7 @@ ghost use Rattle.h2_debug.specs.Places.{Advances, IsAt, end};
 use crate::places::source::Source;
 use crate::reasons::Reasons;
 use h2_conn::view::View;
-use h2_conn::{Checkpoint, Conn, ConnFault};
+use h2_conn::{Checkpoint, Conn, ConnFault, Scratch};
 use h2_frame::first_item;
 use h2_spec::connection::Phase;
 use std::alloc::{AllocError, Allocator};
@@ -46,6 +46,8 @@ pub struct Place<'b, A: Allocator> {
     sent: Vec<u8, A>,
     /// Memory for what the next item sends.
     spare: Vec<u8, A>,
+    /// Memory of items.
+    memory: Scratch<A>,
 }
 
 impl<'b, A: Allocator> Model for Place<'b, A> {
@@ -67,6 +69,7 @@ impl<'b, A: Allocator> Drop for Place<'b, A> {
             reasons: _,
             sent: _,
             spare: _,
+            memory: _,
         } = self;
     }
 }
@@ -88,6 +91,7 @@ impl<'b, A: Allocator + Copy> Place<'b, A> {
             reasons: Reasons::none(),
             sent,
             spare: Vec::new(alloc),
+            memory: Scratch::new(alloc),
         })
     }
 
@@ -103,6 +107,7 @@ impl<'b, A: Allocator + Copy> Place<'b, A> {
         ensures { result ≡ record { connection = conn.entry; position = position; used = used; ran = 0; reasons = reasons; sent = sent.items } }
     {
         let spare = Vec::new(*sent.allocator());
+        let memory = Scratch::new(*sent.allocator());
         Place {
             conn,
             position,
@@ -111,6 +116,7 @@ impl<'b, A: Allocator + Copy> Place<'b, A> {
             reasons,
             sent,
             spare,
+            memory,
         }
     }
 
@@ -128,6 +134,7 @@ impl<'b, A: Allocator + Copy> Place<'b, A> {
             reasons: self.reasons,
             sent,
             spare: Vec::new(*self.sent.allocator()),
+            memory: Scratch::new(*self.sent.allocator()),
         })
     }
 
@@ -146,7 +153,7 @@ impl<'b, A: Allocator + Copy> Place<'b, A> {
     {
         let octets = source.octets_from(self.used);
         self.spare.clear();
-        let Some(taken) = self.conn.take_and_report(octets, &mut self.spare)? else {
+        let Some(taken) = self.conn.take_and_lend(octets, &mut self.memory, &mut self.spare)? else {
             return Ok(false);
         };
         swap(&mut self.sent, &mut self.spare);

@@ -3,9 +3,11 @@
 //! followed to its end, nothing more is reported of it.
 
 use crate::item::Explained;
-use h2_explain_words::spelled::{BlockReader, SpelledField, Spelling};
+use crate::shown_block::{ShownBlock, SpelledField};
+use h2_explain_words::spelled::Spelling;
 use h2_hpack_instruction::instruction::Mode;
 use h2_spec::causes::Cause;
+use h2_table::static_field;
 use std::alloc::{AllocError, Allocator, Global};
 use std::collections::VecDeque;
 
@@ -73,7 +75,7 @@ pub struct Followed<A: Allocator = Global> {
 }
 
 /// Whether a field was entered into the table (RFC 7541, 6.2.1).
-fn is_entered<A: Allocator>(field: &SpelledField<A>) -> bool {
+fn is_entered(field: &SpelledField<'_>) -> bool {
     match field.spelling {
         Spelling::Literal(Mode::IncrementalIndexing, _, _, _) => true,
         _ => false,
@@ -96,9 +98,9 @@ fn entry_with<A: Allocator + Copy>(
 /// The entry of a field.
 fn entry_of<A: Allocator + Copy>(
     alloc: A,
-    field: &SpelledField<A>,
+    field: &SpelledField<'_>,
 ) -> Result<ShownEntry<A>, AllocError> {
-    entry_with(alloc, field.name.as_slice(), field.value.as_slice())
+    entry_with(alloc, field.name, field.value)
 }
 
 /// What is kept of an entry that was evicted at the item of this number.
@@ -129,6 +131,29 @@ impl<A: Allocator + Copy> Followed<A> {
             is_known: true,
             fields: 0,
             updates: 0,
+        }
+    }
+
+    /// The name at an index of both tables; none where no entry has it, or that is not known (RFC 7541, 2.3.3).
+    pub fn name_at(&self, index: u64) -> Option<&[u8]> {
+        if index <= 61 {
+            let (name, _) = static_field(index as usize)?;
+            return Some(name);
+        }
+        if !self.is_known {
+            return None;
+        }
+        let place = usize::try_from(index - 62).unwrap_or(usize::MAX);
+        Some(self.entries.get(place)?.name.as_slice())
+    }
+
+    /// The highest index that has an entry in the static or the dynamic table, 61 or more; none where it is not known
+    /// (RFC 7541, 2.3.3).
+    pub fn highest_index(&self) -> Option<usize> {
+        if self.is_known {
+            Some(self.entries.len().saturating_add(61))
+        } else {
+            None
         }
     }
 
@@ -202,11 +227,11 @@ impl<A: Allocator + Copy> Followed<A> {
         &mut self,
         alloc: A,
         item: u64,
-        field: &SpelledField<A>,
+        field: &SpelledField<'_>,
         out: &mut Vec<EntryChange<A>, A>,
     ) -> Result<(), AllocError> {
-        let size = size_of(field.name.as_slice(), field.value.as_slice());
-        self.evict(alloc, size, item, Some(field.name.as_slice()), out)?;
+        let size = size_of(field.name, field.value);
+        self.evict(alloc, size, item, Some(field.name), out)?;
         if size > self.maximum {
             self.gone.clear();
             return Ok(());
@@ -225,14 +250,14 @@ impl<A: Allocator + Copy> Followed<A> {
         &mut self,
         alloc: A,
         item: u64,
-        reader: &BlockReader<A>,
+        updates: &[u64],
         out: &mut Vec<EntryChange<A>, A>,
     ) -> Result<(), AllocError> {
-        for maximum in reader.updates().iter().skip(self.updates) {
+        for maximum in updates.iter().skip(self.updates) {
             self.maximum = usize::try_from(*maximum).unwrap_or(usize::MAX);
             self.evict(alloc, 0, item, None, out)?;
         }
-        self.updates = reader.updates().len();
+        self.updates = updates.len();
         Ok(())
     }
 
@@ -241,16 +266,18 @@ impl<A: Allocator + Copy> Followed<A> {
         &mut self,
         alloc: A,
         item: u64,
-        reader: &BlockReader<A>,
+        block: ShownBlock<'_, A>,
     ) -> Result<Vec<EntryChange<A>, A>, AllocError> {
         let mut changes = Vec::new(alloc);
-        self.update(alloc, item, reader, &mut changes)?;
-        for field in reader.fields().iter().skip(self.fields) {
-            if is_entered(field) {
-                self.enter(alloc, item, field, &mut changes)?;
+        self.update(alloc, item, block.updates, &mut changes)?;
+        for place in self.fields..block.fields.len() {
+            if let Some(field) = block.fields.get(place) {
+                if is_entered(&field) {
+                    self.enter(alloc, item, &field, &mut changes)?;
+                }
             }
         }
-        self.fields = reader.fields().len();
+        self.fields = block.fields.len();
         Ok(changes)
     }
 
@@ -260,12 +287,12 @@ impl<A: Allocator + Copy> Followed<A> {
         &mut self,
         alloc: A,
         item: &Explained<'_>,
-        reader: &BlockReader<A>,
+        block: ShownBlock<'_, A>,
     ) -> Result<Vec<EntryChange<A>, A>, AllocError> {
         if !self.is_known {
             return Ok(Vec::new(alloc));
         }
-        let mut changes = self.carry_out(alloc, item.number, reader)?;
+        let mut changes = self.carry_out(alloc, item.number, block)?;
         if self.entries.len() != item.after.entries || self.size != item.after.table_size {
             self.is_known = false;
             changes.clear();
@@ -273,22 +300,25 @@ impl<A: Allocator + Copy> Followed<A> {
         Ok(changes)
     }
 
-    /// Follows a block up to an index that no entry has, if an item is refused for one: what was evicted before may be
-    /// what it names. The connection has ended then, and its table is as it was.
+    /// Follows a block up to an index that no entry has, or to a Huffman string, if an item is refused for one: what was
+    /// evicted before may be what the index names, and what was entered the name of the string. The connection has ended
+    /// then, and its table is as it was. Where not all fields are shown, it is not known any more what the table has.
     pub fn follow_refused(
         &mut self,
         alloc: A,
         item: &Explained<'_>,
-        reader: &BlockReader<A>,
+        block: ShownBlock<'_, A>,
     ) -> Result<(), AllocError> {
-        let Some(Cause::IndexOutOfTables) = item.cause else {
-            return Ok(());
-        };
+        match item.cause {
+            Some(Cause::IndexOutOfTables | Cause::HuffmanString) => {}
+            _ => return Ok(()),
+        }
         if item.before.block.is_none() {
             self.begin();
         }
         if self.is_known {
-            self.carry_out(alloc, item.number, reader)?;
+            self.carry_out(alloc, item.number, block)?;
+            self.is_known = block.fields.is_whole();
         }
         Ok(())
     }

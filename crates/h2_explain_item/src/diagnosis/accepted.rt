@@ -4,7 +4,7 @@
 use crate::diagnosis::fields::{has, is_connect};
 use crate::diagnosis::warning::{Warnings, all_warnings, opens_stream};
 use crate::item::Explained;
-use h2_explain_words::spelled::SpelledField;
+use crate::shown_block::SpelledFields;
 use h2_frame::{Part, SettingsPart};
 use h2_spec::accepted::Accepted;
 use h2_spec::frames::END_STREAM;
@@ -139,9 +139,12 @@ fn is_in_frame(accepted: Accepted, item: &Explained<'_>) -> bool {
 }
 
 /// Whether a field has this name and this value.
-fn has_value<A: Allocator>(name: &[u8], value: &[u8], fields: &[SpelledField<A>]) -> bool {
-    for field in fields {
-        if field.name.as_slice() == name && field.value.as_slice() == value {
+fn has_value<A: Allocator>(name: &[u8], value: &[u8], fields: SpelledFields<'_, A>) -> bool {
+    for place in 0..fields.len() {
+        let Some(field) = fields.get(place) else {
+            break;
+        };
+        if field.name == name && field.value == value {
             return true;
         }
     }
@@ -159,9 +162,12 @@ fn has_control(value: &[u8]) -> bool {
 }
 
 /// Whether a value of some field has such an octet.
-fn have_control<A: Allocator>(fields: &[SpelledField<A>]) -> bool {
-    for field in fields {
-        if has_control(field.value.as_slice()) {
+fn have_control<A: Allocator>(fields: SpelledFields<'_, A>) -> bool {
+    for place in 0..fields.len() {
+        let Some(field) = fields.get(place) else {
+            break;
+        };
+        if has_control(field.value) {
             return true;
         }
     }
@@ -172,7 +178,7 @@ fn have_control<A: Allocator>(fields: &[SpelledField<A>]) -> bool {
 fn is_in_fields<A: Allocator>(
     accepted: Accepted,
     item: &Explained<'_>,
-    fields: &[SpelledField<A>],
+    fields: SpelledFields<'_, A>,
 ) -> bool {
     match accepted {
         Accepted::ValueControlOctet => have_control(fields),
@@ -201,7 +207,7 @@ pub fn is_accepted<A: Allocator>(
     accepted: Accepted,
     item: &Explained<'_>,
     warnings: Warnings,
-    fields: Option<&[SpelledField<A>]>,
+    fields: Option<SpelledFields<'_, A>>,
 ) -> bool {
     if item.cause.is_some() || item.ignored.is_some() {
         return false;

@@ -8,20 +8,24 @@ ghost use Rattle.h2_explain_item.specs.Notes.{note_of};
 use crate::change::header_table::Followed;
 use crate::item::Explained;
 use crate::notes::{Notes, StreamNote};
-use h2_explain_words::spelled::{BlockReader, SpelledField};
+use crate::shown_block::{BlockReader, SpelledFields};
+use h2_explain_words::spelled::Stopped;
 use h2_frame::Part;
+use h2_spec::causes::Cause;
 use h2_spec::connection::Config;
 use h2_spec::frames::{END_STREAM, FrameType, PADDED, WITH_PRIORITY};
 use std::alloc::{AllocError, Allocator};
 
-/// An item, what was noted before it, its block as a second decoder has it, and the limits of the server.
+/// An item, what was noted before it, the fields of its block, and the limits of the server.
 pub struct ErrorContext<'f, 'o, A: Allocator> {
     /// The item that is an error.
     pub item: &'f Explained<'o>,
     /// What was noted before it.
     pub notes: &'f Notes<A>,
-    /// The second decoder, after the item's block.
+    /// The spellings of the item's block.
     pub reader: &'f BlockReader<A>,
+    /// Its fields.
+    pub fields: SpelledFields<'f, A>,
     /// The client's header table.
     pub table: &'f Followed<A>,
     /// The limits and the settings of the server.
@@ -46,7 +50,7 @@ impl<A: Allocator> Clone for ErrorContext<'_, '_, A> {
 
 impl<A: Allocator> Copy for ErrorContext<'_, '_, A> {}
 
-impl<A: Allocator + Copy> ErrorContext<'_, '_, A> {
+impl<'f, A: Allocator + Copy> ErrorContext<'f, '_, A> {
     /// The stream that the item is on, 0 for the connection.
     pub fn stream(&self) -> u32
         ensures { result ≡ self.now.item.now.before.stream.id }
@@ -134,8 +138,14 @@ impl<A: Allocator + Copy> ErrorContext<'_, '_, A> {
     }
 
     /// The fields of the block.
-    pub fn fields(&self) -> &[SpelledField<A>] {
-        self.reader.fields()
+    pub fn fields(&self) -> SpelledFields<'f, A> {
+        self.fields
+    }
+
+    /// What decoding of the block stopped at, if it did.
+    pub fn stopped(&self) -> Option<Stopped> {
+        self.reader
+            .stopped(matches!(self.item.cause, Some(Cause::IndexOutOfTables)))
     }
 
     /// Whether the HEADERS of the block had END_STREAM: the open block's, or those on hand (RFC 9113, 6.2).

@@ -41,7 +41,7 @@ pub fn case_facts(
 /// The same of an item that is explained.
 pub fn facts_of<A: Allocator + Copy>(context: ErrorContext<'_, '_, A>) -> CaseFacts {
     let fields = if context.item.cause.is_some() {
-        field_facts(context.reader.fields())
+        field_facts(context.fields().decoded())
     } else {
         FieldFacts::none()
     };
@@ -92,7 +92,7 @@ fn has_lawful_window(part: Option<Part<'_>>) -> bool
 fn block_of<'f, A: Allocator + Copy>(context: ErrorContext<'f, '_, A>) -> BlockFields<'f, A> {
     let numbers = &context.item.before.stream.numbers;
     BlockFields {
-        fields: context.reader.fields(),
+        fields: context.fields(),
         ends: context.ends(),
         is_short: match numbers.declared {
             Some(declared) => numbers.content_received < declared,

@@ -1,16 +1,16 @@
 //! What the fields of a block are, as far as special cases of malformed requests and trailers depend on it (RFC 9113, 8.2
-//! and 8.3): one field after another, as the connection or a second decoder lends them. Definitions:
+//! and 8.3): one field after another, as the connection lends them. Definitions:
 //! `specs/FieldFacts.antt`.
 
-ghost use Rattle.std.specs.Prelude.{◌≡◌, ◌==◌, ℕ, List, [], not};
+ghost use Rattle.std.specs.Prelude.{◌≡◌, ◌==◌, ℕ, List, [], not, option_map};
 ghost use Rattle.std.specs.List.{position_or_len};
 ghost use Rattle.h2_spec.specs.Hpack.Field.{field};
-ghost use Rattle.h2_explain_words.specs.Spelled.{fields_of};
+ghost use Rattle.h2_hpack_list.specs.Lent.{lent_field};
 ghost use Rattle.h2_explain_item.specs.FieldFacts as spec;
 ghost use Rattle.h2_explain_item.specs.FieldFacts.{field_facts, with_field};
 
 use crate::diagnosis::fields::is_number;
-use h2_explain_words::spelled::SpelledField;
+use h2_fields::collected::Collected;
 use h2_hpack_validity::octets::{is_bad_name, number_of, same};
 use h2_spec::octets::{octets_from, octets_up_to};
 use std::alloc::Allocator;
@@ -161,13 +161,23 @@ impl FieldFacts {
     }
 }
 
-/// The facts of fields with their spellings.
-pub fn field_facts<A: Allocator>(fields: &[SpelledField<A>]) -> FieldFacts
-    ensures { result ≡ field_facts (fields_of fields.now) }
+/// The facts of fields with one more, if there is one.
+fn facts_with(facts: FieldFacts, field: Option<(&[u8], &[u8])>) -> FieldFacts
+    ensures { result ≡ spec.facts_with facts (option_map lent_field field.entry) }
+{
+    match field {
+        Some((name, value)) => facts.with(name, value),
+        None => facts,
+    }
+}
+
+/// The facts of the fields that a connection has decoded of a block.
+pub fn field_facts<A: Allocator>(fields: &Collected<A>) -> FieldFacts
+    ensures { result ≡ field_facts fields.now.fields }
 {
     let mut facts = FieldFacts::none();
-    for field in fields {
-        facts = facts.with(field.name.as_slice(), field.value.as_slice());
+    for place in 0..fields.len() {
+        facts = facts_with(facts, fields.get(place));
     }
     facts
 }

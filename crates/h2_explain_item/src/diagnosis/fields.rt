@@ -5,7 +5,7 @@ ghost use Rattle.std.specs.Prelude.{◌≡◌};
 ghost use Rattle.std.specs.List.{list_any};
 ghost use Rattle.h2_explain_item.specs.FieldFacts.{is_no_digit, is_number};
 
-use h2_explain_words::spelled::SpelledField;
+use crate::shown_block::{SpelledField, SpelledFields};
 use h2_hpack_validity::mark::KnownName;
 use h2_hpack_validity::octets::{
     is_bad_name, is_bad_value, is_connection_name, is_pseudo_name, is_trailers, number_of,
@@ -33,9 +33,9 @@ pub enum FieldFault {
 }
 
 /// Whether this is wrong with a field.
-fn is_wrong<A: Allocator>(wrong: FieldFault, field: &SpelledField<A>) -> bool {
-    let name = field.name.as_slice();
-    let value = field.value.as_slice();
+fn is_wrong(wrong: FieldFault, field: SpelledField<'_>) -> bool {
+    let name = field.name;
+    let value = field.value;
     match wrong {
         FieldFault::Name => is_bad_name(name),
         FieldFault::Value => is_bad_value(value),
@@ -51,7 +51,7 @@ fn is_wrong<A: Allocator>(wrong: FieldFault, field: &SpelledField<A>) -> bool {
 pub fn first_wrong<A: Allocator>(
     wrong: FieldFault,
     from: usize,
-    fields: &[SpelledField<A>],
+    fields: SpelledFields<'_, A>,
 ) -> Option<usize> {
     for place in from..fields.len() {
         if let Some(field) = fields.get(place) {
@@ -64,27 +64,32 @@ pub fn first_wrong<A: Allocator>(
 }
 
 /// Whether a name is one of those before a place.
-fn is_before<A: Allocator>(name: &[u8], place: usize, fields: &[SpelledField<A>]) -> bool {
-    for other in fields.iter().take(place) {
-        if other.name.as_slice() == name {
-            return true;
+fn is_before<A: Allocator>(name: &[u8], place: usize, fields: SpelledFields<'_, A>) -> bool {
+    for other in 0..place {
+        if let Some(field) = fields.get(other) {
+            if field.name == name {
+                return true;
+            }
         }
     }
     false
 }
 
 /// Whether a field has this name.
-pub fn has<A: Allocator>(name: &[u8], fields: &[SpelledField<A>]) -> bool {
+pub fn has<A: Allocator>(name: &[u8], fields: SpelledFields<'_, A>) -> bool {
     is_before(name, fields.len(), fields)
 }
 
 /// The first pseudo-field after a regular field, and that field.
-pub fn late_pseudo<A: Allocator>(
-    fields: &[SpelledField<A>],
-) -> Option<(&SpelledField<A>, &SpelledField<A>)> {
+pub fn late_pseudo<'s, A: Allocator>(
+    fields: SpelledFields<'s, A>,
+) -> Option<(SpelledField<'s>, SpelledField<'s>)> {
     let mut regular = None;
-    for field in fields {
-        if !is_pseudo_name(field.name.as_slice()) {
+    for place in 0..fields.len() {
+        let Some(field) = fields.get(place) else {
+            break;
+        };
+        if !is_pseudo_name(field.name) {
             regular = Some(field);
         } else if let Some(before) = regular {
             return Some((field, before));
@@ -94,9 +99,12 @@ pub fn late_pseudo<A: Allocator>(
 }
 
 /// The first pseudo-field that is there twice.
-pub fn double_pseudo<A: Allocator>(fields: &[SpelledField<A>]) -> Option<&SpelledField<A>> {
-    for (place, field) in fields.iter().enumerate() {
-        let name = field.name.as_slice();
+pub fn double_pseudo<'s, A: Allocator>(fields: SpelledFields<'s, A>) -> Option<SpelledField<'s>> {
+    for place in 0..fields.len() {
+        let Some(field) = fields.get(place) else {
+            break;
+        };
+        let name = field.name;
         if is_pseudo_name(name) && is_before(name, place, fields) {
             return Some(field);
         }
@@ -105,11 +113,12 @@ pub fn double_pseudo<A: Allocator>(fields: &[SpelledField<A>]) -> Option<&Spelle
 }
 
 /// Whether the method is CONNECT.
-pub fn is_connect<A: Allocator>(fields: &[SpelledField<A>]) -> bool {
-    for field in fields {
-        if field.name.as_slice() == ":method".as_bytes()
-            && field.value.as_slice() == "CONNECT".as_bytes()
-        {
+pub fn is_connect<A: Allocator>(fields: SpelledFields<'_, A>) -> bool {
+    for place in 0..fields.len() {
+        let Some(field) = fields.get(place) else {
+            break;
+        };
+        if field.name == ":method".as_bytes() && field.value == "CONNECT".as_bytes() {
             return true;
         }
     }
@@ -117,17 +126,20 @@ pub fn is_connect<A: Allocator>(fields: &[SpelledField<A>]) -> bool {
 }
 
 /// The value of the first field with this name.
-pub fn value_of<'s, A: Allocator>(name: &[u8], fields: &'s [SpelledField<A>]) -> Option<&'s [u8]> {
-    for field in fields {
-        if field.name.as_slice() == name {
-            return Some(field.value.as_slice());
+pub fn value_of<'s, A: Allocator>(name: &[u8], fields: SpelledFields<'s, A>) -> Option<&'s [u8]> {
+    for place in 0..fields.len() {
+        let Some(field) = fields.get(place) else {
+            break;
+        };
+        if field.name == name {
+            return Some(field.value);
         }
     }
     None
 }
 
 /// Whether :path is there and empty.
-fn has_empty_path<A: Allocator>(fields: &[SpelledField<A>]) -> bool {
+fn has_empty_path<A: Allocator>(fields: SpelledFields<'_, A>) -> bool {
     match value_of(b":path", fields) {
         Some(path) => path.is_empty(),
         None => false,
@@ -135,7 +147,7 @@ fn has_empty_path<A: Allocator>(fields: &[SpelledField<A>]) -> bool {
 }
 
 /// Whether a pseudo-field of a request is missing, empty, or there where it may not be (RFC 9113, 8.3.1 and 8.5).
-fn is_lacking<A: Allocator>(fields: &[SpelledField<A>]) -> bool {
+fn is_lacking<A: Allocator>(fields: SpelledFields<'_, A>) -> bool {
     let scheme = has(b":scheme", fields);
     let path = has(b":path", fields);
     if is_connect(fields) {
@@ -145,7 +157,7 @@ fn is_lacking<A: Allocator>(fields: &[SpelledField<A>]) -> bool {
 }
 
 /// Whether the scheme is there, and is neither http nor https.
-pub fn has_other_scheme<A: Allocator>(fields: &[SpelledField<A>]) -> bool {
+pub fn has_other_scheme<A: Allocator>(fields: SpelledFields<'_, A>) -> bool {
     match value_of(b":scheme", fields) {
         Some(scheme) => {
             !scheme.eq_ignore_ascii_case("http".as_bytes())
@@ -192,11 +204,14 @@ enum Lengths {
 }
 
 /// What the content-lengths of a block are.
-fn lengths_of<A: Allocator>(fields: &[SpelledField<A>]) -> Lengths {
+fn lengths_of<A: Allocator>(fields: SpelledFields<'_, A>) -> Lengths {
     let mut lengths = Lengths::Numbers;
-    for field in fields {
+    for place in 0..fields.len() {
+        let Some(field) = fields.get(place) else {
+            break;
+        };
         if is_wrong(FieldFault::Length, field) {
-            let value = field.value.as_slice();
+            let value = field.value;
             if !is_number(value) {
                 return Lengths::NoNumber;
             }
@@ -209,11 +224,14 @@ fn lengths_of<A: Allocator>(fields: &[SpelledField<A>]) -> Lengths {
 }
 
 /// Whether a content-length is another number than the first.
-fn has_other_length<A: Allocator>(fields: &[SpelledField<A>]) -> bool {
+fn has_other_length<A: Allocator>(fields: SpelledFields<'_, A>) -> bool {
     let mut first = None;
-    for field in fields {
+    for place in 0..fields.len() {
+        let Some(field) = fields.get(place) else {
+            break;
+        };
         if is_wrong(FieldFault::Length, field) {
-            let number = number_of(field.value.as_slice());
+            let number = number_of(field.value);
             if first.is_some() && first != number {
                 return true;
             }
@@ -224,11 +242,14 @@ fn has_other_length<A: Allocator>(fields: &[SpelledField<A>]) -> bool {
 }
 
 /// The first content-length that is no number of 1 to 18 digits, or the first of all where there is none.
-pub fn refused_length<A: Allocator>(fields: &[SpelledField<A>]) -> Option<&SpelledField<A>> {
+pub fn refused_length<'s, A: Allocator>(fields: SpelledFields<'s, A>) -> Option<SpelledField<'s>> {
     let mut first = None;
-    for field in fields {
+    for place in 0..fields.len() {
+        let Some(field) = fields.get(place) else {
+            break;
+        };
         if is_wrong(FieldFault::Length, field) {
-            let value = field.value.as_slice();
+            let value = field.value;
             if !is_number(value) || value.len() > 18 {
                 return Some(field);
             }
@@ -243,12 +264,13 @@ pub fn refused_length<A: Allocator>(fields: &[SpelledField<A>]) -> Option<&Spell
 /// The first content-length that is another number than a value of at most 18 digits.
 pub fn other_length<'s, A: Allocator>(
     value: &[u8],
-    fields: &'s [SpelledField<A>],
-) -> Option<&'s SpelledField<A>> {
-    for field in fields {
-        if is_wrong(FieldFault::Length, field)
-            && number_of(field.value.as_slice()) != number_of(value)
-        {
+    fields: SpelledFields<'s, A>,
+) -> Option<SpelledField<'s>> {
+    for place in 0..fields.len() {
+        let Some(field) = fields.get(place) else {
+            break;
+        };
+        if is_wrong(FieldFault::Length, field) && number_of(field.value) != number_of(value) {
             return Some(field);
         }
     }
@@ -256,10 +278,10 @@ pub fn other_length<'s, A: Allocator>(
 }
 
 /// The first field with which this is wrong.
-fn first_with<A: Allocator>(
+fn first_with<'s, A: Allocator>(
     wrong: FieldFault,
-    fields: &[SpelledField<A>],
-) -> Option<&SpelledField<A>> {
+    fields: SpelledFields<'s, A>,
+) -> Option<SpelledField<'s>> {
     match first_wrong(wrong, 0, fields) {
         Some(place) => fields.get(place),
         None => None,
@@ -267,7 +289,7 @@ fn first_with<A: Allocator>(
 }
 
 /// Whether a content-length is not taken: no number of 1 to 18 digits, or two that differ (RFC 9113, 8.1.1).
-fn is_bad_length<A: Allocator>(fields: &[SpelledField<A>]) -> bool {
+fn is_bad_length<A: Allocator>(fields: SpelledFields<'_, A>) -> bool {
     match lengths_of(fields) {
         Lengths::Numbers => has_other_length(fields),
         Lengths::NoNumber | Lengths::Long => true,
@@ -275,9 +297,9 @@ fn is_bad_length<A: Allocator>(fields: &[SpelledField<A>]) -> bool {
 }
 
 /// Whether a block declares content other than none (RFC 9113, 8.1.1).
-fn declares_content<A: Allocator>(fields: &[SpelledField<A>]) -> bool {
+fn declares_content<A: Allocator>(fields: SpelledFields<'_, A>) -> bool {
     match first_with(FieldFault::Length, fields) {
-        Some(field) => !is_bad_length(fields) && number_of(field.value.as_slice()) != Some(0),
+        Some(field) => !is_bad_length(fields) && number_of(field.value) != Some(0),
         None => false,
     }
 }
@@ -310,7 +332,7 @@ pub(crate) static OF_TRAILERS: [Cause; 7] = [
 /// A block, as far as its faults depend on more than its fields.
 pub struct BlockFields<'s, A: Allocator> {
     /// Its fields in their order.
-    pub fields: &'s [SpelledField<A>],
+    pub fields: SpelledFields<'s, A>,
     /// Whether its HEADERS had END_STREAM.
     pub ends: bool,
     /// Whether less content has arrived than was declared.

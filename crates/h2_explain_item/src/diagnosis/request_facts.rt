@@ -5,7 +5,7 @@
 ghost use Rattle.std.specs.Prelude.{◌≡◌};
 ghost use Rattle.h2_explain_item.specs.Warnings.{no_block_facts, no_request_facts};
 
-use h2_explain_words::spelled::{BlockReader, SpelledField};
+use crate::shown_block::{ShownBlock, SpelledFields};
 use std::alloc::Allocator;
 
 /// What is wrong with a request.
@@ -148,18 +148,23 @@ impl Places {
 }
 
 /// The places in these fields.
-fn places_in<A: Allocator>(fields: &[SpelledField<A>]) -> Places {
+fn places_in<A: Allocator>(fields: SpelledFields<'_, A>) -> Places {
     let mut places = Places::none();
-    for (place, field) in fields.iter().enumerate() {
-        places.note(field.name.as_slice(), place);
+    for place in 0..fields.len() {
+        if let Some(field) = fields.get(place) {
+            places.note(field.name, place);
+        }
     }
     places
 }
 
 /// The value of the field at a place.
-fn value_at<A: Allocator>(place: Option<usize>, fields: &[SpelledField<A>]) -> Option<&[u8]> {
+fn value_at<'s, A: Allocator>(
+    place: Option<usize>,
+    fields: SpelledFields<'s, A>,
+) -> Option<&'s [u8]> {
     match fields.get(place?) {
-        Some(field) => Some(field.value.as_slice()),
+        Some(field) => Some(field.value),
         None => None,
     }
 }
@@ -219,14 +224,18 @@ fn is_empty(authority: Option<&[u8]>) -> bool {
 }
 
 /// Whether the authority is there, and a field `host` is other than it, apart from the case of letters.
-fn do_hosts_differ<A: Allocator>(authority: Option<&[u8]>, fields: &[SpelledField<A>]) -> bool {
+fn do_hosts_differ<'s, A: Allocator>(
+    authority: Option<&[u8]>,
+    fields: SpelledFields<'s, A>,
+) -> bool {
     let Some(authority) = authority else {
         return false;
     };
-    for field in fields {
-        if field.name.as_slice() == "host".as_bytes()
-            && !field.value.eq_ignore_ascii_case(authority)
-        {
+    for place in 0..fields.len() {
+        let Some(field) = fields.get(place) else {
+            break;
+        };
+        if field.name == "host".as_bytes() && !field.value.eq_ignore_ascii_case(authority) {
             return true;
         }
     }
@@ -234,7 +243,7 @@ fn do_hosts_differ<A: Allocator>(authority: Option<&[u8]>, fields: &[SpelledFiel
 }
 
 /// What is wrong with the request that has these fields.
-pub fn request_facts<A: Allocator>(fields: &[SpelledField<A>]) -> RequestFacts {
+pub fn request_facts<A: Allocator>(fields: SpelledFields<'_, A>) -> RequestFacts {
     let places = places_in(fields);
     let (method, scheme) = (
         value_at(places.method, fields),
@@ -256,9 +265,12 @@ pub fn request_facts<A: Allocator>(fields: &[SpelledField<A>]) -> RequestFacts {
 }
 
 /// Whether the name of a field is no token, apart from pseudo-fields (RFC 9110, 5.1).
-fn has_name_no_token<A: Allocator>(fields: &[SpelledField<A>]) -> bool {
-    for field in fields {
-        let name = field.name.as_slice();
+fn has_name_no_token<A: Allocator>(fields: SpelledFields<'_, A>) -> bool {
+    for place in 0..fields.len() {
+        let Some(field) = fields.get(place) else {
+            break;
+        };
+        let name = field.name;
         if !name.starts_with(b":") && !is_token(name) {
             return true;
         }
@@ -267,9 +279,9 @@ fn has_name_no_token<A: Allocator>(fields: &[SpelledField<A>]) -> bool {
 }
 
 /// What is wrong with the field block that was read.
-pub fn block_facts<A: Allocator + Copy>(reader: &BlockReader<A>) -> BlockFacts {
+pub fn block_facts<A: Allocator>(block: ShownBlock<'_, A>) -> BlockFacts {
     BlockFacts {
-        name_no_token: has_name_no_token(reader.fields()),
-        many_updates: reader.updates().len() > 2,
+        name_no_token: has_name_no_token(block.fields),
+        many_updates: block.updates.len() > 2,
     }
 }

@@ -15,10 +15,10 @@ returns-clause-takes c =
     let number : c.len.result + 1 ≡ length (map string_bytes c.args.texts.now.items) + 1 = ap (λ (n : ℕ). n + 1) (c.len.ensures ∙ c.args.texts.now.ok.0 ∙ sym (length-map c.args.texts.now.items string_bytes)) in
     let sent = c.as_slice.ensures.value ∙ rw c.clear.ensures.items refl in
     let before = c.moment_at-before.ensures ∙ ap (moment_of c.args.conn.now.state) c.stream_of_next-stream.ensures in
-    let after = c.moment_at.ensures ∙ ap (moment_of c.take_and_report.new.self.state) c.stream_of_next-stream.ensures in
+    let after = c.moment_at.ensures ∙ ap (moment_of c.take_and_lend.new.self.state) c.stream_of_next-stream.ensures in
     record {
       item = x;
-      explains = item-explained c.args.conn.now.state c.args.octets.now c.clear.new.self.items c.take_and_report.new.out.items _ c.args.offset c.take_and_report.new.self x c.take_and_report.ensures.ready first taken
+      explains = item-explained c.args.conn.now.state c.args.octets.now c.clear.new.self.items c.take_and_lend.new.out.items _ c.args.offset c.take_and_lend.new.self x c.take_and_lend.ensures.ready first taken
           number refl c.first_octets-own.ensures refl sent before after;
       used_is = refl;
       text = string_bytes c.in_ok-text.text;

@@ -7,8 +7,8 @@ loop-item-preserved c =
     let took = rw c.in-Some.is at c.in_ok-taken.ensures.ok in
     let report = rw c.in-Some.is at c.in_ok-taken.ensures.report in
     record {
-      ready = c.take_and_report.ensures.ready;
-      cause = cause-next c.loop-item.conn.state c.take_and_report.new.self.state (length c.args.octets.now) c.loop-item._item c.loop-item.rest.now c.behind-rest.result.now c.loop-item.cause took.event c.in-Some.taken
+      ready = c.take_and_lend.ensures.ready;
+      cause = cause-next c.loop-item.conn.state c.take_and_lend.new.self.state (length c.args.octets.now) c.loop-item._item c.loop-item.rest.now c.behind-rest.result.now c.loop-item.cause took.event c.in-Some.taken
           c.loop-item-test.true took.comes report c.behind-rest.ensures
           ∙ c.loop-item.invariant.cause;
     }

@@ -12,10 +12,10 @@ returns-in-Ok-add-clause-takes c =
     let taken = rw c.in-Ok-Some.field-0-is at c.in-Ok-Some.ensures.report in
     let number : c.len.result + 1 ≡ length c.args.self.now.sent.items + 1 = ap (λ (n : ℕ). n + 1) (c.len.ensures ∙ c.args.self.now.sent.ok.0) in
     let before = c.moment_at-before.ensures ∙ ap (moment_of c.args.conn.now.state) c.stream_of_next-stream.ensures in
-    let after = c.moment_at.ensures ∙ ap (moment_of c.take_and_report.new.self.state) c.stream_of_next-stream.ensures in
+    let after = c.moment_at.ensures ∙ ap (moment_of c.take_and_lend.new.self.state) c.stream_of_next-stream.ensures in
     record {
       item = x;
-      explains = item-explained c.args.conn.now.state c.args.octets.now c.new-out.result.items c.take_and_report.new.out.items _ c.args.offset c.take_and_report.new.self x c.take_and_report.ensures.ready first taken
+      explains = item-explained c.args.conn.now.state c.args.octets.now c.new-out.result.items c.take_and_lend.new.out.items _ c.args.offset c.take_and_lend.new.self x c.take_and_lend.ensures.ready first taken
           number refl c.first_octets-own.ensures refl (c.as_slice-answers.ensures.value ∙ rw c.new-out.ensures.items refl) before after;
       used_is = refl;
       sent = c.sent_with-sent.result;

@@ -6,4 +6,4 @@ use Rattle.h2_debug.proofs.places.cases.fields_ahead.Goals as goal
 pub returns : goal.returns
 returns g c = λ some.
     let shows = rw c.in_ok-copy.ensures.same at c.in_ok-take_and_lend.ensures.fields in
-    c.facts_of_fields.ensures ∙ ap field_facts (c.fields.ensures ∙ sym (shows-some _ _ some shows))
+    c.field_facts.ensures ∙ ap field_facts (c.fields.ensures ∙ sym (shows-some _ _ some shows))

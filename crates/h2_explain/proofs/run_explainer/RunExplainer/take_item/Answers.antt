@@ -22,13 +22,13 @@ returns-clause-ok g c =
     let x : Explained = record { number = e.items + 1; offset = e.offset; octets = c.first_octets-own.result; ahead = c.args.octets; used = k.used; what = k.item; part = c.part_in.result; part_is = c.item-1.given.0; cause = k.cause; ignored = k.ignored; sent = c.in-Some.sent; before = c.moment_at-before.result; after = c.moment_at.result } in
     let first = rw c.in-Ok-Some.field-0-is at c.in-Ok-Some.ensures.ok in
     let taken = rw c.in-Ok-Some.field-0-is at c.in-Ok-Some.ensures.report in
-    let sent = c.in-Some.ensures ∙ ap (λ (n : ℕ). drop n c.take_and_report.new.out) c.start_of-start.ensures.end in
+    let sent = c.in-Some.ensures ∙ ap (λ (n : ℕ). drop n c.take_and_lend.new.out) c.start_of-start.ensures.end in
     let well = c.write_item.ensures.flag ∙ ap (λ (r : Result (Unit {0}) ExplainFault). not_written r) c.in-Ok.is in
     let before = c.moment_at-before.ensures ∙ ap (moment_of c.args.conn.now.state) c.stream_of_next-stream.ensures in
-    let after = c.moment_at.ensures ∙ ap (moment_of c.take_and_report.new.self.state) c.stream_of_next-stream.ensures in
+    let after = c.moment_at.ensures ∙ ap (moment_of c.take_and_lend.new.self.state) c.stream_of_next-stream.ensures in
     record {
       item = x;
-      explains = item-explained c.args.conn.now.state c.args.octets.now c.start_of-start.new.out c.take_and_report.new.out (e.items + 1) e.offset c.take_and_report.new.self x c.take_and_report.ensures.ready first taken
+      explains = item-explained c.args.conn.now.state c.args.octets.now c.start_of-start.new.out c.take_and_lend.new.out (e.items + 1) e.offset c.take_and_lend.new.self x c.take_and_lend.ensures.ready first taken
           refl refl c.first_octets-own.ensures refl sent before after;
       used_is = refl;
       written = subst (λ (r : Result (Unit {0}) ExplainFault). Gains (IsWritten (λ (t : List ℕ). IsItemText e.form x t) r) (g.O.Output.written c.args.output.now) (g.O.Output.written c.write_item.new.output)) c.in-Ok.is (c.write_item.ensures.gains well);
@@ -52,7 +52,7 @@ returns-clause-flag g c = c.in-Ok.ensures.flag
 pub returns-in-Ok-None-clause-ok : goal.returns-in-Ok-None-clause-ok
 returns-in-Ok-None-clause-ok g c =
     let none = rw c.in-Ok-None.field-0-is at c.in-Ok-None.ensures.ok in
-    record { none = none.none; conn_is = c.take_and_report.ensures.ready ∙ ap (λ (s : State). going s []) none.same; same = refl; quiet = refl }
+    record { none = none.none; conn_is = c.take_and_lend.ensures.ready ∙ ap (λ (s : State). going s []) none.same; same = refl; quiet = refl }
 
 pub returns-in-Ok-None-clause-sent : goal.returns-in-Ok-None-clause-sent
 returns-in-Ok-None-clause-sent g c = λ keeps. rw (c.in-Ok-None.field-0-is, c.start_of-start.ensures.kept keeps) at c.in-Ok-None.ensures.ok

@@ -3,7 +3,7 @@ use Rattle.std.proofs.lemmas.List.{drop-drop}
 use Rattle.h2_conn.proofs.Runs.{leads-refl, leads-stop, leads-takes}
 use Rattle.h2_explain.specs.Explains.{not_written}
 use Rattle.h2_explain.specs.declared.run.ExplainFault.{ExplainFault}
-use Rattle.h2_explain.proofs.Steps.{first-takes, leads-stopped, on-cut-then, on-next-at, on-start, takes-uses}
+use Rattle.h2_explain.proofs.Steps.{first-takes, leads-stopped, on-cut-then, on-next-at, on-none, on-start, takes-uses}
 use Rattle.h2_explain.proofs.run_explainer.RunExplainer.take_items.Goals as goal
 
 pub loop-used-init : goal.loop-used-init
@@ -77,4 +77,4 @@ take_item-requires-clause-few g c =
 pub returns-in-Ok-None-clause-ok : goal.returns-in-Ok-None-clause-ok
 returns-in-Ok-None-clause-ok g c =
     let y = rw (c.octets_from-rest.ensures, c.in-Ok-None.field-0-is) at c.in-Ok-None.ensures.ok in
-    record { on = rw (y.same, y.conn_is, y.quiet) c.loop-used.invariant.on; stops = rw y.conn_is y.none }
+    record { on = on-none _ _ _ _ _ _ _ _ _ _ _ c.loop-used.invariant.on y; stops = rw y.conn_is y.none }

@@ -1,9 +1,0 @@
-use Rattle.std.proofs.Common.{◌∙◌}
-use Rattle.h2_explain_words.proofs.Stepping.{at_static, at_dynamic}
-use Rattle.h2_explain_words.proofs.reading.field_found.Goals as goal
-
-pub returns-then-index-le61 : goal.returns-then-index-le61
-returns-then-index-le61 g c = c.static_field.ensures ∙ at_static c.args.index c.args.table.now.table.entries c.if-index-le61.true
-
-pub returns-else-index-le61 : goal.returns-else-index-le61
-returns-else-index-le61 g c = c.get.ensures ∙ at_dynamic c.args.index c.args.table.now.table.entries c.if-index-le61.false
