@@ -12,6 +12,9 @@ const make = (tag, what = {}, ...inside) => {
   it.append(...inside.filter(part => part !== null && part !== undefined));
   return it;
 };
+const cell = (text, kind = "") => make("td", { class: kind, text });
+const heads = (...texts) => texts.map(it => make("th", { scope: "col", class: it[0] === "#" ? "n" : "", text: it.replace("#", "") }));
+const tableOf = (heads, rows, kind = "") => make("table", { class: kind }, heads.length ? make("thead", {}, make("tr", {}, ...heads)) : null, make("tbody", {}, ...rows));
 const HEX = Array.from({ length: 256 }, (_, it) => it.toString(16).padStart(2, "0"));
 const hexOf = octets => { let text = ""; for (const it of octets) text += HEX[it]; return text; };
 const counted = (count, word) => `${count.toLocaleString("en")} ${word}${count === 1 ? "" : "s"}`;
@@ -284,17 +287,17 @@ function partsOfOctets(item) {
   if (fragment && frame.type === "HEADERS") instructionsOf(fragment.hex).forEach(([length, about], n) => part(n % 2 ? "frag2" : "frag", length, about));
   for (const { id, name, value } of settings) { part("frag", 2, `setting ${id}: ${name}`); part("value", 4, `${name}: ${value}`); }
   if ("last_stream" in payload) { part("value", 4, `last stream: ${payload.last_stream}`); part("value", 4, `error code: ${codeWords(payload.code)}`); }
-  const kind = content || payload.debug ? "body" : fragment ? "frag" : "value", others = { RST_STREAM: "error code", WINDOW_UPDATE: "increment of the window", PING: "opaque data", GOAWAY: "debug data" };
-  part(kind, end - parts.at(-1).to, content ? `content: ${counted(lengthOf({ octets: content }), "octet")}` : fragment ? "fragment of the field block" : others[frame.type] ?? "payload");
+  const kind = content || payload.debug ? "body" : fragment ? "frag" : "value", others = { RST_STREAM: "error code", WINDOW_UPDATE: "increment of the window", PING: "opaque data" };
+  part(kind, end - parts.at(-1).to, content ? `content: ${counted(lengthOf({ octets: content }), "octet")}` : fragment ? "fragment of the field block" : payload.debug ? "debug data" : others[frame.type] ?? "payload");
   part("pad", padding, `padding: ${counted(padding, "octet")}`);
   return parts;
 }
-// The lengths of the instructions of a fragment, and what they are: `dis` writes them one by one, and `asm` has each in a frame. None of a fragment that ends within one.
+// The lengths of the instructions that begin a fragment, and what they are: `dis` writes them one by one, where these octets end with one, and `asm` has each in a frame.
 const FORMS = { i: "field at index", u: "table size update to", a: "literal, enters the table", n: "literal, does not enter the table", v: "literal, never indexed" };
 function instructionsOf(fragment) {
   const framed = forms => engine.octetsOf(forms.map(it => `HEADERS 00 1 ${it}\n`).join("")).octets;
-  const forms = fragment ? engine.scriptOf(framed(["x" + fragment])).text.match(/^HEADERS 00 1 h(.*)/)?.[1].match(/(?:"[^"]*"|'[^']*'|[^,"'])+/g) ?? [] : [];
-  const o = framed(forms.map(it => "h" + it));
+  const fronts = Array.from({ length: Math.min(fragment.length / 2, Math.ceil(2e4 / fragment.length)) }, (_, n) => "x" + fragment.slice(0, fragment.length - 2 * n));
+  const forms = engine.scriptOf(framed(fronts)).text.match(/^HEADERS 00 1 h(.*)/m)?.[1].match(/(?:"[^"]*"|'[^']*'|[^,"'])+/g) ?? [], o = framed(forms.map(it => "h" + it));
   let from = 0;
   return forms.map(it => {
     const length = o[from] << 16 | o[from + 1] << 8 | o[from + 2], index = parseInt(it.slice(1));
@@ -336,7 +339,7 @@ const acknowledged = it => it ? "acknowledged" : "not acknowledged";
 function showChanges(s) {
   const words = (what, it) => what === "field block" ? blockWords(it) : what === "settings acknowledged" ? acknowledged(it) : number(it);
   const row = ([stream, what, from, to]) => make("tr", {}, make("th", { scope: "row", text: !stream ? what.replace(/^(receive|send) window|^unreturned octets/, "connection: $&") : what === "state" ? `stream ${stream}` : `stream ${stream}: ${what}` }), make("td", {}, words(what, from) + " ", make("span", { class: "arrow", text: "\u2192" }), " ", make("b", { text: words(what, to) })));
-  at("changes").replaceChildren(s.moved.length ? make("table", {}, make("tbody", {}, ...s.moved.slice(0, 200).map(row))) : make("span", { class: "arrow", text: s.place ? "nothing" : "this is the start" }));
+  at("changes").replaceChildren(s.moved.length ? tableOf([], s.moved.slice(0, 200).map(row)) : make("span", { class: "arrow", text: s.place ? "nothing" : "this is the start" }));
 }
 
 // ---- the state
@@ -358,39 +361,37 @@ function showState(s) {
     windowShown("The server may send (send window)", send, 0, Math.max(65535, send), null, send <= 0 ? "spent: DATA waits for WINDOW_UPDATE on stream 0" : "of the connection; each stream has one of its own", isNew("send window")));
   const facts = [["phase", all["phase"], "phase"], ["highest stream with a request", all["last stream"], "last stream"], ["field block", blockWords(all["field block"]), "field block"], ["server's SETTINGS", acknowledged(all["settings acknowledged"]), "settings acknowledged"],
     ["client's GOAWAY", goaway === null ? "none" : `last ${all["last stream of client's GOAWAY"]}, ${goaway}`, "last stream of client's GOAWAY", "code of client's GOAWAY"]];
-  at("connection").replaceChildren(make("table", {}, make("tbody", {}, ...facts.map(([name, is, ...whats]) => make("tr", {}, make("th", { scope: "row", text: name }), make("td", { class: isNew(...whats) ? "changed" : "", text: is }))))));
+  at("connection").replaceChildren(tableOf([], facts.map(([name, is, ...whats]) => make("tr", {}, make("th", { scope: "row", text: name }), cell(is, isNew(...whats) ? "changed" : "")))));
   showStreams(s, credit);
   showTable(s, isNew("header table octets"));
   showSettings(all, isNew);
 }
 // The settings of both sides; those of the server are configured as it says in its opening, else they are the initial ones.
 function showSettings(all, isNew) {
-  const said = run.items[0].sent[0].payload.settings, cell = (value, isNew) => make("td", { class: isNew ? "n changed" : "n", text: value === undefined ? "" : number(value) });
+  const said = run.items[0].sent[0].payload.settings, value = (it, isNew) => cell(it === undefined ? "" : number(it), isNew ? "n changed" : "n");
   const rows = Object.keys(all).filter(it => it.startsWith("client's ")).map(client => {
     const name = client.slice(9), own = `own ${name} in force`, configured = said.find(it => it.name === name)?.value ?? BEGINNING[own];
-    return make("tr", {}, make("td", { text: name }), cell(all[client], isNew(client)), cell(all[own] ?? configured, isNew(own)), cell(configured, false));
+    return make("tr", {}, cell(name), value(all[client], isNew(client)), value(all[own] ?? configured, isNew(own)), value(configured, false));
   });
-  at("settings").replaceChildren(make("table", { class: "settings" }, make("thead", {}, make("tr", {}, make("th", { text: "" }), make("th", { class: "n", text: "client" }), make("th", { class: "n", text: "server, in force" }), make("th", { class: "n", text: "configured" }))), make("tbody", {}, ...rows)));
+  at("settings").replaceChildren(tableOf(heads("", "#client", "#server, in force", "#configured"), rows, "settings"));
 }
 function showStreams({ streams, changed, moved, all }, credit) {
   const most = 400, opened = [...streams.values()].filter(it => it.state !== "closed, unused"), fresh = new Set(moved.filter(([, what, from]) => what === "state" && from === "idle").map(([stream]) => stream));
   if (!opened.length) { at("streams").replaceChildren(make("span", { class: "arrow", text: "No stream has been opened." })); return; }
   const rows = opened.slice(-most).map(it => {
     const live = !it.state.startsWith("closed"), isNew = what => !fresh.has(it.id) && changed.has(`${it.id} ${what}`), whole = it["receive window"] + it["unreturned octets"];
-    const cell = (what, after = "") => make("td", { class: live && isNew(what) ? "n changed" : "n", text: live && (it[what] ?? null) !== null ? number(it[what]) + after : "" });
-    const recv = cell("receive window"), send = cell("send window");
+    const value = (what, after = "") => cell(live && (it[what] ?? null) !== null ? number(it[what]) + after : "", live && isNew(what) ? "n changed" : "n"), recv = value("receive window"), send = value("send window");
     if (live) { recv.append(bar({ have: it["receive window"], owed: it["unreturned octets"], whole: Math.max(whole, run.config.window, 1), mark: whole - credit, mini: true })); send.append(bar({ have: it["send window"], whole: Math.max(it["send window"], all["client's INITIAL_WINDOW_SIZE"], 1), mini: true })); }
-    return make("tr", { class: fresh.has(it.id) ? "new" : "" }, make("td", { class: "n", text: it.id }), make("td", { class: isNew("state") ? "changed" : "", text: it.state }), recv, cell("unreturned octets"), send, cell("content received", it.length === null ? "" : ` of ${number(it.length)}`), cell("body remaining"));
+    return make("tr", { class: fresh.has(it.id) ? "new" : "" }, cell(it.id, "n"), cell(it.state, isNew("state") ? "changed" : ""), recv, value("unreturned octets"), send, value("content received", it.length === null ? "" : ` of ${number(it.length)}`), value("body remaining"));
   });
-  const head = ["stream", "state", "receive window", "to return", "send window", "content received", "body left"].map((it, n) => make("th", { scope: "col", class: n === 1 ? "" : "n", text: it }));
-  at("streams").replaceChildren(...(opened.length > most ? [`${opened.length - most} earlier streams are left out`] : []), make("table", {}, make("thead", {}, make("tr", {}, ...head)), make("tbody", {}, ...rows)));
+  at("streams").replaceChildren(...(opened.length > most ? [`${opened.length - most} earlier streams are left out`] : []), tableOf(heads("#stream", "state", "#receive window", "#to return", "#send window", "#content received", "#body left"), rows));
 }
 function showTable({ place, all, table, gone }, isNew) {
-  const row = (it, index, kind) => make("tr", { class: kind }, make("td", { class: "n", text: index }), make("td", { class: "mono", text: shown(it.name) }), make("td", { class: "mono", text: shown(it.value) }), make("td", { class: "n", text: it.octets }));
+  const row = (it, index, kind) => make("tr", { class: kind }, cell(index, "n"), cell(shown(it.name), "mono"), cell(shown(it.value), "mono"), cell(it.octets, "n"));
   const rows = [...table.slice(0, 300).map((it, n) => row(it, 62 + n, it.since === place ? "new" : "")), ...gone.slice(0, 100).map(it => row(it, "evicted", "gone"))], max = all["header table maximum"];
   at("table").replaceChildren(
     windowShown(entries(all["header table entries"]), all["header table octets"], 0, Math.max(max, 1), null, `of at most ${number(max)} octets; the limit in force is ${number(all["own HEADER_TABLE_SIZE in force"])}`, isNew),
-    rows.length ? make("div", { class: "scroll", tabindex: 0, role: "group", "aria-label": "Entries" }, make("table", {}, make("thead", {}, make("tr", {}, make("th", { class: "n", text: "index" }), make("th", { text: "name" }), make("th", { text: "value" }), make("th", { class: "n", text: "size" }))), make("tbody", {}, ...rows))) : "");
+    rows.length ? make("div", { class: "scroll", tabindex: 0, role: "group", "aria-label": "Entries" }, tableOf(heads("#index", "name", "value", "#size"), rows)) : "");
 }
 function show() {
   const s = stateAt(run, run.place);
