@@ -58,7 +58,14 @@ fn write_run<A: Allocator + Copy, O: Output>(
 {
     let mut sent = Vec::new(alloc);
     match Conn::new(book, asked.config, &mut sent) {
-        Ok(mut conn) => ended_as(write_places(alloc, &mut conn, sent.as_slice(), octets, asked.shown, output)),
+        Ok(mut conn) => ended_as(write_places(
+            alloc,
+            &mut conn,
+            sent.as_slice(),
+            octets,
+            asked.shown,
+            output,
+        )),
         Err(ConnFault::BadConfig) => Err(RunFault::BadConfig),
         Err(_) => Err(RunFault::NoMemory),
     }
