@@ -46,10 +46,12 @@ function samePlaces(title, octets, limits, answers) {
   check(`${title}: places`, fault ? found.fault === Number(fault[1]) && !found.octets.length : found.fault === 0 && latin(found) === wanted.text, `fault ${found.fault}`);
   return fault ? [] : wanted.text.split(/^(?=item \d+$)/m);
 }
-// Why each item was an error or was ignored: the first words of what `why` of `debug` says at each position, up to the name.
+// Why each item was an error or was ignored, in the JSON: the first words of what `why` of `debug` says at each position, up to the name.
 function sameWhys(title, octets, limits, answers, count) {
-  const said = run(["debug", ...limitWords(limits), ...answers], `${hexOf(octets)}\n${"step 1\nwhy\n".repeat(count)}`).text, found = engine.whys(limits, answers.join("\n"), octets, 0, ALL);
-  check(`${title}: whys`, found.fault === 0 && latin(found).replace(/^item (\d+)$/gm, "at $1") === said.replace(/, RFC .*\n.*$/gm, ""), `fault ${found.fault}`);
+  const said = run(["debug", ...limitWords(limits), ...answers], `${hexOf(octets)}\n${"step 1\nwhy\n".repeat(count)}`).text, found = engine.json(limits, answers.join("\n"), octets);
+  const why = ({ error, ignored }) => error ? `${error.scope} error ${error.code.name}: ${error.cause}` : ignored ? `ignored: ${ignored.reason}` : "no error";
+  const items = found.text.trimEnd().split("\n").map(it => JSON.parse(it)).filter(it => it.item);
+  check(`${title}: whys`, found.fault === 0 && items.map(it => `at ${it.item}\n${why(it)}\n`).join("") === said.replace(/, RFC .*\n.*$/gm, ""), `fault ${found.fault}`);
 }
 // The explanation, which `explain` prints.
 function sameWords(title, octets, limits, answers) {
@@ -180,6 +182,16 @@ if (option("--chromium")) await inBrowser(option("--chromium"));
 console.log(`${passed} passed, ${failed} failed`);
 process.exitCode = failed ? 1 : 0;
 
+// The lines of a state that the page has made.
+function linesOf({ all, table, streams }) {
+  const words = (of, names) => names.map(name => of[name] ?? "-"), block = all["field block"], kinds = { "half-closed (remote)": "half-remote", "half-closed (local)": "half-local", "closed, ended": "ended", "closed, reset by the client": "peer-reset", "closed, reset by the server": "we-reset" };
+  const line = (text, ...values) => text.split("?").map((part, n) => part + (values[n] ?? "")).join("") + "\n", peer = ["HEADER_TABLE_SIZE", "ENABLE_PUSH", "MAX_CONCURRENT_STREAMS", "INITIAL_WINDOW_SIZE", "MAX_FRAME_SIZE", "MAX_HEADER_LIST_SIZE"];
+  const lines = [line("window recv ? owed ? send ?", ...words(all, ["receive window", "unreturned octets", "send window"])), line("peer table ? push ? streams ? window ? frame ? list ? signal ?", ...words(all, [...peer.map(it => `client's ${it}`), "size update pending"])), line("acked ?", Number(all["settings acknowledged"])),
+    line("own table ? window ? frame ?", ...words(all, ["HEADER_TABLE_SIZE", "INITIAL_WINDOW_SIZE", "MAX_FRAME_SIZE"].map(it => `own ${it} in force`))), block ? line("block stream ? octets ? list ? ends ?", block.stream, block.octets, block.list_size, Number(block.end_stream)) : "block -\n", line("table ? ? ?", ...words(all, ["entries", "octets", "maximum"].map(it => `header table ${it}`)))];
+  table.forEach((it, n) => lines.push(line("entry ? ? ?", 62 + n, it.name.hex || "-", it.value.hex || "-")));
+  for (const it of streams.values()) if (it.state !== "closed, unused") lines.push(it.state.startsWith("closed") ? line("stream ? ?", it.id, kinds[it.state]) : line("stream ? ? recv ? owed ? send ? got ? of ? left ?", it.id, kinds[it.state] ?? it.state, ...words(it, ["receive window", "unreturned octets", "send window", "content received", "length", "body remaining"])));
+  return lines.join("");
+}
 async function inBrowser(chromium) {
   const folder = mkdtempSync(join(tmpdir(), "web-"));
   const flags = ["--headless=new", "--no-sandbox", "--disable-gpu", "--hide-scrollbars", "--no-first-run", `--user-data-dir=${folder}`, "--remote-debugging-pipe", "--js-flags=--experimental-wasm-memory64", "about:blank"];
@@ -250,6 +262,12 @@ async function inBrowser(chromium) {
     for (const it of corpus) check(`${it.name}: in brief`, await of(`(text => text.split(/^(?=[#@])/m).map(h2.briefOf).join(""))(${JSON.stringify(run(["explain", ...limitWords(it.limits), ...it.answers], hexOf(it.octets)).text)})`) === run(["explain", "--brief", ...limitWords(it.limits), ...it.answers], hexOf(it.octets)).text);
     check("the item at hand is marked in the explanation", (await of("document.querySelector('#words .now')?.textContent")).startsWith("#3 @33"));
     check("an error is shown", (await of("document.getElementById('item-tags').textContent")).includes("PROTOCOL_ERROR"));
+    // The state that the page makes of the changes: the lines of `play --each`, but for the words of the phase, and the code of a GOAWAY.
+    const states = await of(`h2.stock.map(it => { h2.beginWith(it); return [it.name, Array.from({ length: h2.countOf(h2.run) + 1 }, (_, place) => (${linesOf})(h2.stateAt(h2.run, place)))]; })`);
+    for (const it of corpus) {
+      const wanted = run(["play", "--each", ...limitWords(it.limits), ...it.answers], hexOf(it.octets)).text.split(/^item.*\n/m).slice(1), found = states.find(([name]) => name === it.name);
+      check(`${it.name}: states`, found[1].join("") === wanted.map(text => text.replace(/^(sent|phase) .*\n/gm, "").replace(/( goaway| due) .*/g, "")).join(""), found[1].join(""));
+    }
     // A narrow window, one of middle width and a wide one, with an error at hand.
     for (const width of [360, 768, 1366]) {
       await tell("Emulation.setDeviceMetricsOverride", { width, height: 900, deviceScaleFactor: 1, mobile: width < 500 });

@@ -63,9 +63,8 @@ export function engineOf(module) {
   return {
     call, numbers,
     places: (config, answers, octets, first, last) => text(ample("places", [...numbers(config), BigInt(first), BigInt(last)], [utf8(answers), octets])),
-    whys: (config, answers, octets, first, last) => text(ample("whys", [...numbers(config), BigInt(first), BigInt(last)], [utf8(answers), octets])),
     explanation: (config, answers, octets) => text(ample("explanation", [0, ...numbers(config)], [utf8(answers), octets], 24, 640)),
-    json: (config, answers, octets) => text(ample("explanation", [1, ...numbers(config)], [utf8(answers), octets], 80, 640)),
+    json: (config, answers, octets) => text(ample("explanation", [1, ...numbers(config)], [utf8(answers), octets], 160, 640)),
     octetsOf: script => ample("octets_of", [], [utf8(script)]),
     scriptOf: octets => text(ample("script_of", [], [octets])),
   };

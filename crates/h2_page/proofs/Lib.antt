@@ -1,5 +1,4 @@
 pub mod Given
 pub mod Runs
-pub mod Told
 pub mod Worded
 mod Blocks

@@ -1,11 +1,10 @@
 -- The places of a run, as a page is shown them.
-use Rattle.std.proofs.Common.{◌≡◌, ◌∙◌, ◌⊎◌, ◌++◌, ◌-◌, ℕ, IfErr, OnOk, Bool, true, false, List, [], Option, Some, None, Result, Ok, Err, drop, take, inl, inr, refl, sym, ap, ap₂, subst, arith}
+use Rattle.std.proofs.Common.{◌≡◌, ◌∙◌, ◌⊎◌, ◌++◌, ℕ, Bool, true, false, List, [], Option, Some, None, Result, Ok, Err, drop, take, inl, inr, refl, sym, ap, ap₂, subst, arith}
 use Rattle.std.specs.List.{concat}
 use Rattle.std.proofs.lemmas.List.{append-nil, drop_all, take_all}
 use Rattle.h2_spec.specs.Requests.Answer.{Entry}
 use Rattle.h2_spec.specs.Opening.{opening_octets}
 use Rattle.h2_spec.specs.State.{State, is_allowed, opening}
-use Rattle.h2_spec.specs.Trace.{trace}
 use Rattle.h2_spec.specs.Texts.View.{view}
 use Rattle.h2_cmd_play.specs.Books.{book_of}
 use Rattle.h2_cmd_play.specs.Faults as numbers
@@ -15,55 +14,29 @@ use Rattle.h2_conn.specs.Connection.{Connection, going}
 use Rattle.h2_conn.specs.Faults.{refusal_for}
 use Rattle.h2_conn.specs.declared.fault.ConnFault.{ConnFault}
 use Rattle.h2_conn.specs.declared.fault.ConnFault.TheVariants as conn
-use Rattle.h2_cmd_play.specs.Places.{StopsAt, Writes, item_text, items_shown, places_from, through, up_to}
+use Rattle.h2_cmd_play.specs.Places.{Writes, item_text, places_from, places_run, places_shown, through, up_to}
 use Rattle.h2_cmd_play.specs.declared.places.PlacesFault.{PlacesFault}
 use Rattle.h2_cmd_play.specs.declared.places.PlacesFault.TheVariants as places
 use Rattle.h2_cmd_play.specs.declared.places.ShownPlaces.{ShownPlaces}
-use Rattle.h2_page.specs.Web.{RunText, RunsInto, ShowsRun, WritesFrom, answers_said, ended_as, refused_line, texts_from, texts_run, texts_shown, told}
-use Rattle.h2_page.specs.Whys.{why_texts}
+use Rattle.h2_page.specs.Web.{RunText, RunsInto, ShowsRun, answers_said, ended_as, refused_line, told}
 use Rattle.h2_page.specs.declared.fault.WebFault.{WebFault}
 use Rattle.h2_page.specs.declared.run.Asked.{Asked}
-use Rattle.h2_page.specs.declared.run.What.{What}
-use Rattle.h2_page.specs.declared.run.What.TheVariants as what
 use Rattle.h2_page.specs.declared.run.RunFault.{RunFault}
 use Rattle.h2_page.specs.declared.run.RunFault.TheVariants.{BadConfig, NoMemory, NotWritten}
 
--- a connection that was just opened runs as the definition says
-pub run-written : (asked : Asked) (book : List Entry) (octets sent : List ℕ) (c : Connection) (held : List ℕ) (after : Option (List ℕ)) (r : Result (Unit {0}) RunFault)
+-- the places of a connection that was just opened are those of the definition
+pub run-written : (asked : Asked) (book : List Entry) (octets sent : List ℕ) (c : Connection) (held : List ℕ) (after : Option (List ℕ)) (r : Result (Unit {0}) PlacesFault)
     → is_allowed asked.config ≡ true → c ≡ going (opening book asked.config) [] → sent ≡ opening_octets asked.config
-    → WritesFrom asked (item_text 0 sent (view c.state)) c.state octets held after r → RunsInto asked book octets held after r
-run-written asked book octets sent c held after r allowed opened is x = go r x
+    → Writes asked.shown (places_from (item_text 0 sent (view c.state)) c.state octets) held after r → RunsInto asked book octets held after (ended_as r)
+run-written asked book octets sent c held after r allowed opened is x = go r (subst (λ (ps : List (List ℕ)). Writes asked.shown ps held after r) same x)
   where
-    same : texts_from asked.what (item_text 0 sent (view c.state)) c.state octets ≡ texts_run asked book octets
-    same = ap₂ (λ (o : List ℕ) (s : State). texts_from asked.what (item_text 0 o (view s)) s octets) is (ap (λ (d : Connection). d.state) opened)
+    same : places_from (item_text 0 sent (view c.state)) c.state octets ≡ places_run book asked.config octets
+    same = ap₂ (λ (o : List ℕ) (s : State). places_from (item_text 0 o (view s)) s octets) is (ap (λ (d : Connection). d.state) opened)
 
-    go : (r : Result (Unit {0}) RunFault) → WritesFrom asked (item_text 0 sent (view c.state)) c.state octets held after r → RunsInto asked book octets held after r
-    go (Ok u) e = (allowed, e ∙ ap (λ (ps : List (List ℕ)). Some (held ++ concat (texts_shown asked.what asked.shown ps))) same)
-    go (Err NoMemory) e =
-        (concat (texts_shown asked.what asked.shown (take e.0 (texts_run asked book octets))), (e.0, refl), e.1 ∙ ap (λ (ps : List (List ℕ)). Some (held ++ concat (texts_shown asked.what asked.shown (take e.0 ps)))) same)
-    go (Err BadConfig) e = absurd e
-    go (Err NotWritten) e = tt
-
--- what was written of places, or of why items were errors, ends as the run does
-pub places-written : (asked : Asked) (start : List ℕ) (s : State) (octets held : List ℕ) (after : Option (List ℕ)) (r : Result (Unit {0}) PlacesFault) → asked.what ≡ what.Places
-    → Writes asked.shown (places_from start s octets) held after r → WritesFrom asked start s octets held after (ended_as r)
-places-written asked start s octets held after r is x = subst (λ (w : What). WritesFrom (record asked { what = w }) start s octets held after (ended_as r)) (sym is) (go r x)
-  where
-    go : (r : Result (Unit {0}) PlacesFault) → Writes asked.shown (places_from start s octets) held after r → WritesFrom (record asked { what = what.Places }) start s octets held after (ended_as r)
-    go (Ok u) y = y
-    go (Err places.NoMemory) y = y
-    go (Err places.NotWritten) y = tt
-
-pub whys-written : (asked : Asked) (start : List ℕ) (s : State) (octets held : List ℕ) (before after : Option (List ℕ)) (r : Result (Unit {0}) PlacesFault) → asked.what ≡ what.Whys → before ≡ Some held
-    → OnOk r ((now : List ℕ) → before ≡ Some now → after ≡ Some (now ++ concat (items_shown asked.shown (why_texts 1 s (trace s octets).events))))
-    → IfErr r (λ why. (now : List ℕ) → before ≡ Some now → StopsAt asked.shown (why_texts 1 s (trace s octets).events) now after why) → WritesFrom asked start s octets held after (ended_as r)
-whys-written asked start s octets held before after r is known o e = subst (λ (w : What). WritesFrom (record asked { what = w }) start s octets held after (ended_as r)) (sym is) (go r o e)
-  where
-    go : (r : Result (Unit {0}) PlacesFault) → OnOk r ((now : List ℕ) → before ≡ Some now → after ≡ Some (now ++ concat (items_shown asked.shown (why_texts 1 s (trace s octets).events))))
-        → IfErr r (λ why. (now : List ℕ) → before ≡ Some now → StopsAt asked.shown (why_texts 1 s (trace s octets).events) now after why) → WritesFrom (record asked { what = what.Whys }) start s octets held after (ended_as r)
-    go (Ok u) y z = y held known
-    go (Err places.NoMemory) y z = z held known
-    go (Err places.NotWritten) y z = tt
+    go : (r : Result (Unit {0}) PlacesFault) → Writes asked.shown (places_run book asked.config octets) held after r → RunsInto asked book octets held after (ended_as r)
+    go (Ok u) e = (allowed, e)
+    go (Err places.NoMemory) e = (concat (places_shown asked.shown (take e.0 (places_run book asked.config octets))), (e.0, refl), e.1)
+    go (Err places.NotWritten) e = tt
 
 pub not-allowed : (allowed : Bool) (fault : ConnFault) → fault ≡ conn.BadConfig → fault ≡ refusal_for allowed → allowed ≡ false
 not-allowed true fault is e = cc
@@ -74,13 +47,12 @@ no-texts : (first : ℕ) (count : Option ℕ) (texts : List (List ℕ)) → conc
 no-texts first None texts = ap concat (drop_all first [] (omega arith))
 no-texts first (Some n) texts = ap concat (ap (drop first) (take_all n [] (omega arith)) ∙ drop_all first [] (omega arith))
 
-none-shown : (w : What) (shown : ShownPlaces) (texts : List (List ℕ)) → concat (texts_shown w shown (take 0 texts)) ≡ []
-none-shown what.Places shown texts = no-texts shown.first (through shown.last) texts
-none-shown what.Whys shown texts = no-texts (shown.first - 1) shown.last texts
+none-shown : (shown : ShownPlaces) (texts : List (List ℕ)) → concat (places_shown shown (take 0 texts)) ≡ []
+none-shown shown texts = no-texts shown.first (through shown.last) texts
 
 pub nothing-written : (asked : Asked) (book : List Entry) (octets held : List ℕ) (after : Option (List ℕ)) → after ≡ Some held → RunsInto asked book octets held after (Err NoMemory)
 nothing-written asked book octets held after e =
-    ([], (0, sym (none-shown asked.what asked.shown (texts_run asked book octets))), e ∙ ap (λ (t : List ℕ). Some t) (sym (append-nil held)))
+    ([], (0, sym (none-shown asked.shown (places_run book asked.config octets))), e ∙ ap (λ (t : List ℕ). Some t) (sym (append-nil held)))
 
 abbrev text-in : Option (List ℕ) → List ℕ
 text-in None = []
@@ -98,7 +70,7 @@ gathered-none asked book octets text x = (x.0, ap text-in x.1)
 
 -- no text, for memory was refused for it
 pub no-text : (asked : Asked) (book : List Entry) (octets text : List ℕ) → text ≡ [] → RunText asked book octets text (Err NoMemory)
-no-text asked book octets text e = (0, e ∙ sym (none-shown asked.what asked.shown (texts_run asked book octets)))
+no-text asked book octets text e = (0, e ∙ sym (none-shown asked.shown (places_run book asked.config octets)))
 
 -- with the book of the answers
 pub with-book : (asked : Asked) (answers octets : List ℕ) (book : List Entry) (text : List ℕ) (r : Result (Unit {0}) RunFault) (ended : Result (Unit {0}) WebFault) → ended ≡ told r → book_of [] (answers_said answers) ≡ Ok book → RunText asked book octets text r

@@ -1,4 +1,3 @@
 pub mod Web
-pub mod Whys
 pub mod Words
 pub mod Token

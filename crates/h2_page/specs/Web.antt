@@ -5,17 +5,14 @@ use Rattle.std.specs.Str.{IsUtf8}
 use Rattle.h2_spec.specs.Requests.Answer.{Entry}
 use Rattle.h2_spec.specs.Texts.Assemble.{assembled}
 use Rattle.h2_spec.specs.Texts.Script.{kind_number, lines_of}
-use Rattle.h2_spec.specs.Opening.{opening_octets}
-use Rattle.h2_spec.specs.State.{State, is_allowed, opening}
-use Rattle.h2_spec.specs.Trace.{trace}
-use Rattle.h2_spec.specs.Texts.View.{view}
+use Rattle.h2_spec.specs.State.{is_allowed}
 use Rattle.h2_spec.specs.Texts.Written.{written}
 use Rattle.h2_spec.specs.declared.connection.Config.{Config}
 use Rattle.h2_cmd_play.specs.Books.{book_of}
 use Rattle.h2_cmd_play.specs.Faults as numbers
 use Rattle.h2_cmd_play.specs.declared.fault.AnswerFault.{AnswerFault}
 use Rattle.h2_cmd_play.specs.declared.fault.AnswerFault.TheVariants as answer
-use Rattle.h2_cmd_play.specs.Places.{item_text, items_shown, places_from, places_shown}
+use Rattle.h2_cmd_play.specs.Places.{places_run, places_shown}
 use Rattle.h2_cmd_play.specs.declared.places.PlacesFault.{PlacesFault}
 use Rattle.h2_cmd_play.specs.declared.places.PlacesFault.TheVariants as places
 use Rattle.h2_cmd_play.specs.declared.places.ShownPlaces.{ShownPlaces}
@@ -24,9 +21,6 @@ use Rattle.h2_page.specs.declared.fault.CallEnd.{CallEnd}
 use Rattle.h2_page.specs.declared.fault.WebFault.{WebFault}
 use Rattle.h2_page.specs.declared.fault.WebFault.TheVariants.{NoMemory, NoRoom, BadConfig, BadAnswer, NoText, Syntax}
 use Rattle.h2_page.specs.declared.run.Asked.{Asked}
-use Rattle.h2_page.specs.Whys.{why_texts}
-use Rattle.h2_page.specs.declared.run.What.{What}
-use Rattle.h2_page.specs.declared.run.What.TheVariants as what
 use Rattle.h2_page.specs.declared.run.RunFault.{RunFault}
 use Rattle.h2_page.specs.declared.run.RunFault.TheVariants as run
 
@@ -70,43 +64,23 @@ refused_answer refused = refused_line refused.line refused.fault
 abbrev pub config_of : ℕ → ℕ → ℕ → ℕ → ℕ → Config
 config_of streams credit table window frame = record { streams = streams; credit = credit; table = table; window = window; frame = frame }
 
-abbrev pub asked_for : What → Config → ℕ → ℕ → Asked
-asked_for what config first last = record { config = config; shown = record { first = first; last = Some last }; what = what }
+abbrev pub asked_for : Config → ℕ → ℕ → Asked
+asked_for config first last = record { config = config; shown = record { first = first; last = Some last } }
 
--- the texts of a connection's run: of each place, or why each item was an error or was ignored
-abbrev pub texts_from : What → List ℕ → State → List ℕ → List (List ℕ)
-texts_from what.Places start s octets = places_from start s octets
-texts_from what.Whys start s octets = why_texts 1 s (trace s octets).events
-
--- the same of a new connection
-abbrev pub texts_run : Asked → List Entry → List ℕ → List (List ℕ)
-texts_run asked book octets = texts_from asked.what (item_text 0 (opening_octets asked.config) (view (opening book asked.config))) (opening book asked.config) octets
-
--- those that are shown: the start is place 0, the first item place 1
-abbrev pub texts_shown : What → ShownPlaces → List (List ℕ) → List (List ℕ)
-texts_shown what.Places shown texts = places_shown shown texts
-texts_shown what.Whys shown texts = items_shown shown texts
-
+-- the places of a new connection that are shown: the start is place 0, the first item place 1
 abbrev pub run_shown : Asked → List Entry → List ℕ → List (List ℕ)
-run_shown asked book octets = texts_shown asked.what asked.shown (texts_run asked book octets)
+run_shown asked book octets = places_shown asked.shown (places_run book asked.config octets)
 
 -- those of some first part of the run
 abbrev pub SomeShown : Asked → List Entry → List ℕ → List ℕ → Type 0
-SomeShown asked book octets text = (count : ℕ) × (text ≡ concat (texts_shown asked.what asked.shown (take count (texts_run asked book octets))))
-
--- an output gained the texts of a connection's run that are shown
-abbrev pub WritesFrom : Asked → List ℕ → State → List ℕ → List ℕ → Option (List ℕ) → Result (Unit {0}) RunFault → Type 0
-WritesFrom asked start s octets held after (Ok u) = after ≡ Some (held ++ concat (texts_shown asked.what asked.shown (texts_from asked.what start s octets)))
-WritesFrom asked start s octets held after (Err run.NoMemory) = (count : ℕ) × (after ≡ Some (held ++ concat (texts_shown asked.what asked.shown (take count (texts_from asked.what start s octets)))))
-WritesFrom asked start s octets held after (Err run.BadConfig) = ⊥
-WritesFrom asked start s octets held after (Err run.NotWritten) = Unit {0}
+SomeShown asked book octets text = (count : ℕ) × (text ≡ concat (places_shown asked.shown (take count (places_run book asked.config octets))))
 
 abbrev pub ended_as : Result (Unit {0}) PlacesFault → Result (Unit {0}) RunFault
 ended_as (Ok u) = Ok u
 ended_as (Err places.NoMemory) = Err run.NoMemory
 ended_as (Err places.NotWritten) = Err run.NotWritten
 
--- the same of a new connection
+-- an output gained the places of a new connection that are shown
 abbrev pub RunsInto : Asked → List Entry → List ℕ → List ℕ → Option (List ℕ) → Result (Unit {0}) RunFault → Type 0
 RunsInto asked book octets held after (Ok u) = (is_allowed asked.config ≡ true) × (after ≡ Some (held ++ concat (run_shown asked book octets)))
 RunsInto asked book octets held after (Err run.NoMemory) = (text : List ℕ) × SomeShown asked book octets text × (after ≡ Some (held ++ text))

@@ -5,13 +5,12 @@
 mod answers;
 mod arena;
 mod fault;
-mod items;
 mod memory;
 mod put;
 mod run;
 mod script;
 mod words;
 
-pub use run::{places, whys};
+pub use run::places;
 pub use script::{octets_of, script_of};
 pub use words::explanation;

@@ -1,16 +1,11 @@
 //! The run of a connection, place by place. Definitions: `specs/Web.antt`.
 
 ghost use Rattle.std.specs.Prelude.{◌≡◌, ◌≤◌, ◌<◌, ◌^◌, ℕ, List, [], Some, false, length, take};
-ghost use Rattle.h2_conn.specs.Connection.{going};
-ghost use Rattle.h2_cmd_play.specs.Places.{item_text};
-ghost use Rattle.h2_spec.specs.Texts.View.{view};
-ghost use Rattle.h2_page.specs.declared.run.What.TheVariants as what;
-ghost use Rattle.h2_page.specs.Web.{Gives, RunsInto, RunText, ShowsRun, WritesFrom, asked_for, config_of, ended_as, refused_answer, told};
+ghost use Rattle.h2_page.specs.Web.{Gives, RunsInto, RunText, ShowsRun, asked_for, config_of, ended_as, refused_answer, told};
 
 use crate::answers::{RefusedLine, book_in};
 use crate::arena::Arena;
 use crate::fault::{CallEnd, WebFault};
-use crate::items::write_whys;
 use crate::memory::Free;
 use crate::put::put_text;
 use h2_cmd_play::{AnswerFault, PlacesFault, ShownPlaces, write_places};
@@ -20,21 +15,11 @@ use h2_request_book::book::Book;
 use h2_spec::connection::Config;
 use std::alloc::Allocator;
 
-/// What is shown of a run.
-#[derive(Clone, Copy)]
-pub enum What {
-    /// Its places, as `play --each` prints them.
-    Places,
-    /// Which error each item was, or why it was ignored.
-    Whys,
-}
-
-/// What is asked for: the limits and settings of the server, which places of the run are shown, and what of them.
+/// What is asked for: the limits and settings of the server, and which places of the run are shown.
 #[derive(Clone, Copy)]
 pub struct Asked {
     pub config: Config,
     pub shown: ShownPlaces,
-    pub what: What,
 }
 
 /// Why a run was not written.
@@ -46,28 +31,6 @@ pub enum RunFault {
     NoMemory,
     /// A write failed.
     NotWritten,
-}
-
-/// Writes the texts of a connection's run that are shown.
-fn write_texts<A: Allocator + Copy, O: Output>(
-    alloc: A,
-    conn: &mut Conn<'_, A>,
-    sent: &[u8],
-    octets: &[u8],
-    asked: Asked,
-    output: &mut O,
-) -> Result<(), RunFault>
-    requires new { conn.old ≡ going conn.old.state [] }
-    requires few { length octets.now < 2 ^ 63 }
-    requires writer { O.has_failed output.old ≡ false }
-    ensures { (held : List ℕ) → O.written output.old ≡ Some held
-        → WritesFrom asked (item_text 0 sent.now (view conn.old.state)) conn.old.state octets.now held (O.written output.new) result }
-{
-    let shown = asked.shown;
-    match asked.what {
-        What::Places => ended_as(write_places(alloc, conn, sent, octets, shown, output)),
-        What::Whys => ended_as(write_whys(alloc, conn, octets, shown, output)),
-    }
 }
 
 /// How the texts of a run ended.
@@ -95,7 +58,14 @@ fn write_run<A: Allocator + Copy, O: Output>(
 {
     let mut sent = Vec::new(alloc);
     match Conn::new(book, asked.config, &mut sent) {
-        Ok(mut conn) => write_texts(alloc, &mut conn, sent.as_slice(), octets, asked, output),
+        Ok(mut conn) => ended_as(write_places(
+            alloc,
+            &mut conn,
+            sent.as_slice(),
+            octets,
+            asked.shown,
+            output,
+        )),
         Err(ConnFault::BadConfig) => Err(RunFault::BadConfig),
         Err(_) => Err(RunFault::NoMemory),
     }
@@ -181,14 +151,13 @@ fn show_run<A: Allocator + Copy>(
 }
 
 /// What is asked for with these numbers.
-fn asked_for(what: What, config: Config, first: usize, last: usize) -> Asked
-    ensures { result ≡ asked_for what config first last }
+fn asked_for(config: Config, first: usize, last: usize) -> Asked
+    ensures { result ≡ asked_for config first last }
 {
     let last = Some(last);
     Asked {
         config,
         shown: ShownPlaces { first, last },
-        what,
     }
 }
 
@@ -215,7 +184,7 @@ pub extern "C" fn places(
     end: &mut CallEnd,
 ) -> usize
     ensures within { result ≤ length out.new }
-    ensures shown { Gives (ShowsRun (asked_for what.Places (config_of streams credit table window frame) first last) answers.now octets.now) (take result out.new) end.new }
+    ensures shown { Gives (ShowsRun (asked_for (config_of streams credit table window frame) first last) answers.now octets.now) (take result out.new) end.new }
 {
     let config = Config {
         streams,
@@ -224,39 +193,7 @@ pub extern "C" fn places(
         window,
         frame,
     };
-    let asked = asked_for(What::Places, config, first, last);
-    let arena = Arena::new(memory);
-    show_run(&arena, asked, answers, octets, out, end)
-}
-
-/// Why each item of the same run was an error, or was ignored: for those from FIRST to LAST a line with the number, and
-/// one with the first words that `why` of `debug` says of it, up to the name. All else is as with `places`.
-#[unsafe(no_mangle)]
-pub extern "C" fn whys(
-    memory: Free,
-    streams: u32,
-    credit: u32,
-    table: u32,
-    window: u32,
-    frame: u32,
-    first: usize,
-    last: usize,
-    answers: &[u8],
-    octets: &[u8],
-    out: &mut [u8],
-    end: &mut CallEnd,
-) -> usize
-    ensures within { result ≤ length out.new }
-    ensures shown { Gives (ShowsRun (asked_for what.Whys (config_of streams credit table window frame) first last) answers.now octets.now) (take result out.new) end.new }
-{
-    let config = Config {
-        streams,
-        credit,
-        table,
-        window,
-        frame,
-    };
-    let asked = asked_for(What::Whys, config, first, last);
+    let asked = asked_for(config, first, last);
     let arena = Arena::new(memory);
     show_run(&arena, asked, answers, octets, out, end)
 }
