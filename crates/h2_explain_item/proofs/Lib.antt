@@ -3,3 +3,4 @@ pub mod SettingLaws
 pub mod FieldLaws
 pub mod SpecialLaws
 mod ShownLaws
+mod FollowedLaws

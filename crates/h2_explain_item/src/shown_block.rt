@@ -242,6 +242,20 @@ impl<A: Allocator + Copy> BlockReader<A> {
         }
     }
 
+    /// The block so far with all its fields, also those that are not shown, where it has these.
+    pub fn decoded<'f>(&'f self, fields: &'f Collected<A>) -> ShownBlock<'f, A>
+        ensures updates { result.updates.now ≡ self.now.block.taken.updates }
+        ensures fields { spec.fields_seen result.fields ≡ spec.all_fields self.now fields.now.fields }
+    {
+        ShownBlock {
+            updates: self.spellings.updates(),
+            fields: SpelledFields {
+                fields,
+                spellings: self.spellings.given(),
+            },
+        }
+    }
+
     /// What decoding of the block stopped at, if it did; `is_index` says whether it was an index that no entry has.
     pub fn stopped(&self, is_index: bool) -> Option<Stopped>
         ensures { result ≡ stopped_at is_index (instr_at self.now.block.rest) }
