@@ -6,7 +6,7 @@ use Rattle.std.specs.List.{slice_get}
 use Rattle.h2_spec.specs.Hpack.DynamicTable.{entry_at, fit, total_size}
 use Rattle.h2_spec.specs.Hpack.Field.{Field, size}
 use Rattle.h2_spec.proofs.TableLaws.{fit-all, fit-evict, total_size-append}
-use Rattle.h2_explain_item.specs.FollowedTable.{Following, evicted, field_followed, fields_followed, resizing, updates_followed}
+use Rattle.h2_explain_item.specs.FollowedTable.{Following, evicted, field_followed, fields_followed}
 use Rattle.h2_explain_item.specs.ShownBlock.{Spelled}
 
 -- ---- one eviction
@@ -48,11 +48,7 @@ none-within [] i e less = omega (arith, less)
 none-within (x ∷ xs) zero e less = cc
 none-within (x ∷ xs) (suc i) e less = none-within xs i e (omega (arith, less))
 
--- ---- one update, one field
-
-pub updates-step : (item : ℕ) (ns : List ℕ) (i n : ℕ) (w : Following) → Some n ≡ slice_get ns i → updates_followed item (drop i ns) w ≡ updates_followed item (drop (i + 1) ns) (resizing item n w)
-updates-step item ns i n w e =
-    ap (λ xs. updates_followed item xs w) (drop_more ns i n (slice_get_within ns i n (sym e)) ∙ ap (λ m. m ∷ drop (i + 1) ns) (get_or_from_slice_get ns i n n (sym e)))
+-- ---- one field
 
 pub fields-step : (item listed : ℕ) (xs : List Spelled) (i : ℕ) (x : Spelled) (w : Following) → Some x ≡ slice_get xs i →
     fields_followed item listed i (drop i xs) w ≡ fields_followed item listed (i + 1) (drop (i + 1) xs) (field_followed item (nat_lt i listed) x w)

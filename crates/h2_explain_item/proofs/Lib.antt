@@ -4,3 +4,4 @@ pub mod FieldLaws
 pub mod SpecialLaws
 mod ShownLaws
 mod FollowedLaws
+mod TableLaws

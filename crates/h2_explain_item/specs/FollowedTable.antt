@@ -1,7 +1,7 @@
 -- The client's header table as it is followed: by the fields of its blocks, each with its spelling, and by the table size
 -- updates in front of them; what they enter, and what they evict (RFC 7541, 2.3.2 and 4).
-use Rattle.std.specs.Prelude.{ℕ, suc, ◌+◌, ◌-◌, Bool, true, false, List, [], ◌∷◌, ◌++◌, length, take, drop, nat_le, nat_lt, if◌then◌else◌, Option, Some, None, option_map, slice_get}
-use Rattle.h2_spec.specs.Hpack.DynamicTable.{LimitedTable, field_at, fit, insert, resize}
+use Rattle.std.specs.Prelude.{◌≡◌, ℕ, suc, ◌+◌, ◌-◌, Bool, true, false, List, [], ◌∷◌, ◌++◌, length, take, drop, nat_le, nat_lt, if◌then◌else◌, Option, Some, None, option_map, slice_get}
+use Rattle.h2_spec.specs.Hpack.DynamicTable.{LimitedTable, Table, field_at, fit, insert, resize}
 use Rattle.h2_spec.specs.Hpack.Field.{Field, size}
 use Rattle.h2_spec.specs.Hpack.Instruction.{Mode, IncrementalIndexing, WithoutIndexing, NeverIndexed}
 use Rattle.h2_explain_words.specs.Spelled.{Spelling, ByIndex, AsLiteral}
@@ -160,3 +160,12 @@ name_at index f = option_map (λ (x : Field). x.name) (field_at index f.table.ta
 -- what an index beyond both tables would name if nothing had been evicted
 abbrev pub gone_at : ℕ → TableFollowed → Option EntryGone
 gone_at index f = if nat_le index (highest_index f) then None else slice_get f.gone (index - (highest_index f + 1))
+
+-- ---- beside its decoding by a connection
+
+-- the table is followed as far as a connection has decoded a block: it is this table, which the block's fields and updates
+-- so far have left
+pub record IsFollowedTo (table : Table) (fields : List Field) (b : BlocksRead) (f : TableFollowed) : Type 0 where
+  pub same : f.table.table ≡ table
+  pub fields : f.fields ≡ length fields
+  pub updates : f.updates ≡ length b.block.taken.updates

@@ -242,17 +242,13 @@ impl<A: Allocator + Copy> BlockReader<A> {
         }
     }
 
-    /// The block so far with all its fields, also those that are not shown, where it has these.
-    pub fn decoded<'f>(&'f self, fields: &'f Collected<A>) -> ShownBlock<'f, A>
-        ensures updates { result.updates.now ≡ self.now.block.taken.updates }
-        ensures fields { spec.fields_seen result.fields ≡ spec.all_fields self.now fields.now.fields }
+    /// All fields of the block so far, also those that are not shown, where it has these.
+    pub fn all_fields<'f>(&'f self, fields: &'f Collected<A>) -> SpelledFields<'f, A>
+        ensures { spec.fields_seen result ≡ spec.all_fields self.now fields.now.fields }
     {
-        ShownBlock {
-            updates: self.spellings.updates(),
-            fields: SpelledFields {
-                fields,
-                spellings: self.spellings.given(),
-            },
+        SpelledFields {
+            fields,
+            spellings: self.spellings.given(),
         }
     }
 

@@ -241,7 +241,9 @@ impl<A: Allocator + Copy> Followed<A> {
     pub fn gone_at(&self, index: u64) -> Option<&Gone<A>>
         ensures { option_map (λ x. x.now) result ≡ spec.gone_at index self.now }
     {
-        let place = index.checked_sub(self.highest_index() as u64)?.checked_sub(1)?;
+        let place = index
+            .checked_sub(self.highest_index() as u64)?
+            .checked_sub(1)?;
         self.gone.get(place as usize)
     }
 
@@ -387,12 +389,12 @@ impl<A: Allocator + Copy> Followed<A> {
     ) -> Result<(), AllocError>
         ensures { OnOk result (spec.following self.new out.new.items ≡ spec.block_followed item limit reader.now fields.now.fields (spec.following self.old out.old.items)) }
     {
-        let listed = reader.block(fields).fields.len();
-        let block = reader.decoded(fields);
+        let block = reader.block(fields);
+        let (all, listed) = (reader.all_fields(fields), block.fields.len());
         self.table.set_limit(limit)?;
         self.follow_updates(alloc, item, block.updates, out)?;
-        self.follow_fields(alloc, item, block.fields, listed, out)?;
-        self.fields = block.fields.len();
+        self.follow_fields(alloc, item, all, listed, out)?;
+        self.fields = all.len();
         self.updates = block.updates.len();
         Ok(())
     }
