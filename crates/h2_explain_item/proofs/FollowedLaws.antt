@@ -1,10 +1,12 @@
 -- What is evicted from a table, entry by entry, and what a followed block leaves of it.
-use Rattle.std.proofs.Common.{◌≡◌, ◌∙◌, ℕ, zero, suc, ◌+◌, ◌-◌, ◌<◌, ◌≤◌, List, [], ◌∷◌, ◌++◌, length, drop, get_or, nat_lt, take, Option, Some, None, refl, sym, ap, arith}
+use Rattle.std.proofs.Common.{◌≡◌, ◌∙◌, ℕ, zero, suc, ◌+◌, ◌-◌, ◌<◌, ◌≤◌, List, [], ◌∷◌, ◌++◌, length, drop, get_or, nat_lt, take, Option, Some, None, refl, sym, ap, arith, le-leb}
+use Rattle.std.proofs.lemmas.Bool.{lt-leb}
 use Rattle.std.proofs.lemmas.List.{drop_more, length-take-le, take_more}
 use Rattle.std.proofs.lemmas.Option.{get_or_from_slice_get, slice_get_within}
 use Rattle.std.specs.List.{slice_get}
-use Rattle.h2_spec.specs.Hpack.DynamicTable.{entry_at, fit, total_size}
+use Rattle.h2_spec.specs.Hpack.DynamicTable.{entry_at, field_at, fit, total_size}
 use Rattle.h2_spec.specs.Hpack.Field.{Field, size}
+use Rattle.h2_spec.specs.Hpack.StaticTable.{static_field}
 use Rattle.h2_spec.proofs.TableLaws.{fit-all, fit-evict, total_size-append}
 use Rattle.h2_explain_item.specs.FollowedTable.{Following, evicted, field_followed, fields_followed}
 use Rattle.h2_explain_item.specs.ShownBlock.{Spelled}
@@ -54,3 +56,15 @@ pub fields-step : (item listed : ℕ) (xs : List Spelled) (i : ℕ) (x : Spelled
     fields_followed item listed i (drop i xs) w ≡ fields_followed item listed (i + 1) (drop (i + 1) xs) (field_followed item (nat_lt i listed) x w)
 fields-step item listed xs i x w e =
     ap (λ ys. fields_followed item listed i ys w) (drop_more xs i x (slice_get_within xs i x (sym e)) ∙ ap (λ y. y ∷ drop (i + 1) xs) (get_or_from_slice_get xs i x x (sym e)))
+
+-- ---- both tables
+
+pub at-static : (i : ℕ) (entries : List Field) → i ≤ 61 → static_field i ≡ field_at i entries
+unfolding field_at
+at-static i entries h = rw (le-leb i 61 h) refl
+
+pub at-dynamic : (i : ℕ) (entries : List Field) → 61 < i → entry_at (i - 61) entries ≡ field_at i entries
+unfolding field_at
+at-dynamic i entries h =
+    let next : i - 61 ≡ suc (i - 62) = omega arith in
+    rw (lt-leb i 61 h) (ap (λ (k : ℕ). entry_at k entries) next)

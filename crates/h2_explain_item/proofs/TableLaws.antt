@@ -8,7 +8,7 @@ use Rattle.h2_spec.specs.Hpack.Block.{Decoded, DecoderState, Fault, Given, Outco
 use Rattle.h2_spec.specs.Hpack.DynamicTable.{Table, field_at, insert, resize}
 use Rattle.h2_spec.specs.Hpack.Field.{Field, field}
 use Rattle.h2_spec.specs.Hpack.Instruction.{Mode, IncrementalIndexing, WithoutIndexing, NeverIndexed, NameRef, Ref, Named, Shape, Indexed, Update, Literal, Str, text_of}
-use Rattle.h2_spec.specs.Change.{Change}
+use Rattle.h2_spec.specs.declared.reactions.Change.{Change}
 use Rattle.h2_spec.specs.Requests.Headers.{FrameEffect, Breaks, Makes, block_ends, decoded_with, fragment, fragment_decoded, fragment_read, max_block, with_block}
 use Rattle.h2_spec.specs.State.{Decoding, State}
 use Rattle.h2_spec.specs.declared.causes.Cause.TheVariants.{BlockTooLarge, BlockTruncated, SizeUpdateMissing}

@@ -165,7 +165,7 @@ gone_at index f = if nat_le index (highest_index f) then None else slice_get f.g
 
 -- the table is followed as far as a connection has decoded a block: it is this table, which the block's fields and updates
 -- so far have left
-pub record IsFollowedTo (table : Table) (fields : List Field) (b : BlocksRead) (f : TableFollowed) : Type 0 where
+pub record IsFollowedTo (table : Table) (given : List Field) (b : BlocksRead) (f : TableFollowed) : Type 0 where
   pub same : f.table.table ≡ table
-  pub fields : f.fields ≡ length fields
+  pub fields : f.fields ≡ length given
   pub updates : f.updates ≡ length b.block.taken.updates

@@ -3,7 +3,7 @@
 //! specs/Requests/Headers.antt.
 
 ghost use Rattle.std.specs.Prelude.{◌≡◌, ℕ, Bool, List};
-ghost use Rattle.h2_spec.specs.Change.{Change};
+ghost use Rattle.h2_spec.specs.declared.reactions.Change.{Change};
 ghost use Rattle.h2_spec.specs.Requests.Headers.{Makes, decoded_with, fragment};
 ghost use Rattle.h2_spec.specs.State.{Decoding, State};
 ghost use Rattle.h2_spec.specs.declared.connection.BlockView.{BlockView};

@@ -3,6 +3,8 @@
 
 ghost use Rattle.std.specs.Prelude.{◌≡◌, ◌∷◌, ◌++◌, option_map, take, IfOk, OnOk};
 ghost use Rattle.h2_explain_words.specs.Spelled.{spelling_seen};
+ghost use Rattle.h2_hpack_list.specs.Lent.{lent_field};
+ghost use Rattle.h2_spec.specs.Hpack.DynamicTable.{field_at};
 ghost use Rattle.h2_spec.specs.Hpack.Field.{field, size};
 ghost use Rattle.h2_explain_item.specs.ShownBlock.{field_seen, fields_seen, up_to_64_bits};
 ghost use Rattle.h2_explain_item.specs.FollowedTable as spec;
@@ -168,6 +170,17 @@ fn note_evicted<A: Allocator + Copy>(
     Ok(())
 }
 
+/// The field at an index of both tables: 1 to 61 are static, 62 is the newest entry (RFC 7541, 2.3.3).
+fn field_at<A: Allocator>(table: &DynTable<A>, index: u64) -> Option<(&[u8], &[u8])>
+    ensures { option_map lent_field result ≡ field_at index table.now.table.entries }
+{
+    if index <= 61 {
+        static_field(index as usize)
+    } else {
+        table.get((index - 61) as usize)
+    }
+}
+
 // Keeps the 64 entries that were evicted last: they are what an index beyond both tables would name in a
 // larger table.
 /// The table, followed by the fields of blocks.
@@ -221,13 +234,10 @@ impl<A: Allocator + Copy> Followed<A> {
     pub fn name_at(&self, index: u64) -> Option<&[u8]>
         ensures { option_map (λ x. x.now) result ≡ spec.name_at index self.now }
     {
-        let entry = if index <= 61 {
-            static_field(index as usize)
-        } else {
-            self.table.get(index as usize - 61)
-        };
-        let (name, _) = entry?;
-        Some(name)
+        match field_at(&self.table, index) {
+            Some((name, _)) => Some(name),
+            None => None,
+        }
     }
 
     /// The highest index that has an entry in the static or the dynamic table, 61 or more (RFC 7541, 2.3.3).
