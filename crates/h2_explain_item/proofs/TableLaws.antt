@@ -1,6 +1,6 @@
 -- The table that is followed is the one that a connection's decoding leaves.
-use Rattle.std.proofs.Common.{◌≡◌, ◌∙◌, ◌⊎◌, inl, inr, ℕ, zero, suc, ◌+◌, ◌≤◌, ◌<◌, Bool, true, false, List, [], ◌∷◌, ◌++◌, length, drop, nat_le, nat_lt, Option, Some, None, Result, Ok, Err, refl, sym, ap, subst, arith, le-leb}
-use Rattle.std.specs.Prelude.{not, ◌==◌, if◌then◌else◌, option_to_list}
+use Rattle.std.proofs.Common.{◌≡◌, ◌∙◌, ◌⊎◌, inl, inr, ℕ, ◌+◌, ◌≤◌, Bool, true, false, List, [], ◌∷◌, ◌++◌, length, drop, nat_le, nat_lt, Option, Some, None, Result, Ok, Err, refl, sym, ap, arith, le-leb}
+use Rattle.std.specs.Prelude.{not, ◌==◌, option_to_list}
 use Rattle.std.proofs.Math.Seq.{drop-append_seam}
 use Rattle.std.proofs.lemmas.Bool.Decides.{leb_tells}
 use Rattle.std.proofs.lemmas.List.{append-nil, append_assoc}
@@ -9,7 +9,7 @@ use Rattle.h2_spec.specs.Hpack.DynamicTable.{Table, field_at, insert, resize}
 use Rattle.h2_spec.specs.Hpack.Field.{Field, field}
 use Rattle.h2_spec.specs.Hpack.Instruction.{Mode, IncrementalIndexing, WithoutIndexing, NeverIndexed, NameRef, Ref, Named, Shape, Indexed, Update, Literal, Str, text_of}
 use Rattle.h2_spec.specs.declared.reactions.Change.{Change}
-use Rattle.h2_spec.specs.Requests.Headers.{FrameEffect, Breaks, Makes, block_ends, decoded_with, fragment, fragment_decoded, fragment_read, max_block, with_block}
+use Rattle.h2_spec.specs.Requests.Headers.{Breaks, Makes, block_ends, decoded_with, fragment, fragment_decoded, fragment_read, max_block, with_block}
 use Rattle.h2_spec.specs.State.{Decoding, State}
 use Rattle.h2_spec.specs.declared.causes.Cause.TheVariants.{BlockTooLarge, BlockTruncated, SizeUpdateMissing}
 use Rattle.h2_spec.specs.declared.connection.BlockView.{BlockView}
@@ -17,8 +17,8 @@ use Rattle.h2_spec.specs.declared.connection.Purpose.{Purpose}
 use Rattle.h2_spec.proofs.BlockLaws.{applied-update, applied-update_late, applied-update_large}
 use Rattle.h2_spec_laws.specs.Blocks.{Lead}
 use Rattle.h2_explain_words.specs.Along.{IsAlong, updates}
-use Rattle.h2_explain_words.specs.Spelled.{Spelling, ByIndex, AsLiteral, literal_spelling, spellings}
-use Rattle.h2_explain_item.specs.FollowedTable.{EntryListed, Following, IsFollowedTo, TableFollowed, block_followed, enters, entering, field_followed, fields_followed, following, limited, listed_if, resizing, updates_followed}
+use Rattle.h2_explain_words.specs.Spelled.{Spelling, ByIndex, literal_spelling, spellings}
+use Rattle.h2_explain_item.specs.FollowedTable.{EntryListed, Following, IsFollowedTo, TableFollowed, block_followed, enters, field_followed, fields_followed, following, limited, resizing, updates_followed}
 use Rattle.h2_explain_item.specs.ShownBlock.{BlocksRead, Spelled, shown_fields, spelled}
 use Rattle.h2_explain_item.proofs.ShownLaws.{length-spelled}
 

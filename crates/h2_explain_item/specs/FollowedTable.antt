@@ -1,9 +1,9 @@
 -- The client's header table as it is followed: by the fields of its blocks, each with its spelling, and by the table size
 -- updates in front of them; what they enter, and what they evict (RFC 7541, 2.3.2 and 4).
-use Rattle.std.specs.Prelude.{◌≡◌, ℕ, suc, ◌+◌, ◌-◌, Bool, true, false, List, [], ◌∷◌, ◌++◌, length, take, drop, nat_le, nat_lt, if◌then◌else◌, Option, Some, None, option_map, slice_get}
+use Rattle.std.specs.Prelude.{◌≡◌, ℕ, ◌+◌, ◌-◌, Bool, true, false, List, [], ◌∷◌, ◌++◌, length, take, drop, nat_le, nat_lt, if◌then◌else◌, Option, Some, None, option_map, slice_get}
 use Rattle.h2_spec.specs.Hpack.DynamicTable.{LimitedTable, Table, field_at, fit, insert, resize}
 use Rattle.h2_spec.specs.Hpack.Field.{Field, size}
-use Rattle.h2_spec.specs.Hpack.Instruction.{Mode, IncrementalIndexing, WithoutIndexing, NeverIndexed}
+use Rattle.h2_spec.specs.Hpack.Instruction.{IncrementalIndexing, WithoutIndexing, NeverIndexed}
 use Rattle.h2_explain_words.specs.Spelled.{Spelling, ByIndex, AsLiteral}
 use Rattle.h2_explain_item.specs.declared.change.header_table.EvictedBy.{EvictedBy}
 use Rattle.h2_explain_item.specs.ShownBlock.{BlocksRead, Spelled, shown_fields, spelled, up_to_64_bits}
