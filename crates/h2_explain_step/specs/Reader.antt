@@ -7,6 +7,6 @@ use Rattle.h2_explain_step.specs.declared.explainer.ItemExplainer.{ItemExplainer
 abbrev pub KeepsReader : {A : Type 0} → ItemExplainer A → ItemExplainer A → Type 0
 KeepsReader before after = (after.reader ≡ before.reader) × (after.memory ≡ before.memory) × (after.is_full ≡ before.is_full)
 
--- the same, and the client's header table is as it was
+-- the same, and the client's header table
 abbrev pub KeepsTable : {A : Type 0} → ItemExplainer A → ItemExplainer A → Type 0
-KeepsTable before after = KeepsReader before after × (after.table ≡ before.table)
+KeepsTable before after = (after.reader ≡ before.reader) × (after.memory ≡ before.memory) × (after.is_full ≡ before.is_full) × (after.table ≡ before.table)

@@ -522,12 +522,13 @@ impl<A: Allocator + Copy> ItemExplainer<A> {
         ensures table { OnOk result (following self.new.table entries.new.items ≡ followed_with item.now (fields_at_hand conn.now.state.block self.old.memory.decoding.fields) self.old.reader self.old.table) }
     {
         entries.clear();
-        match item.what {
-            ItemHead::Frame(head) if is_of_block(item, &head) => {
-                self.follow(alloc, conn, item, entries)
-            }
-            _ => Ok(()),
+        let ItemHead::Frame(head) = item.what else {
+            return Ok(());
+        };
+        if !is_of_block(item, &head) {
+            return Ok(());
         }
+        self.follow(alloc, conn, item, entries)
     }
 
     /// Follows the header table over what an item's frame has of a field block, and puts the entries that it entered or
@@ -550,9 +551,10 @@ impl<A: Allocator + Copy> ItemExplainer<A> {
         let (limit, fields) = (item.before.counts.own.table, conn.fields(&self.memory));
         self.table
             .follow(alloc, item.number, limit, &self.reader, fields, entries)?;
-        if is_ended(item.after.counts.phase) {
-            entries.clear();
+        if !is_ended(item.after.counts.phase) {
+            return Ok(());
         }
+        entries.clear();
         Ok(())
     }
 
