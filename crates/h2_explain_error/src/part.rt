@@ -232,16 +232,8 @@ fn block_value<A: Allocator + Copy>(
         SentencePart::Fields => ShownValue::Fields(context.fields().len()),
         SentencePart::ListSize => ShownValue::Number(size_of(context.fields())),
         SentencePart::StoppedAt => ShownValue::Number(stopped_at(context.stopped())),
-        SentencePart::HighestIndex => ShownValue::Number(highest_index(context)),
+        SentencePart::HighestIndex => ShownValue::Number(context.table.highest_index() as u64),
         _ => ShownValue::Words(""),
-    }
-}
-
-/// The highest index that has an entry, 0 where it is not known.
-fn highest_index<A: Allocator + Copy>(context: &ErrorContext<'_, '_, A>) -> u64 {
-    match context.table.highest_index() {
-        Some(index) => index as u64,
-        None => 0,
     }
 }
 

@@ -83,8 +83,7 @@ fn is_at_hand<A: Allocator + Copy>(cause: Cause, context: &ErrorContext<'_, '_, 
         | Cause::HeadersOnClosed
         | Cause::TrailersWithoutEndStream => context.note().is_some(),
         Cause::IndexOutOfTables => {
-            matches!(context.stopped(), Some(Stopped::Index(_)))
-                && context.table.highest_index().is_some()
+            matches!(context.stopped(), Some(Stopped::Index(_))) && context.fields.is_whole()
         }
         Cause::SizeUpdateLate | Cause::SizeUpdateTooLarge => {
             matches!(context.stopped(), Some(Stopped::Update(_)))

@@ -3,3 +3,5 @@ pub mod SettingLaws
 pub mod FieldLaws
 pub mod SpecialLaws
 mod ShownLaws
+mod FollowedLaws
+mod TableLaws

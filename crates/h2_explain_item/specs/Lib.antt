@@ -13,3 +13,4 @@ pub mod Warnings
 pub mod Others
 pub mod ShownBlock
 pub mod AnswerFields
+pub mod FollowedTable

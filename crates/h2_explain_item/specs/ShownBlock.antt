@@ -85,6 +85,10 @@ up_to (Some most) xs = take most xs
 abbrev pub shown_fields : BlocksRead → List Field → ShownFields
 shown_fields b fields = record { decoded = fields; shown = spelled fields (up_to b.most b.block.taken.given) }
 
+-- all fields of the block, where it has these
+abbrev pub all_fields : BlocksRead → List Field → ShownFields
+all_fields b fields = record { decoded = fields; shown = spelled fields b.block.taken.given }
+
 -- ---- beside its decoding by a connection
 
 -- a block is spelled as far as it is decoded: there is a spelling for each field, and the same octets are left

@@ -242,6 +242,16 @@ impl<A: Allocator + Copy> BlockReader<A> {
         }
     }
 
+    /// All fields of the block so far, also those that are not shown, where it has these.
+    pub fn all_fields<'f>(&'f self, fields: &'f Collected<A>) -> SpelledFields<'f, A>
+        ensures { spec.fields_seen result ≡ spec.all_fields self.now fields.now.fields }
+    {
+        SpelledFields {
+            fields,
+            spellings: self.spellings.given(),
+        }
+    }
+
     /// What decoding of the block stopped at, if it did; `is_index` says whether it was an index that no entry has.
     pub fn stopped(&self, is_index: bool) -> Option<Stopped>
         ensures { result ≡ stopped_at is_index (instr_at self.now.block.rest) }

@@ -174,7 +174,7 @@ impl<A: Allocator + Copy> ItemExplainer<A> {
             memory: Scratch::new(alloc),
             reader: BlockReader::new(alloc),
             live: BTreeMap::new(alloc),
-            table: Followed::new(alloc, 4096),
+            table: Followed::new(alloc, 4096)?,
             refused_ends: BTreeMap::new(alloc),
             granted: Granted::new(alloc),
             empties: 0,
@@ -481,7 +481,7 @@ impl<A: Allocator + Copy> ItemExplainer<A> {
         let run = run_facts(&mut self.granted, empties, item)?;
         account.is_full = self.is_full;
         account.shows_fields = self.read_block(conn, item)?;
-        self.follow_refused(alloc, conn, item)?;
+        self.put_entries(alloc, conn, item, &mut account.entries)?;
         account.facts = self.facts(conn, item);
         let request = self.request_facts(conn, item);
         let block = self.block_facts(conn, item, account.shows_fields);
@@ -498,33 +498,13 @@ impl<A: Allocator + Copy> ItemExplainer<A> {
         )?;
         self.put_changes(conn, item, &mut account.changes)?;
         self.note_rest(conn, item, &sent)?;
-        self.put_entries(alloc, conn, item, &mut account.entries)?;
         put_opening(alloc, conn, item.number == 1, &mut account.opening)?;
         self.empties = empties_after(empties, item.head());
         Ok(())
     }
 
-    /// Follows the block of an item that is refused for an index that no entry has.
-    #[inline(always)]
-    fn follow_refused(
-        &mut self,
-        alloc: A,
-        conn: &Conn<'_, A>,
-        item: &Explained<'_>,
-    ) -> Result<(), AllocError>
-        ensures notes { self.new.notes ≡ self.old.notes }
-        ensures keeps { KeepsReader self.old self.new }
-    {
-        match item.cause {
-            Some(_) => {
-                let block = self.reader.block(conn.fields(&self.memory));
-                self.table.follow_refused(alloc, item, block)
-            }
-            None => Ok(()),
-        }
-    }
-
-    /// Puts the entries of the client's header table that an item entered or evicted in the place of those before.
+    /// Puts the entries of the client's header table that an item entered or evicted in the place of those before; none
+    /// where the connection ends with it.
     #[inline(always)]
     fn put_entries(
         &mut self,
@@ -536,16 +516,18 @@ impl<A: Allocator + Copy> ItemExplainer<A> {
         ensures notes { self.new.notes ≡ self.old.notes }
         ensures keeps { KeepsReader self.old self.new }
     {
-        if !entries.is_empty() {
-            entries.clear();
+        entries.clear();
+        let ItemHead::Frame(head) = item.what else {
+            return Ok(());
+        };
+        if !is_of_block(item, &head) {
+            return Ok(());
         }
-        match item.head() {
-            Some(head) if is_of_block(item, &head) => self.follow(alloc, conn, item, entries),
-            _ => Ok(()),
-        }
+        self.follow(alloc, conn, item, entries)
     }
 
-    /// Puts the entries that an item entered or evicted, where its frame is of a field block.
+    /// Follows the header table over what an item's frame has of a field block, and puts the entries that it entered or
+    /// evicted.
     #[inline(never)]
     fn follow(
         &mut self,
@@ -560,10 +542,13 @@ impl<A: Allocator + Copy> ItemExplainer<A> {
         if item.before.block.is_none() {
             self.table.begin();
         }
+        let (limit, fields) = (item.before.counts.own.table, conn.fields(&self.memory));
+        self.table
+            .follow(alloc, item.number, limit, &self.reader, fields, entries)?;
         if !is_ended(item.after.counts.phase) {
-            let block = self.reader.block(conn.fields(&self.memory));
-            *entries = self.table.follow(alloc, item, block)?;
+            return Ok(());
         }
+        entries.clear();
         Ok(())
     }
 

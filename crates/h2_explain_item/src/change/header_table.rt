@@ -1,15 +1,22 @@
-//! The client's header table as text: which entries an item enters, and which it evicts (RFC 7541, 2.3.2 and 4). What
-//! is entered are the fields that were spelled with indexing. No definition speaks of it; where the table is not
-//! followed to its end, nothing more is reported of it.
+//! The client's header table, followed by the fields of its blocks: which entries an item enters, and which it evicts
+//! (RFC 7541, 2.3.2 and 4). Definitions: `specs/FollowedTable.antt`.
 
-use crate::item::Explained;
-use crate::shown_block::{ShownBlock, SpelledField};
+ghost use Rattle.std.specs.Prelude.{◌≡◌, ◌∷◌, ◌++◌, option_map, take, IfOk, OnOk};
+ghost use Rattle.h2_explain_words.specs.Spelled.{spelling_seen};
+ghost use Rattle.h2_hpack_list.specs.Lent.{lent_field};
+ghost use Rattle.h2_spec.specs.Hpack.DynamicTable.{field_at};
+ghost use Rattle.h2_spec.specs.Hpack.Field.{field, size};
+ghost use Rattle.h2_explain_item.specs.ShownBlock.{field_seen, fields_seen, up_to_64_bits};
+ghost use Rattle.h2_explain_item.specs.FollowedTable as spec;
+
+use crate::shown_block::{BlockReader, SpelledField, SpelledFields};
 use h2_explain_words::spelled::Spelling;
+use h2_fields::collected::Collected;
 use h2_hpack_instruction::instruction::Mode;
-use h2_spec::causes::Cause;
-use h2_table::static_field;
+use h2_table::{DynTable, static_field};
 use std::alloc::{AllocError, Allocator, Global};
 use std::collections::VecDeque;
+use std::marker::Model;
 
 /// An entry of the table.
 #[derive(Drop)]
@@ -20,14 +27,37 @@ pub struct ShownEntry<A: Allocator = Global> {
     pub value: Vec<u8, A>,
 }
 
+impl<A: Allocator> Model for ShownEntry<A> {
+    ghost use Rattle.h2_spec.specs.Hpack.Field.{Field};
+
+    ghost Value = { Field };
+
+    ghost view = { λ e. record { name = e.name.items; value = e.value.items } };
+}
+
 /// What an entry counts: its octets and 32 (RFC 7541, 4.1).
-fn size_of(name: &[u8], value: &[u8]) -> usize {
+fn size_of(name: &[u8], value: &[u8]) -> usize
+    ensures { result ≡ up_to_64_bits (size (field name.now value.now)) }
+{
     name.len().saturating_add(value.len()).saturating_add(32)
 }
 
 impl<A: Allocator + Copy> ShownEntry<A> {
+    /// A copy of these octets.
+    fn of(alloc: A, name: &[u8], value: &[u8]) -> Result<Self, AllocError>
+        ensures { IfOk result (λ entry. entry ≡ field name.now value.now) }
+    {
+        let name = Vec::from_slice(alloc, name)?;
+        match Vec::from_slice(alloc, value) {
+            Ok(value) => Ok(ShownEntry { name, value }),
+            Err(error) => Err(error),
+        }
+    }
+
     /// What it counts: its octets and 32 (RFC 7541, 4.1).
-    pub fn size(&self) -> usize {
+    pub fn size(&self) -> usize
+        ensures { result ≡ up_to_64_bits (size self.now) }
+    {
         size_of(self.name.as_slice(), self.value.as_slice())
     }
 }
@@ -41,6 +71,23 @@ pub struct EntryChange<A: Allocator = Global> {
     pub entry: ShownEntry<A>,
 }
 
+impl<A: Allocator> Model for EntryChange<A> {
+    ghost use Rattle.h2_explain_item.specs.FollowedTable.{EntryListed};
+
+    ghost Value = { EntryListed };
+
+    ghost view = { λ c. record { is_entered = c.is_entered; entry = c.entry } };
+}
+
+/// What evicts an entry.
+#[derive(Clone, Copy)]
+struct EvictedBy<'f> {
+    /// The number of the item.
+    item: u64,
+    /// The name of the entry that does, none where a table size update does.
+    name: Option<&'f [u8]>,
+}
+
 /// An entry that was evicted.
 #[derive(Drop)]
 pub struct Gone<A: Allocator> {
@@ -52,173 +99,170 @@ pub struct Gone<A: Allocator> {
     pub by: Option<Vec<u8, A>>,
 }
 
+impl<A: Allocator> Model for Gone<A> {
+    ghost use Rattle.std.specs.Prelude.{option_map};
+    ghost use Rattle.h2_explain_item.specs.FollowedTable.{EntryGone};
+
+    ghost Value = { EntryGone };
+
+    ghost view = { λ g. record { entry = g.entry; evictor = record { item = g.item; by = option_map (λ x. x.items) g.by } } };
+}
+
+impl<A: Allocator + Copy> Gone<A> {
+    /// What is kept of an entry of these octets.
+    fn of(alloc: A, name: &[u8], value: &[u8], by: EvictedBy<'_>) -> Result<Self, AllocError>
+        ensures { IfOk result (λ gone. gone ≡ record { entry = field name.now value.now; evictor = spec.evictor_seen by.entry }) }
+    {
+        let evictor = match by.name {
+            Some(name) => Some(Vec::from_slice(alloc, name)?),
+            None => None,
+        };
+        Ok(Gone {
+            entry: ShownEntry::of(alloc, name, value)?,
+            item: by.item,
+            by: evictor,
+        })
+    }
+}
+
 /// How many of the entries that were evicted last are kept.
 const MOST_GONE: usize = 64;
+
+/// Keeps an entry that was evicted, beside the 63 before it.
+fn keep<A: Allocator>(kept: &mut VecDeque<Gone<A>, A>, gone: Gone<A>) -> Result<(), AllocError>
+    ensures { OnOk result (kept.new.items ≡ gone ∷ take 63 kept.old.items) }
+{
+    kept.truncate(MOST_GONE - 1);
+    kept.push_front(gone)?;
+    Ok(())
+}
+
+/// Lists and keeps the oldest entries of a table, those that are evicted where the others count at most `available` octets.
+fn note_evicted<A: Allocator + Copy>(
+    alloc: A,
+    table: &DynTable<A>,
+    available: usize,
+    by: EvictedBy<'_>,
+    kept: &mut VecDeque<Gone<A>, A>,
+    out: &mut Vec<EntryChange<A>, A>,
+) -> Result<(), AllocError>
+    ensures kept { OnOk result (kept.new.items ≡ spec.gone_with (spec.evictor_seen by.entry) (spec.evicted table.now.table.entries available) kept.old.items) }
+    ensures listed { OnOk result (out.new.items ≡ out.old.items ++ spec.evictions (spec.evicted table.now.table.entries available)) }
+{
+    let mut left = table.size();
+    let mut place = table.len();
+    while left > available {
+        let Some((name, value)) = table.get(place) else {
+            return Ok(());
+        };
+        keep(kept, Gone::of(alloc, name, value, by)?)?;
+        let entry = ShownEntry::of(alloc, name, value)?;
+        out.push(EntryChange {
+            is_entered: false,
+            entry,
+        })?;
+        left = left
+            .saturating_sub(name.len())
+            .saturating_sub(value.len())
+            .saturating_sub(32);
+        place = place.saturating_sub(1);
+    }
+    Ok(())
+}
+
+/// The field at an index of both tables: 1 to 61 are static, 62 is the newest entry (RFC 7541, 2.3.3).
+fn field_at<A: Allocator>(table: &DynTable<A>, index: u64) -> Option<(&[u8], &[u8])>
+    ensures { option_map lent_field result ≡ field_at index table.now.table.entries }
+{
+    if index <= 61 {
+        static_field(index as usize)
+    } else {
+        table.get((index - 61) as usize)
+    }
+}
 
 // Keeps the 64 entries that were evicted last: they are what an index beyond both tables would name in a
 // larger table.
 /// The table, followed by the fields of blocks.
 #[derive(Drop)]
 pub struct Followed<A: Allocator = Global> {
-    /// The entries, the newest first.
-    entries: VecDeque<ShownEntry<A>, A>,
+    table: DynTable<A>,
     /// Entries that were evicted, the last one first: with those of the table they are what the table would have if it
     /// were larger.
     gone: VecDeque<Gone<A>, A>,
-    size: usize,
-    maximum: usize,
-    /// Whether it is still known what the table has.
-    is_known: bool,
     /// How many fields and updates of the open block were followed.
     fields: usize,
     updates: usize,
 }
 
-/// Whether a field was entered into the table (RFC 7541, 6.2.1).
-fn is_entered(field: &SpelledField<'_>) -> bool {
-    match field.spelling {
+impl<A: Allocator> Model for Followed<A> {
+    ghost use Rattle.h2_explain_item.specs.FollowedTable.{TableFollowed};
+
+    ghost Value = { TableFollowed };
+
+    ghost view = { λ f. record { table = f.table; gone = f.gone.items; fields = f.fields; updates = f.updates } };
+}
+
+/// Whether a field enters the table (RFC 7541, 6.2.1).
+fn enters(spelling: Spelling) -> bool
+    ensures { result ≡ spec.enters (spelling_seen spelling) }
+{
+    match spelling {
         Spelling::Literal(Mode::IncrementalIndexing, _, _, _) => true,
         _ => false,
     }
 }
 
-/// An entry with copies of these octets.
-fn entry_with<A: Allocator + Copy>(
-    alloc: A,
-    name: &[u8],
-    value: &[u8],
-) -> Result<ShownEntry<A>, AllocError> {
-    let name = Vec::from_slice(alloc, name)?;
-    match Vec::from_slice(alloc, value) {
-        Ok(value) => Ok(ShownEntry { name, value }),
-        Err(error) => Err(error),
-    }
-}
-
-/// The entry of a field.
-fn entry_of<A: Allocator + Copy>(
-    alloc: A,
-    field: &SpelledField<'_>,
-) -> Result<ShownEntry<A>, AllocError> {
-    entry_with(alloc, field.name, field.value)
-}
-
-/// What is kept of an entry that was evicted at the item of this number.
-fn gone_of<A: Allocator + Copy>(
-    alloc: A,
-    entry: &ShownEntry<A>,
-    item: u64,
-    by: Option<&[u8]>,
-) -> Result<Gone<A>, AllocError> {
-    let by = match by {
-        Some(name) => Some(Vec::from_slice(alloc, name)?),
-        None => None,
-    };
-    match entry_with(alloc, entry.name.as_slice(), entry.value.as_slice()) {
-        Ok(entry) => Ok(Gone { entry, item, by }),
-        Err(error) => Err(error),
-    }
-}
-
 impl<A: Allocator + Copy> Followed<A> {
-    /// The table is empty, with this maximum.
-    pub fn new(alloc: A, maximum: usize) -> Followed<A> {
-        Followed {
-            entries: VecDeque::new(alloc),
+    /// The table is empty, with this maximum in octets.
+    ///
+    /// # Errors
+    ///
+    /// `AllocError` where the places for its entries were refused.
+    pub fn new(alloc: A, maximum: u32) -> Result<Self, AllocError>
+        ensures { IfOk result (λ f. f ≡ spec.empty maximum) }
+    {
+        Ok(Followed {
+            table: DynTable::new(alloc, maximum)?,
             gone: VecDeque::new(alloc),
-            size: 0,
-            maximum,
-            is_known: true,
             fields: 0,
             updates: 0,
+        })
+    }
+
+    /// The name at an index of both tables; none where no entry has it (RFC 7541, 2.3.3).
+    pub fn name_at(&self, index: u64) -> Option<&[u8]>
+        ensures { option_map (λ x. x.now) result ≡ spec.name_at index self.now }
+    {
+        match field_at(&self.table, index) {
+            Some((name, _)) => Some(name),
+            None => None,
         }
     }
 
-    /// The name at an index of both tables; none where no entry has it, or that is not known (RFC 7541, 2.3.3).
-    pub fn name_at(&self, index: u64) -> Option<&[u8]> {
-        if index <= 61 {
-            let (name, _) = static_field(index as usize)?;
-            return Some(name);
-        }
-        if !self.is_known {
-            return None;
-        }
-        let place = usize::try_from(index - 62).unwrap_or(usize::MAX);
-        Some(self.entries.get(place)?.name.as_slice())
-    }
-
-    /// The highest index that has an entry in the static or the dynamic table, 61 or more; none where it is not known
-    /// (RFC 7541, 2.3.3).
-    pub fn highest_index(&self) -> Option<usize> {
-        if self.is_known {
-            Some(self.entries.len().saturating_add(61))
-        } else {
-            None
-        }
-    }
-
-    /// A block begins.
-    pub fn begin(&mut self) {
-        self.fields = 0;
-        self.updates = 0;
+    /// The highest index that has an entry in the static or the dynamic table, 61 or more (RFC 7541, 2.3.3).
+    pub fn highest_index(&self) -> usize
+        ensures { result ≡ spec.highest_index self.now }
+    {
+        self.table.len().saturating_add(61)
     }
 
     /// What an index that is beyond both tables would name if nothing had been evicted; none where that is not known.
-    pub fn gone_at(&self, index: u64) -> Option<&Gone<A>> {
-        if !self.is_known {
-            return None;
-        }
+    pub fn gone_at(&self, index: u64) -> Option<&Gone<A>>
+        ensures { option_map (λ x. x.now) result ≡ spec.gone_at index self.now }
+    {
         let place = index
-            .checked_sub(62)?
-            .checked_sub(self.entries.len() as u64)?;
-        self.gone.get(usize::try_from(place).unwrap_or(usize::MAX))
+            .checked_sub(self.highest_index() as u64)?
+            .checked_sub(1)?;
+        self.gone.get(place as usize)
     }
 
-    /// Keeps an entry that was evicted, and drops one of those that were evicted long ago.
-    fn keep(&mut self, gone: Gone<A>) -> Result<(), AllocError> {
-        if self.gone.len() >= MOST_GONE {
-            self.gone.pop_back();
-        }
-        self.gone.push_front(gone)?;
-        Ok(())
-    }
-
-    /// Evicts the oldest entry at the item of this number, by the entry of this name or by a table size update.
-    fn evict_one(
-        &mut self,
-        alloc: A,
-        item: u64,
-        by: Option<&[u8]>,
-        out: &mut Vec<EntryChange<A>, A>,
-    ) -> Result<(), AllocError> {
-        let Some(entry) = self.entries.pop_back() else {
-            return Ok(());
-        };
-        self.size = self.size.saturating_sub(entry.size());
-        self.keep(gone_of(alloc, &entry, item, by)?)?;
-        out.push(EntryChange {
-            is_entered: false,
-            entry,
-        })?;
-        Ok(())
-    }
-
-    /// Evicts the oldest entries until that many octets more have space.
-    fn evict(
-        &mut self,
-        alloc: A,
-        octets: usize,
-        item: u64,
-        by: Option<&[u8]>,
-        out: &mut Vec<EntryChange<A>, A>,
-    ) -> Result<(), AllocError> {
-        for _entry in 0..self.entries.len() {
-            if self.size.saturating_add(octets) <= self.maximum {
-                return Ok(());
-            }
-            self.evict_one(alloc, item, by, out)?;
-        }
-        Ok(())
+    /// A block begins.
+    pub fn begin(&mut self)
+        ensures { self.new ≡ spec.begun self.old }
+    {
+        self.fields = 0;
+        self.updates = 0;
     }
 
     /// Enters a field; what has no space in the empty table only empties it (RFC 7541, 4.4), and then no index tells any
@@ -227,99 +271,141 @@ impl<A: Allocator + Copy> Followed<A> {
         &mut self,
         alloc: A,
         item: u64,
-        field: &SpelledField<'_>,
+        name: &[u8],
+        value: &[u8],
         out: &mut Vec<EntryChange<A>, A>,
-    ) -> Result<(), AllocError> {
-        let size = size_of(field.name, field.value);
-        self.evict(alloc, size, item, Some(field.name), out)?;
-        if size > self.maximum {
+    ) -> Result<(), AllocError>
+        ensures { OnOk result (spec.following self.new out.new.items ≡ spec.entering item (field name.now value.now) (spec.following self.old out.old.items)) }
+    {
+        let (size, max) = (size_of(name, value), self.table.max() as usize);
+        let by = EvictedBy {
+            item,
+            name: Some(name),
+        };
+        note_evicted(
+            alloc,
+            &self.table,
+            max.saturating_sub(size),
+            by,
+            &mut self.gone,
+            out,
+        )?;
+        let entry = ShownEntry::of(alloc, name, value)?;
+        self.table.insert(entry.name, entry.value);
+        if size > max {
             self.gone.clear();
             return Ok(());
         }
-        self.entries.push_front(entry_of(alloc, field)?)?;
-        self.size = self.size.saturating_add(size);
+        let entry = ShownEntry::of(alloc, name, value)?;
         out.push(EntryChange {
             is_entered: true,
-            entry: entry_of(alloc, field)?,
+            entry,
         })?;
         Ok(())
     }
 
-    /// Carries out the updates of the block that were not followed yet.
-    fn update(
+    /// Carries out a table size update; one above the limit, which the connection refuses, does nothing (RFC 7541, 6.3).
+    fn resize(
+        &mut self,
+        alloc: A,
+        item: u64,
+        max: u64,
+        out: &mut Vec<EntryChange<A>, A>,
+    ) -> Result<(), AllocError>
+        ensures { OnOk result (spec.following self.new out.new.items ≡ spec.resizing item max (spec.following self.old out.old.items)) }
+    {
+        if max > u64::from(self.table.limit()) {
+            return Ok(());
+        }
+        let by = EvictedBy { item, name: None };
+        note_evicted(alloc, &self.table, max as usize, by, &mut self.gone, out)?;
+        let _ = self.table.set_max(max);
+        Ok(())
+    }
+
+    /// Follows a field; what it does is listed or not.
+    fn follow_field(
+        &mut self,
+        alloc: A,
+        item: u64,
+        field: SpelledField<'_>,
+        is_listed: bool,
+        out: &mut Vec<EntryChange<A>, A>,
+    ) -> Result<(), AllocError>
+        ensures { OnOk result (spec.following self.new out.new.items ≡ spec.field_followed item is_listed (field_seen field.entry) (spec.following self.old out.old.items)) }
+    {
+        if !enters(field.spelling) {
+            return Ok(());
+        }
+        let before = out.len();
+        self.enter(alloc, item, field.name, field.value, out)?;
+        if !is_listed {
+            out.truncate(before);
+        }
+        Ok(())
+    }
+
+    /// Carries out the updates of a block that were not followed yet.
+    fn follow_updates(
         &mut self,
         alloc: A,
         item: u64,
         updates: &[u64],
         out: &mut Vec<EntryChange<A>, A>,
-    ) -> Result<(), AllocError> {
-        for maximum in updates.iter().skip(self.updates) {
-            self.maximum = usize::try_from(*maximum).unwrap_or(usize::MAX);
-            self.evict(alloc, 0, item, None, out)?;
+    ) -> Result<(), AllocError>
+        ensures { OnOk result (spec.following self.new out.new.items ≡ spec.updates_left item updates.now (spec.following self.old out.old.items)) }
+    {
+        for place in self.updates..updates.len() {
+            if let Some(max) = updates.get(place) {
+                self.resize(alloc, item, *max, out)?;
+            }
         }
-        self.updates = updates.len();
         Ok(())
     }
 
-    /// Carries out what a block has given since it was followed last, and lists what changed.
-    fn carry_out(
+    /// Follows the fields of a block that were not followed yet; what those at places below `listed` do is listed.
+    fn follow_fields(
         &mut self,
         alloc: A,
         item: u64,
-        block: ShownBlock<'_, A>,
-    ) -> Result<Vec<EntryChange<A>, A>, AllocError> {
-        let mut changes = Vec::new(alloc);
-        self.update(alloc, item, block.updates, &mut changes)?;
-        for place in self.fields..block.fields.len() {
-            if let Some(field) = block.fields.get(place) {
-                if is_entered(&field) {
-                    self.enter(alloc, item, &field, &mut changes)?;
-                }
+        fields: SpelledFields<'_, A>,
+        listed: usize,
+        out: &mut Vec<EntryChange<A>, A>,
+    ) -> Result<(), AllocError>
+        ensures { OnOk result (spec.following self.new out.new.items ≡ spec.fields_left item listed (fields_seen fields.entry).shown (spec.following self.old out.old.items)) }
+    {
+        for place in self.fields..fields.len() {
+            if let Some(field) = fields.get(place) {
+                self.follow_field(alloc, item, field, place < listed, out)?;
             }
         }
-        self.fields = block.fields.len();
-        Ok(changes)
+        Ok(())
     }
 
-    /// Follows what a block has given since it was followed last, and lists what changed. Where the connection's own
-    /// table has other entries after the item, it is not known any more what the table has.
+    /// Follows what a block has given since it was followed last, and lists what its fields that are shown do after what
+    /// was listed before. The item has this number, the block these fields with it, and the table this limit in octets.
+    ///
+    /// # Errors
+    ///
+    /// `AllocError` where memory was refused; the table should not be followed any further.
     pub fn follow(
         &mut self,
         alloc: A,
-        item: &Explained<'_>,
-        block: ShownBlock<'_, A>,
-    ) -> Result<Vec<EntryChange<A>, A>, AllocError> {
-        if !self.is_known {
-            return Ok(Vec::new(alloc));
-        }
-        let mut changes = self.carry_out(alloc, item.number, block)?;
-        if self.entries.len() != item.after.entries || self.size != item.after.table_size {
-            self.is_known = false;
-            changes.clear();
-        }
-        Ok(changes)
-    }
-
-    /// Follows a block up to an index that no entry has, or to a Huffman string, if an item is refused for one: what was
-    /// evicted before may be what the index names, and what was entered the name of the string. The connection has ended
-    /// then, and its table is as it was. Where not all fields are shown, it is not known any more what the table has.
-    pub fn follow_refused(
-        &mut self,
-        alloc: A,
-        item: &Explained<'_>,
-        block: ShownBlock<'_, A>,
-    ) -> Result<(), AllocError> {
-        match item.cause {
-            Some(Cause::IndexOutOfTables | Cause::HuffmanString) => {}
-            _ => return Ok(()),
-        }
-        if item.before.block.is_none() {
-            self.begin();
-        }
-        if self.is_known {
-            self.carry_out(alloc, item.number, block)?;
-            self.is_known = block.fields.is_whole();
-        }
+        item: u64,
+        limit: u32,
+        reader: &BlockReader<A>,
+        fields: &Collected<A>,
+        out: &mut Vec<EntryChange<A>, A>,
+    ) -> Result<(), AllocError>
+        ensures { OnOk result (spec.following self.new out.new.items ≡ spec.block_followed item limit reader.now fields.now.fields (spec.following self.old out.old.items)) }
+    {
+        let block = reader.block(fields);
+        let (all, listed) = (reader.all_fields(fields), block.fields.len());
+        self.table.set_limit(limit)?;
+        self.follow_updates(alloc, item, block.updates, out)?;
+        self.follow_fields(alloc, item, all, listed, out)?;
+        self.fields = all.len();
+        self.updates = block.updates.len();
         Ok(())
     }
 }
