@@ -3,7 +3,7 @@ use Rattle.std.proofs.Common.{◌≡◌, ◌≢◌, ℕ, List, ◌++◌, Option,
 use Rattle.h2_spec.specs.Hpack.Block.{Decoded, Fault, FieldsSoFar, Outcome, Progress, Unfinished, Faulty, ZeroIndex, Index, Integer, Huffman, LateUpdate, LargeUpdate, MissingUpdate, carried_on, decoded, progress_with}
 use Rattle.h2_spec.specs.Hpack.DynamicTable.{Table}
 use Rattle.h2_fields.specs.Applied.{IsStopped}
-use Rattle.h2_fields.specs.Blocks.{faulted, outcome_of}
+use Rattle.h2_fields.specs.Blocks.{faulted}
 use Rattle.h2_hpack_instruction.specs.Faults.{fault_of}
 use Rattle.h2_hpack_instruction.specs.declared.fault.BlockFault.{BlockFault}
 use Rattle.h2_hpack_instruction.specs.declared.fault.BlockFault.TheVariants as faults

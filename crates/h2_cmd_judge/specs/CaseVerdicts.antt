@@ -1,5 +1,5 @@
 -- The verdict on a server in a case: the worst of those beside its items, or broken by what belongs to no item.
-use Rattle.std.specs.Prelude.{ℕ, ◌==◌, ◌&&◌, ◌||◌, Bool, not, nat_lt, if◌then◌else◌, is_some, List, [], ◌∷◌, map, Option, Some, None}
+use Rattle.std.specs.Prelude.{ℕ, ◌==◌, ◌&&◌, ◌||◌, not, nat_lt, if◌then◌else◌, is_some, List, [], ◌∷◌, map, Option, Some, None}
 use Rattle.std.specs.Option.{option_or}
 use Rattle.h2_spec.specs.declared.conforming.Observed.{Observed}
 use Rattle.h2_cmd_judge.specs.Events.{shown_by}
