@@ -146,10 +146,8 @@ fn add_cases<F: Files>(
             lines: first_lines(rest, length),
             number,
         };
-        match add_case(alloc, common, files, case, text) {
-            Ok(kept) => all = note(file, &kept, reasons) && all,
-            Err(error) => return Err(error),
-        }
+        let kept = add_case(alloc, common, files, case, text)?;
+        all = note(file, &kept, reasons) && all;
         first += length;
     }
     Ok(all)
@@ -179,10 +177,8 @@ fn add_file_lines<F: Files>(
     ensures same_files { F.file files.new ≡ F.file files.old }
 {
     let preamble = first_lines(lines, preamble_length(lines));
-    match add_lines(preamble, text) {
-        Ok(()) => add_cases(alloc, common, files, file, lines, text, reasons),
-        Err(error) => Err(error),
-    }
+    add_lines(preamble, text)?;
+    add_cases(alloc, common, files, file, lines, text, reasons)
 }
 
 /// The text of a file whose lines are written anew. `AllocError` where memory is refused.
@@ -199,26 +195,12 @@ fn text_anew<F: Files>(
     ensures same_files { F.file files.new ≡ F.file files.old }
 {
     let mut text = Vec::new(alloc);
-    let lines = match lines_in(alloc, octets) {
-        Ok(lines) => lines,
-        Err(error) => return Err(error),
-    };
-    match add_file_lines(
-        alloc,
-        common,
-        files,
-        file,
-        lines.as_slice(),
-        &mut text,
-        reasons,
-    ) {
-        Ok(is_whole) => {
-            // The last line has no line feed.
-            text.truncate(text.len().saturating_sub(1));
-            Ok(Anew { text, is_whole })
-        }
-        Err(error) => Err(error),
-    }
+    let lines = lines_in(alloc, octets)?;
+    let lines = lines.as_slice();
+    let is_whole = add_file_lines(alloc, common, files, file, lines, &mut text, reasons)?;
+    // The last line has no line feed.
+    text.truncate(text.len().saturating_sub(1));
+    Ok(Anew { text, is_whole })
 }
 
 /// Says why a file was not read.
