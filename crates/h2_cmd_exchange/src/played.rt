@@ -221,13 +221,9 @@ impl Played {
     {
         self.count();
         let done = link.write_all(piece);
-        match self.listen(alloc, link, asked, millis) {
-            Ok(()) => {
-                self.close_if(done);
-                Ok(())
-            }
-            Err(error) => Err(error),
-        }
+        self.listen(alloc, link, asked, millis)?;
+        self.close_if(done);
+        Ok(())
     }
 
     /// Sends a piece, where the connection is open, and reads what comes after it.
@@ -242,10 +238,7 @@ impl Played {
         ensures { OnOk result (Sends asked piece.now self.old (L.log link.old) self.new (L.log link.new)) }
     {
         if self.is_open() {
-            match self.send_open(alloc, link, piece, asked, millis) {
-                Ok(()) => Ok(()),
-                Err(error) => Err(error),
-            }
+            self.send_open(alloc, link, piece, asked, millis)
         } else {
             Ok(())
         }
