@@ -221,9 +221,13 @@ impl Played {
     {
         self.count();
         let done = link.write_all(piece);
-        self.listen(alloc, link, asked, millis)?;
-        self.close_if(done);
-        Ok(())
+        match self.listen(alloc, link, asked, millis) {
+            Ok(()) => {
+                self.close_if(done);
+                Ok(())
+            }
+            Err(error) => Err(error),
+        }
     }
 
     /// Sends a piece, where the connection is open, and reads what comes after it.
@@ -238,7 +242,10 @@ impl Played {
         ensures { OnOk result (Sends asked piece.now self.old (L.log link.old) self.new (L.log link.new)) }
     {
         if self.is_open() {
-            self.send_open(alloc, link, piece, asked, millis)
+            match self.send_open(alloc, link, piece, asked, millis) {
+                Ok(()) => Ok(()),
+                Err(error) => Err(error),
+            }
         } else {
             Ok(())
         }

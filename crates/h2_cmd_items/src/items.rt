@@ -78,16 +78,18 @@ impl Taking {
     fn new(alloc: Global) -> Result<Taking, AllocError>
         ensures { IfOk result (λ t. (t.sent.items ≡ []) × (along_of t ≡ no_item)) }
     {
-        let frames = ServerFrames::new(alloc)?;
-        Ok(Taking {
-            sent: Vec::new(alloc),
-            own: Vec::new(alloc),
-            frames,
-            opens: false,
-            low: 0,
-            is_post: false,
-            run: Run::new(alloc),
-        })
+        match ServerFrames::new(alloc) {
+            Ok(frames) => Ok(Taking {
+                sent: Vec::new(alloc),
+                own: Vec::new(alloc),
+                frames,
+                opens: false,
+                low: 0,
+                is_post: false,
+                run: Run::new(alloc),
+            }),
+            Err(error) => Err(error),
+        }
     }
 
     /// What a judge has to know of an item.
@@ -104,7 +106,10 @@ impl Taking {
     fn add(&mut self, sent: Sent, octets: &[u8]) -> Result<(), AllocError>
         ensures { OnOk result (AddsSent self.old.sent.items (along_of self.old) sent octets.now self.new.sent.items (along_of self.new)) }
     {
-        self.frames.read_on(octets, sent.number, &mut self.own)?;
+        match self.frames.read_on(octets, sent.number, &mut self.own) {
+            Ok(_) => {}
+            Err(error) => return Err(error),
+        }
         self.opens = sent.opens;
         self.low = sent.low;
         match self.sent.push(sent) {
