@@ -146,8 +146,10 @@ fn add_cases<F: Files>(
             lines: first_lines(rest, length),
             number,
         };
-        let kept = add_case(alloc, common, files, case, text)?;
-        all = note(file, &kept, reasons) && all;
+        match add_case(alloc, common, files, case, text) {
+            Ok(kept) => all = note(file, &kept, reasons) && all,
+            Err(error) => return Err(error),
+        }
         first += length;
     }
     Ok(all)
@@ -177,8 +179,10 @@ fn add_file_lines<F: Files>(
     ensures same_files { F.file files.new ≡ F.file files.old }
 {
     let preamble = first_lines(lines, preamble_length(lines));
-    add_lines(preamble, text)?;
-    add_cases(alloc, common, files, file, lines, text, reasons)
+    match add_lines(preamble, text) {
+        Ok(()) => add_cases(alloc, common, files, file, lines, text, reasons),
+        Err(error) => Err(error),
+    }
 }
 
 /// The text of a file whose lines are written anew. `AllocError` where memory is refused.
@@ -195,12 +199,26 @@ fn text_anew<F: Files>(
     ensures same_files { F.file files.new ≡ F.file files.old }
 {
     let mut text = Vec::new(alloc);
-    let lines = lines_in(alloc, octets)?;
-    let lines = lines.as_slice();
-    let is_whole = add_file_lines(alloc, common, files, file, lines, &mut text, reasons)?;
-    // The last line has no line feed.
-    text.truncate(text.len().saturating_sub(1));
-    Ok(Anew { text, is_whole })
+    let lines = match lines_in(alloc, octets) {
+        Ok(lines) => lines,
+        Err(error) => return Err(error),
+    };
+    match add_file_lines(
+        alloc,
+        common,
+        files,
+        file,
+        lines.as_slice(),
+        &mut text,
+        reasons,
+    ) {
+        Ok(is_whole) => {
+            // The last line has no line feed.
+            text.truncate(text.len().saturating_sub(1));
+            Ok(Anew { text, is_whole })
+        }
+        Err(error) => Err(error),
+    }
 }
 
 /// Says why a file was not read.

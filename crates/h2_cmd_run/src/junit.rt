@@ -55,10 +55,12 @@ fn suites_of<'n, F: Files>(
 {
     let mut suites = Vec::new(alloc);
     for file in names {
-        let suite = suite_of(alloc, common, files, file, tally)?;
-        match suites.push(suite) {
-            Ok(()) => {}
-            Err(_) => return Err(AllocError),
+        match suite_of(alloc, common, files, file, tally) {
+            Ok(suite) => match suites.push(suite) {
+                Ok(()) => {}
+                Err(_) => return Err(AllocError),
+            },
+            Err(error) => return Err(error),
         }
     }
     Ok(suites)
