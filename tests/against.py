@@ -242,6 +242,22 @@ def recorded(program, folder, case):
         expect(f"a recorded server {title}", f"# same {same}," in output and status == 1 - same, (status, output, errors))
 
 
+# A field of 60,000 octets that is put into the header table, then a block that refers to it 400 times.
+REPEATED = script.octets(f'HEADERS 04 1 hu65536,a"x"="{"a" * 60_000}"') + script.octets(f"HEADERS 04 1 h{','.join(['i62'] * 400)}")
+
+
+def repeated_field(program, folder, case):
+    """A field that a server repeats is held once: it takes 24 MB more else. Nothing that takes more runs before this."""
+    with open(f"{folder}/client", "wb") as file:
+        file.write(script.PREFACE + SETTINGS + script.octets("PING 00 0 x0102030405060708"))
+    with open(f"{folder}/server", "wb") as file:
+        file.write(SETTINGS + ACK + REPEATED)
+    output, errors, status = check(program, "--judge", f"{folder}/client", f"{folder}/server", case)
+    expect("a server that repeats a field", "unreadable-block" in output and status == 1, (status, output, errors))
+    most = resource.getrusage(resource.RUSAGE_CHILDREN).ru_maxrss // 1024
+    expect("a field that a server repeats is held once", most < 24, f"{most} MiB")
+
+
 # PING on stream 1 is PROTOCOL_ERROR (RFC 9113, 6.7): what the server does, the last word of the line of TAP, and what JUnit XML has in the case.
 VERDICTS = [
     ("the same", "GOAWAY 00 0 x0000000000000001", "ok 1", None),
@@ -300,6 +316,7 @@ def main(program):
         case = f"{folder}/ping.h2"
         with open(case, "w", encoding="utf-8") as file:
             file.write(CASE)
+        repeated_field(program, folder, case)
         recorded(program, folder, case)
         as_xml(program, folder)
         aimed(program, folder)

@@ -103,13 +103,10 @@ impl Taking {
     }
 
     /// Adds an item, for which these octets were sent.
-    fn add(&mut self, alloc: Global, sent: Sent, octets: &[u8]) -> Result<(), AllocError>
+    fn add(&mut self, sent: Sent, octets: &[u8]) -> Result<(), AllocError>
         ensures { OnOk result (AddsSent self.old.sent.items (along_of self.old) sent octets.now self.new.sent.items (along_of self.new)) }
     {
-        match self
-            .frames
-            .read_on(alloc, octets, sent.number, &mut self.own)
-        {
+        match self.frames.read_on(octets, sent.number, &mut self.own) {
             Ok(_) => {}
             Err(error) => return Err(error),
         }
@@ -172,7 +169,7 @@ impl Taking {
         let block = explainer.block(conn);
         let sent = self.sent_with(&item, &account, block);
         self.is_post = either(self.is_post, is_post(block.fields));
-        match self.add(alloc, sent, answers) {
+        match self.add(sent, answers) {
             Ok(()) => Ok(Some(used)),
             Err(error) => Err(error),
         }

@@ -1,27 +1,45 @@
--- A field block as its decoder has it.
-use Rattle.std.proofs.Common.{◌≡◌, ◌≢◌, ℕ, List, Option, Some, None, Ok, Err, refl, ap, sym, ◌∙◌}
-use Rattle.std.specs.Prelude.{option_map}
-use Rattle.h2_spec.specs.Hpack.Block.{Decoded, Outcome, Unfinished, Faulty, carried_on}
+-- A field block as it is kept.
+use Rattle.std.proofs.Common.{◌≡◌, ◌≢◌, ℕ, List, ◌++◌, Option, Some, None, refl, ap, sym, ◌∙◌}
+use Rattle.h2_spec.specs.Hpack.Block.{Decoded, Fault, FieldsSoFar, Outcome, Progress, Unfinished, Faulty, ZeroIndex, Index, Integer, Huffman, LateUpdate, LargeUpdate, MissingUpdate, carried_on, decoded, progress_with}
 use Rattle.h2_spec.specs.Hpack.DynamicTable.{Table}
-use Rattle.h2_fields.specs.Blocks.{BlockSoFar, decoded_with, finish_of}
-use Rattle.h2_cmd_judge.specs.declared.frames.OpenBlock.{OpenBlock}
-use Rattle.h2_cmd_judge.specs.ServerFrames.{block_event, block_seen, event_by}
+use Rattle.h2_fields.specs.Applied.{IsStopped}
+use Rattle.h2_fields.specs.Blocks.{faulted}
+use Rattle.h2_hpack_instruction.specs.Faults.{fault_of}
+use Rattle.h2_hpack_instruction.specs.declared.fault.BlockFault.{BlockFault}
+use Rattle.h2_hpack_instruction.specs.declared.fault.BlockFault.TheVariants as faults
+use Rattle.h2_cmd_judge.specs.ServerFrames.{block_seen, ends_by, faulty}
 
--- what a block is by the answer of its decoder at the end
-pub event-seen : (table : Table) (block : OpenBlock) (b : BlockSoFar) → event_by block b.fields (finish_of b.due b.outcome) ≡ block_event block (block_seen table b)
-event-seen table block b = by b.outcome
-  where
-    by : (o : Option Outcome) → event_by block b.fields (finish_of b.due o) ≡ block_event block (block_seen table (record b { outcome = o }))
-    by (Some o) = refl
-    by None = refl
+-- one that has a fault stays
+pub carried-faulty : (limit : ℕ) (p : Progress) (o : Option Outcome) (piece : List ℕ) → carried_on limit (record { progress = p; outcome = faulty o }) piece ≡ record { progress = p; outcome = faulty o }
+unfolding carried_on
+carried-faulty limit p (Some (Faulty fault)) piece = refl
+carried-faulty limit p (Some (Unfinished rest)) piece = refl
+carried-faulty limit p None piece = refl
 
--- a fragment more, where no memory was refused
-pub carried-seen : (limit : ℕ) (table after : Table) (b c : BlockSoFar) (piece : List ℕ) → c.outcome ≢ None → decoded_with after c ≡ option_map (λ d. carried_on limit d piece) (decoded_with table b) →
-    block_seen after c ≡ carried_on limit (block_seen table b) piece
-carried-seen limit table after b c piece some e = by c.outcome b.outcome refl refl some e
-  where
-    by : (o q : Option Outcome) → c.outcome ≡ o → b.outcome ≡ q → o ≢ None → decoded_with after (record c { outcome = o }) ≡ option_map (λ d. carried_on limit d piece) (decoded_with table (record b { outcome = q })) →
-        block_seen after (record c { outcome = o }) ≡ carried_on limit (block_seen table (record b { outcome = q })) piece
-    by (Some o) (Some q) eo eq some e = cc
-    by (Some o) None eo eq some e = absurd cc
-    by None q eo eq some e = absurd (some refl)
+-- one that has none is decoded on
+pub carried-open : (limit : ℕ) (table : Table) (fields : FieldsSoFar) (rest piece : List ℕ) → decoded limit (progress_with table fields) (rest ++ piece) ≡ carried_on limit (block_seen table fields rest None) piece
+unfolding carried_on
+carried-open limit table fields rest piece = refl
+
+-- a fault is kept as the definitions name it
+named : (rest : List ℕ) (x : Fault) → ends_by rest (Some (fault_of x)) ≡ Faulty x
+named rest ZeroIndex = refl
+named rest Index = refl
+named rest Integer = refl
+named rest Huffman = refl
+named rest LateUpdate = refl
+named rest LargeUpdate = refl
+named rest MissingUpdate = refl
+
+kept : (rest : List ℕ) (o : Outcome) (f : BlockFault) → faulted o ≡ Some f → ends_by rest (Some f) ≡ o
+kept rest (Unfinished r) f e = absurd cc
+kept rest (Faulty x) f e = let same : f ≡ fault_of x = cc in ap (λ g. ends_by rest (Some g)) same ∙ named rest x
+
+-- a block that is decoded up to a fault, with the fault
+pub stopped-seen : (limit : ℕ) (p : Progress) (b : List ℕ) (table : Table) (fields : FieldsSoFar) (rest : List ℕ) (f : BlockFault) → IsStopped limit p b (progress_with table fields) f → f ≢ faults.NoMemory →
+    block_seen table fields rest (Some f) ≡ decoded limit p b
+stopped-seen limit p b table fields rest f s other =
+    let exact = s.exact other in
+    let d = decoded limit p b in
+    let seen = λ (q : Progress) (o : Outcome). let x : Decoded = record { progress = q; outcome = o } in x in
+    ap (λ q. seen q (ends_by rest (Some f))) (sym exact.0) ∙ ap (seen d.progress) (kept rest d.outcome f exact.1)

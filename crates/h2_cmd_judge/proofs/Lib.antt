@@ -1,2 +1,3 @@
 mod BlockLaws
 mod FrameLaws
+mod ListLaws

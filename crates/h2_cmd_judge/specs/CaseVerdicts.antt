@@ -1,7 +1,8 @@
 -- The verdict on a server in a case: the worst of those beside its items, or broken by what belongs to no item.
-use Rattle.std.specs.Prelude.{ℕ, ◌==◌, ◌&&◌, ◌||◌, Bool, not, nat_lt, if◌then◌else◌, is_some, List, [], ◌∷◌, map, Option, Some, None}
+use Rattle.std.specs.Prelude.{ℕ, ◌==◌, ◌&&◌, ◌||◌, not, nat_lt, if◌then◌else◌, is_some, List, [], ◌∷◌, map, Option, Some, None}
+use Rattle.std.specs.Option.{option_or}
 use Rattle.h2_spec.specs.declared.conforming.Observed.{Observed}
-use Rattle.h2_cmd_judge.specs.Events.{or_else, shown_by}
+use Rattle.h2_cmd_judge.specs.Events.{shown_by}
 use Rattle.h2_cmd_judge.specs.Judges.{error_of, judged, lawful_reaction, reaction_with, softened, worse}
 use Rattle.h2_cmd_judge.specs.declared.case.Due.{Due}
 use Rattle.h2_cmd_judge.specs.declared.case.Finding.{Finding}
@@ -39,7 +40,7 @@ stray_in highest (Unreadable stream) = None
 -- the first one
 abbrev pub stray_of : (highest : ℕ) → List Seen → Option ℕ
 stray_of highest [] = None
-stray_of highest (e ∷ es) = or_else (stray_in highest e.event) (stray_of highest es)
+stray_of highest (e ∷ es) = option_or (stray_in highest e.event) (stray_of highest es)
 
 -- a field block that can't be read (4.3)
 abbrev pub unreadable_in : Event → Option ℕ
@@ -55,7 +56,7 @@ unreadable_in (Unreadable stream) = Some stream
 -- the first one
 abbrev pub unreadable_of : List Seen → Option ℕ
 unreadable_of [] = None
-unreadable_of (e ∷ es) = or_else (unreadable_in e.event) (unreadable_of es)
+unreadable_of (e ∷ es) = option_or (unreadable_in e.event) (unreadable_of es)
 
 -- ---- beside an item
 

@@ -1,5 +1,7 @@
 -- What a server is seen to do beside an item that a client sends: what came before it, and what came after it.
 use Rattle.std.specs.Prelude.{ℕ, ◌+◌, ◌-◌, ◌^◌, min, ◌==◌, ◌&&◌, ◌||◌, Bool, true, false, not, List, [], ◌∷◌, nat_le, nat_lt, if◌then◌else◌, Option, Some, None}
+use Rattle.std.specs.Bool.{then_some}
+use Rattle.std.specs.Option.{option_or}
 use Rattle.std.specs.Str.{bytes_eq}
 use Rattle.h2_cmd_judge.specs.declared.event.Event.{Event}
 use Rattle.h2_cmd_judge.specs.declared.event.Event.TheVariants.{Goaway, Reset, Answered, Ended, Acknowledged, Pong, Credit, Unreadable}
@@ -14,26 +16,6 @@ plus a b = min (a + b) (2 ^ 64 - 1)
 -- the same, where the more counts
 abbrev pub added : ℕ → ℕ → Bool → ℕ
 added a b counts = if counts then plus a b else a
-
--- a value, or else another
-abbrev pub or_else : Option ℕ → Option ℕ → Option ℕ
-or_else (Some a) other = Some a
-or_else None other = other
-
--- the same of two values
-abbrev pub or_other : Option (ℕ × ℕ) → Option (ℕ × ℕ) → Option (ℕ × ℕ)
-or_other (Some a) other = Some a
-or_other None other = other
-
--- a value where something holds
-abbrev pub if_so : Bool → ℕ → Option ℕ
-if_so true a = Some a
-if_so false a = None
-
--- the same of two values
-abbrev pub both_if : Bool → (a b : ℕ) → Option (ℕ × ℕ)
-both_if true a b = Some (a, b)
-both_if false a b = None
 
 -- whether an event came before an item
 abbrev pub is_before : Item → ℕ → Bool
@@ -59,7 +41,7 @@ nothing = record { goaway = None; reset = None; elsewhere = None; answered = Non
 -- with GOAWAY: NO_ERROR is no error (RFC 9113, 6.8)
 abbrev pub with_goaway : Item → Shown → (after code : ℕ) → Shown
 with_goaway item s after code = record s {
-  goaway = or_else s.goaway (if_so (is_behind item after && not (code == 0)) code);
+  goaway = option_or s.goaway (then_some (is_behind item after && not (code == 0)) code);
   was_over = s.was_over || (is_before item after && not (code == 0));
   is_over = s.is_over || (nat_le item.low after && not (code == 0));
 }
@@ -80,8 +62,8 @@ with_end item s after stream = record s {
 -- of the answer, only says that the rest of the request is not needed (8.1)
 abbrev pub with_reset : Item → Shown → (after stream code : ℕ) → Shown
 with_reset item s after stream code = record s {
-  reset = or_else s.reset (if_so (is_behind item after && (is_own item stream && (not (code == 0) && not s.ended_behind))) code);
-  elsewhere = or_other s.elsewhere (both_if (is_elsewhere item after stream && not (code == 0)) stream code);
+  reset = option_or s.reset (then_some (is_behind item after && (is_own item stream && (not (code == 0) && not s.ended_behind))) code);
+  elsewhere = option_or s.elsewhere (then_some (is_elsewhere item after stream && not (code == 0)) (stream, code));
   had_reset = s.had_reset || (is_before item after && is_own item stream);
   ends = ends_with item s.ends after;
 }
@@ -94,7 +76,7 @@ with_end_if item s after stream false = s
 -- with an answer, which may have the end of the stream (8.1)
 abbrev pub with_answer : Item → Shown → (after stream status : ℕ) → Bool → Shown
 with_answer item s after stream status ends = with_end_if item (record s {
-  answered = or_else s.answered (if_so (is_behind item after && is_own item stream) status);
+  answered = option_or s.answered (then_some (is_behind item after && is_own item stream) status);
   answered_before = s.answered_before || is_own item stream;
 }) after stream ends
 

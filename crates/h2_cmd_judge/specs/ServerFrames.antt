@@ -1,16 +1,17 @@
 -- The events of the octets that a server sends: its frames one after another, with the fields of its answers (RFC 9113, 4,
 -- 6 and 8.1).
-use Rattle.std.specs.Prelude.{ℕ, zero, suc, ◌+◌, ◌*◌, ◌-◌, ◌&&◌, Bool, true, false, List, [], ◌∷◌, ◌++◌, codes, length, nat_le, if◌then◌else◌, Option, Some, None, Result, Ok, Err}
+use Rattle.std.specs.Prelude.{ℕ, zero, suc, ◌+◌, ◌*◌, ◌-◌, ◌&&◌, Bool, false, List, [], ◌∷◌, ◌++◌, codes, length, nat_le, not, ◌==◌, if◌then◌else◌, Option, Some, None, Result, Ok, Err}
+use Rattle.std.specs.Bool.{then_some}
 use Rattle.std.specs.Str.{bytes_eq}
 use Rattle.h2_spec.specs.Frames.FrameType.{ACK, END_HEADERS, END_STREAM, has}
 use Rattle.h2_spec.specs.Frames.Payload.{Part, part_of, OfData, OfHeaders, OfPriority, OfRstStream, OfSettings, OfSettingsAck, OfPushPromise, OfPing, OfGoaway, OfWindowUpdate, OfContinuation, OfUnknown}
 use Rattle.h2_spec.specs.declared.causes.Cause.{Cause}
 use Rattle.h2_spec.specs.declared.frames.Head.{Head}
 use Rattle.h2_explain_words.specs.Sent.{FirstFrame, first_frame}
-use Rattle.h2_spec.specs.Hpack.Block.{Decoded, Integer, Unfinished, Faulty, carried_on, start}
+use Rattle.h2_spec.specs.Hpack.Block.{Decoded, FieldsSoFar, Integer, Outcome, Unfinished, Faulty, carried_on, progress_with, start}
 use Rattle.h2_spec.specs.Hpack.DynamicTable.{Table}
 use Rattle.h2_spec.specs.Hpack.Field.{Field}
-use Rattle.h2_fields.specs.Blocks.{BlockSoFar, decoded_with, finish_of}
+use Rattle.h2_fields.specs.Blocks.{outcome_of}
 use Rattle.h2_hpack_instruction.specs.declared.fault.BlockFault.{BlockFault}
 use Rattle.h2_cmd_judge.specs.declared.event.Event.{Event}
 use Rattle.h2_cmd_judge.specs.declared.event.Event.TheVariants.{Goaway, Reset, Answered, Ended, Acknowledged, Pong, Credit, Unreadable}
@@ -28,9 +29,20 @@ pub record ServerFrames : Type 0 where
 abbrev pub unread : Table → Decoded
 unread table = record { progress = start table false; outcome = Unfinished [] }
 
--- a block as its decoder has it; one for which memory was refused is not read any further, as a faulty one
-abbrev pub block_seen : Table → BlockSoFar → Decoded
-block_seen table b = elim (decoded_with table b) [ Some d ↦ d | None ↦ record { progress = start table false; outcome = Faulty Integer } ]
+-- how a block ends so far that has a fault; refused memory and the end of a block are not among those that are kept
+abbrev pub faulty : Option Outcome → Outcome
+faulty (Some (Faulty fault)) = Faulty fault
+faulty (Some (Unfinished rest)) = Faulty Integer
+faulty None = Faulty Integer
+
+-- how a block ends so far, by the octets that are left and the fault
+abbrev pub ends_by : List ℕ → Option BlockFault → Outcome
+ends_by rest None = Unfinished rest
+ends_by rest (Some fault) = faulty (outcome_of rest (Some fault))
+
+-- a block as it is kept
+abbrev pub block_seen : Table → FieldsSoFar → (rest : List ℕ) → Option BlockFault → Decoded
+block_seen table fields rest fault = record { progress = progress_with table fields; outcome = ends_by rest fault }
 
 -- nothing is read; a server may make its table, of 4,096 octets, as large as 65,536 (RFC 7541, 4.2)
 abbrev pub unread_frames : ServerFrames
@@ -59,24 +71,18 @@ status_of (f ∷ fs) = if bytes_eq f.name (codes ":status") then status_number f
 
 -- ---- the end of a block
 
--- an event, where it is one
-abbrev pub event_if : Bool → Event → Option Event
-event_if true event = Some event
-event_if false event = None
-
 -- what the fields of a block are: an answer, an informational response, or trailers
 abbrev pub answer_event : OpenBlock → Option ℕ → Option Event
-answer_event block (Some status) = event_if (nat_le 200 status) (Answered block.stream status block.ends)
+answer_event block (Some status) = then_some (nat_le 200 status) (Answered block.stream status block.ends)
 answer_event block None = if block.ends then Some (Ended block.stream) else Some (Unreadable block.stream)
 
--- what a block is that has ended, by how its decoding ends
-abbrev pub event_by : OpenBlock → List Field → Result (Unit {0}) BlockFault → Option Event
-event_by block fields (Ok end) = answer_event block (status_of fields)
-event_by block fields (Err fault) = Some (Unreadable block.stream)
+-- whether a block can end so: after a whole instruction, and no size update is due
+abbrev pub is_whole : Decoded → Bool
+is_whole d = elim d.outcome [ Unfinished rest ↦ length rest == 0 && not d.progress.due | Faulty fault ↦ false ]
 
 -- what a block is that has ended
 abbrev pub block_event : OpenBlock → Decoded → Option Event
-block_event block d = event_by block d.progress.fields (finish_of d.progress.due (Some d.outcome))
+block_event block d = if is_whole d then answer_event block (status_of d.progress.fields) else Some (Unreadable block.stream)
 
 -- a fragment is read; with the last one the block ends
 abbrev pub with_fragment : ServerFrames → OpenBlock → (flags : ℕ) → List ℕ → Taken
@@ -110,14 +116,14 @@ continued s None flags fragment = stays s None
 
 -- after a frame with this payload
 abbrev pub with_part : ServerFrames → Head → Part → Taken
-with_part s h (OfData d) = stays s (event_if (has h.flags END_STREAM) (Ended h.stream))
+with_part s h (OfData d) = stays s (then_some (has h.flags END_STREAM) (Ended h.stream))
 with_part s h (OfHeaders p) = opened_by s h p.fragment
 with_part s h OfPriority = stays s None
 with_part s h (OfRstStream code) = stays s (Some (Reset h.stream code))
 with_part s h (OfSettings pairs) = stays s None
 with_part s h OfSettingsAck = stays s (Some Acknowledged)
 with_part s h OfPushPromise = stays s None
-with_part s h (OfPing octets) = stays s (event_if (has h.flags ACK) (Pong octets))
+with_part s h (OfPing octets) = stays s (then_some (has h.flags ACK) (Pong octets))
 with_part s h (OfGoaway last code) = stays s (Some (Goaway code))
 with_part s h (OfWindowUpdate octets) = stays s (Some (Credit h.stream octets))
 with_part s h (OfContinuation fragment) = continued s s.opened h.flags fragment

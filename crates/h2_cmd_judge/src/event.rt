@@ -3,7 +3,7 @@
 
 ghost use Rattle.std.specs.Prelude.{◌≡◌};
 ghost use Rattle.std.specs.Str.{bytes_eq};
-ghost use Rattle.h2_cmd_judge.specs.Events.{added, both_if, ends_with, if_so, is_before, is_behind, is_elsewhere, is_own, is_ping_of, or_else, or_other, shown_by, with_acknowledgement, with_answer, with_credit, with_end, with_end_if, with_event, with_goaway, with_pong, with_reset};
+ghost use Rattle.h2_cmd_judge.specs.Events.{added, ends_with, is_before, is_behind, is_elsewhere, is_own, is_ping_of, shown_by, with_acknowledgement, with_answer, with_credit, with_end, with_end_if, with_event, with_goaway, with_pong, with_reset};
 
 use h2_spec::conforming::Conforming;
 
@@ -120,40 +120,6 @@ pub struct Shown {
     pub stream_credit: u64,
 }
 
-/// A value, or else another.
-fn or_else(one: Option<u32>, other: Option<u32>) -> Option<u32>
-    ensures { result ≡ or_else one other }
-{
-    match one {
-        Some(value) => Some(value),
-        None => other,
-    }
-}
-
-/// The same of two values.
-fn or_other(one: Option<(u32, u32)>, other: Option<(u32, u32)>) -> Option<(u32, u32)>
-    ensures { result ≡ or_other one other }
-{
-    match one {
-        Some(values) => Some(values),
-        None => other,
-    }
-}
-
-/// A value where something holds.
-fn if_so(holds: bool, value: u32) -> Option<u32>
-    ensures { result ≡ if_so holds value }
-{
-    if holds { Some(value) } else { None }
-}
-
-/// Two values where something holds.
-fn both_if(holds: bool, one: u32, other: u32) -> Option<(u32, u32)>
-    ensures { result ≡ both_if holds one other }
-{
-    if holds { Some((one, other)) } else { None }
-}
-
 /// Whether octets are those of a PING.
 fn is_ping_of(own: Option<[u8; 8]>, octets: [u8; 8]) -> bool
     ensures { result ≡ is_ping_of own octets }
@@ -235,7 +201,9 @@ impl Shown {
     {
         let is_error = code != 0;
         Shown {
-            goaway: or_else(self.goaway, if_so(item.is_behind(after) && is_error, code)),
+            goaway: self
+                .goaway
+                .or((item.is_behind(after) && is_error).then_some(code)),
             was_over: self.was_over || item.is_before(after) && is_error,
             is_over: self.is_over || item.low <= after && is_error,
             ..self
@@ -264,8 +232,8 @@ impl Shown {
         let is_error = item.is_behind(after) && (is_own && (code != 0 && !self.ended_behind));
         let is_elsewhere = item.is_elsewhere(after, stream) && code != 0;
         Shown {
-            reset: or_else(self.reset, if_so(is_error, code)),
-            elsewhere: or_other(self.elsewhere, both_if(is_elsewhere, stream, code)),
+            reset: self.reset.or(is_error.then_some(code)),
+            elsewhere: self.elsewhere.or(is_elsewhere.then_some((stream, code))),
             had_reset: self.had_reset || item.is_before(after) && is_own,
             ends: item.ends_with(self.ends, after),
             ..self
@@ -278,10 +246,9 @@ impl Shown {
     {
         let is_own = item.is_own(stream);
         let shown = Shown {
-            answered: or_else(
-                self.answered,
-                if_so(item.is_behind(after) && is_own, status),
-            ),
+            answered: self
+                .answered
+                .or((item.is_behind(after) && is_own).then_some(status)),
             answered_before: self.answered_before || is_own,
             ..self
         };

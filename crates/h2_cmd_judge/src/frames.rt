@@ -1,19 +1,23 @@
 //! The events of the octets that a server sends. Definitions: `specs/ServerFrames.antt`.
 
-ghost use Rattle.std.specs.Prelude.{◌≡◌, ◌++◌, ℕ, List, IfOk, OnOk};
+ghost use Rattle.std.specs.Prelude.{◌≡◌, ◌++◌, ℕ, List, IfErr, IfOk, OnOk};
+ghost use Rattle.h2_fields.specs.Applied.{IsStopped};
 ghost use Rattle.h2_frame.specs.Parts.{part_seen};
-ghost use Rattle.h2_spec.specs.Hpack.DynamicTable.{Table};
-ghost use Rattle.h2_cmd_judge.specs.ServerFrames.{answer_event, begin, block_event, block_of, block_seen, continued, event_if, is_digit, opened_by, read_on, stamped, status_number, status_of, unread_frames, with_fragment, with_frame, with_part, with_taken};
+ghost use Rattle.h2_spec.specs.Hpack.Block.{Unfinished, carried_on, decoded, progress_with};
+ghost use Rattle.h2_cmd_judge.specs.ServerFrames.{answer_event, begin, block_event, block_of, continued, is_digit, is_whole, opened_by, read_on, stamped, status_number, status_of, unread_frames, with_fragment, with_frame, with_part, with_taken};
 
 use crate::event::{Event, Seen};
 use h2_explain_words::sent::next_frame;
-use h2_fields::block::BlockDecoder;
-use h2_fields::{BlockFault, Field};
+use h2_fields::BlockFault;
+use h2_fields::collected::Collected;
+use h2_fields::fragment::decode_piece;
+use h2_fields::rest::{Rest, RestChange};
 use h2_frame::{FrameRef, Head, Part, part_of};
 use h2_spec::frames::{ACK, END_HEADERS, END_STREAM};
-use h2_table::DynTable;
+use h2_table::{DynTable, Edit};
 use std::alloc::{AllocError, Global};
 use std::marker::Model;
+use std::mem;
 
 /// A field block that is open.
 #[derive(Clone, Copy)]
@@ -29,8 +33,12 @@ pub struct OpenBlock {
 pub struct ServerFrames {
     /// The header table of its field blocks.
     table: DynTable<Global>,
-    /// The decoder of the last block.
-    block: BlockDecoder<Global>,
+    /// The fields of the last block, which share their octets where the server repeats them.
+    fields: Collected<Global>,
+    /// The octets of that block that begin an instruction and do not end it.
+    rest: Rest<Global>,
+    /// The fault of that block, if it has one.
+    fault: Option<BlockFault>,
     /// The block that is open.
     opened: Option<OpenBlock>,
 }
@@ -40,7 +48,7 @@ impl Model for ServerFrames {
 
     ghost Value = { frames.ServerFrames };
 
-    ghost view = { λ s. record { limit = s.table.limit; block = frames.block_seen s.table.table s.block; opened = s.opened } };
+    ghost view = { λ s. record { limit = s.table.limit; block = frames.block_seen s.table.table s.fields s.rest s.fault; opened = s.opened } };
 }
 
 /// Whether an octet is a digit.
@@ -68,12 +76,13 @@ fn status_number(value: &[u8]) -> Option<u32>
 }
 
 /// The status of the first :status among fields, if there is one (RFC 9113, 8.3.2).
-fn status_of(fields: &[Field<Global>]) -> Option<u32>
-    ensures { result ≡ status_of fields.now }
+fn status_of(fields: &Collected<Global>) -> Option<u32>
+    ensures { result ≡ status_of fields.now.fields }
 {
-    for field in fields {
-        if field.name.as_slice() == b":status".as_slice() {
-            return status_number(field.value.as_slice());
+    for place in 0..fields.len() {
+        let (name, value) = fields.get(place)?;
+        if name == b":status".as_slice() {
+            return status_number(value);
         }
     }
     None
@@ -84,10 +93,9 @@ fn answer_event(block: OpenBlock, status: Option<u32>) -> Option<Event>
     ensures { result ≡ answer_event block status }
 {
     match status {
-        Some(status) => event_if(
-            200 <= status,
-            Event::Answered(block.stream, status, block.ends),
-        ),
+        Some(status) => {
+            (200 <= status).then_some(Event::Answered(block.stream, status, block.ends))
+        }
         None => {
             if block.ends {
                 Some(Event::Ended(block.stream))
@@ -98,21 +106,25 @@ fn answer_event(block: OpenBlock, status: Option<u32>) -> Option<Event>
     }
 }
 
-/// An event, where it is one.
-fn event_if(holds: bool, event: Event) -> Option<Event>
-    ensures { result ≡ event_if holds event }
+/// Decodes a fragment more of a block, after the octets that are left of those before it. Where memory is refused, the block
+/// should not be decoded any further.
+fn decode_on(
+    fields: &mut Collected<Global>,
+    rest: &mut Rest<Global>,
+    table: &mut DynTable<Global>,
+    fragment: &[u8],
+) -> Result<(), BlockFault>
+    ensures decoded { OnOk result (decoded table.old.limit (progress_with table.old.table fields.old) (rest.old ++ fragment.now) ≡ record { progress = progress_with table.new.table fields.new; outcome = Unfinished rest.new }) }
+    ensures fault { IfErr result (λ fault. IsStopped table.old.limit (progress_with table.old.table fields.old) (rest.old ++ fragment.now) (progress_with table.new.table fields.new) fault) }
+    ensures limit { table.new.limit ≡ table.old.limit }
 {
-    if holds { Some(event) } else { None }
-}
-
-/// What a block is that has ended.
-fn block_event(block: OpenBlock, decoder: &BlockDecoder<Global>) -> Option<Event>
-    ensures { (table : Table) → result ≡ block_event block (block_seen table decoder.now) }
-{
-    match decoder.finish() {
-        Ok(()) => answer_event(block, status_of(decoder.fields())),
-        Err(_) => Some(Event::Unreadable(block.stream)),
-    }
+    let mut edit = Edit::new(fields.allocator());
+    let none = Rest::new(fields.allocator());
+    let mut change = RestChange::unchanged(mem::replace(rest, none));
+    let answer = decode_piece(fields, table, &mut edit, &mut change, fragment);
+    table.commit(&mut edit);
+    *rest = change.take_over();
+    answer
 }
 
 /// The block that HEADERS opens.
@@ -134,9 +146,50 @@ impl ServerFrames {
         table.set_limit(65_536)?;
         Ok(ServerFrames {
             table,
-            block: BlockDecoder::start(alloc, false),
+            fields: Collected::new(alloc),
+            rest: Rest::new(alloc),
+            fault: None,
             opened: None,
         })
+    }
+
+    /// A fragment more of the last block is decoded, unless the block has a fault.
+    fn carry_on(&mut self, fragment: &[u8]) -> Result<(), AllocError>
+        ensures { OnOk result (self.new ≡ record self.old { block = carried_on self.old.limit self.old.block fragment.now }) }
+    {
+        if let Some(_) = self.fault {
+            return Ok(());
+        }
+        let Err(fault) = decode_on(&mut self.fields, &mut self.rest, &mut self.table, fragment)
+        else {
+            return Ok(());
+        };
+        if let BlockFault::NoMemory = fault {
+            return Err(AllocError);
+        }
+        self.fault = Some(fault);
+        Ok(())
+    }
+
+    /// Whether the last block can end so: after a whole instruction, without a fault, and no size update is due.
+    fn is_whole(&self) -> bool
+        ensures { result ≡ is_whole self.now.block }
+    {
+        match self.fault {
+            Some(_) => false,
+            None => self.rest.is_empty() && !self.fields.is_due(),
+        }
+    }
+
+    /// What the last block is, which has ended.
+    fn block_event(&self, block: OpenBlock) -> Option<Event>
+        ensures { result ≡ block_event block self.now.block }
+    {
+        if self.is_whole() {
+            answer_event(block, status_of(&self.fields))
+        } else {
+            Some(Event::Unreadable(block.stream))
+        }
     }
 
     /// A fragment is read; with the last one the block ends.
@@ -148,13 +201,10 @@ impl ServerFrames {
     ) -> Result<Option<Event>, AllocError>
         ensures { IfOk result (λ event. with_fragment self.old block head.flags fragment.now ≡ record { after = self.new; event = event }) }
     {
-        match self.block.push(&mut self.table, fragment) {
-            Err(BlockFault::NoMemory) => return Err(AllocError),
-            Ok(()) | Err(_) => {}
-        }
+        self.carry_on(fragment)?;
         if head.has(END_HEADERS) {
             self.opened = None;
-            Ok(block_event(block, &self.block))
+            Ok(self.block_event(block))
         } else {
             self.opened = Some(block);
             Ok(None)
@@ -162,10 +212,12 @@ impl ServerFrames {
     }
 
     /// A block begins.
-    fn begin(&mut self, alloc: Global)
+    fn begin(&mut self)
         ensures { self.new ≡ begin self.old }
     {
-        self.block = BlockDecoder::start(alloc, false);
+        self.fields.clear(false);
+        self.rest.clear();
+        self.fault = None;
     }
 
     /// CONTINUATION goes on with the open block (RFC 9113, 6.10).
@@ -179,33 +231,23 @@ impl ServerFrames {
     }
 
     /// HEADERS opens a block, with this fragment (RFC 9113, 6.2).
-    fn opened_by(
-        &mut self,
-        alloc: Global,
-        head: Head,
-        fragment: &[u8],
-    ) -> Result<Option<Event>, AllocError>
+    fn opened_by(&mut self, head: Head, fragment: &[u8]) -> Result<Option<Event>, AllocError>
         ensures { IfOk result (λ event. opened_by self.old head fragment.now ≡ record { after = self.new; event = event }) }
     {
-        self.begin(alloc);
+        self.begin();
         self.with_fragment(block_of(head), head, fragment)
     }
 
     /// Takes a frame with this payload, and says what it is.
-    fn with_part(
-        &mut self,
-        alloc: Global,
-        head: Head,
-        part: Part<'_>,
-    ) -> Result<Option<Event>, AllocError>
+    fn with_part(&mut self, head: Head, part: Part<'_>) -> Result<Option<Event>, AllocError>
         ensures { IfOk result (λ event. with_part self.old head (part_seen part.entry) ≡ record { after = self.new; event = event }) }
     {
         match part {
-            Part::Data(_) => Ok(event_if(head.has(END_STREAM), Event::Ended(head.stream))),
-            Part::Headers(headers) => { self.opened_by(alloc, head, headers.fragment) }
+            Part::Data(_) => Ok(head.has(END_STREAM).then_some(Event::Ended(head.stream))),
+            Part::Headers(headers) => { self.opened_by(head, headers.fragment) }
             Part::RstStream(code) => Ok(Some(Event::Reset(head.stream, code))),
             Part::SettingsAck => Ok(Some(Event::Acknowledged)),
-            Part::Ping(octets) => Ok(event_if(head.has(ACK), Event::Pong(octets))),
+            Part::Ping(octets) => Ok(head.has(ACK).then_some(Event::Pong(octets))),
             Part::Goaway(_, code) => Ok(Some(Event::Goaway(code))),
             Part::WindowUpdate(octets) => Ok(Some(Event::Credit(head.stream, octets))),
             Part::Continuation(fragment) => self.continued(head, fragment),
@@ -214,15 +256,11 @@ impl ServerFrames {
     }
 
     /// Takes a frame, and says what it is; one whose payload can't be read is passed over.
-    fn take_frame(
-        &mut self,
-        alloc: Global,
-        frame: FrameRef<'_>,
-    ) -> Result<Option<Event>, AllocError>
+    fn take_frame(&mut self, frame: FrameRef<'_>) -> Result<Option<Event>, AllocError>
         ensures { IfOk result (λ event. with_frame self.old frame.entry.head frame.entry.payload.now ≡ record { after = self.new; event = event }) }
     {
         match part_of(frame) {
-            Ok(part) => self.with_part(alloc, frame.head, part),
+            Ok(part) => self.with_part(frame.head, part),
             Err(_) => Ok(None),
         }
     }
@@ -230,7 +268,6 @@ impl ServerFrames {
     /// Takes a frame that came after the item with this number, and appends what it is.
     fn take_seen(
         &mut self,
-        alloc: Global,
         frame: FrameRef<'_>,
         after: u32,
         events: &mut Vec<Seen>,
@@ -238,10 +275,8 @@ impl ServerFrames {
         ensures { OnOk result ((rest : List ℕ) → with_taken after events.old.items rest (with_frame self.old frame.entry.head frame.entry.payload.now)
             ≡ record { frames = self.new; rest = rest; events = events.new.items }) }
     {
-        match self.take_frame(alloc, frame) {
-            Ok(event) => push_event(after, event, events),
-            Err(error) => Err(error),
-        }
+        let event = self.take_frame(frame)?;
+        push_event(after, event, events)
     }
 
     /// Takes the whole frames that octets begin with, and appends what they are: all of them came after the item with this
@@ -250,7 +285,6 @@ impl ServerFrames {
     /// `AllocError` where memory is refused: the frames should not be read any further.
     pub fn read_on<'o>(
         &mut self,
-        alloc: Global,
         octets: &'o [u8],
         after: u32,
         events: &mut Vec<Seen>,
@@ -263,7 +297,7 @@ impl ServerFrames {
                 return Ok(rest);
             };
             rest = behind;
-            self.take_seen(alloc, frame, after, events)?;
+            self.take_seen(frame, after, events)?;
         }
         Ok(rest)
     }

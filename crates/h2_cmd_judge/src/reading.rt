@@ -118,7 +118,7 @@ impl Reading {
         self.rest.extend_from_slice(octets)?;
         let rest = self
             .frames
-            .read_on(alloc, self.rest.as_slice(), after, &mut self.events)?;
+            .read_on(self.rest.as_slice(), after, &mut self.events)?;
         let left = Vec::from_slice(alloc, rest)?;
         self.rest = left;
         Ok(())

@@ -1,13 +1,8 @@
-use Rattle.std.proofs.Common.{◌≡◌, ◌∙◌, ◌+◌, ℕ, List, ◌∷◌, drop, ap, sym, Some}
-use Rattle.std.specs.List.{slice_get}
-use Rattle.std.proofs.lemmas.List.{drop_more}
-use Rattle.std.proofs.lemmas.Option.{get_or_from_slice_get, slice_get_within}
+use Rattle.std.proofs.Common.{◌∙◌, ◌+◌, ℕ, List, drop, ap, sym}
 use Rattle.h2_frame.specs.Parts.{settings_in}
 use Rattle.h2_cmd_judge.specs.Readings.{value_among}
+use Rattle.h2_cmd_judge.proofs.ListLaws.{drop-at}
 use Rattle.h2_cmd_judge.proofs.reading.value_among.Goals as goal
-
-drop-at : (n : ℕ) (ps : List (ℕ × ℕ)) (p : ℕ × ℕ) → slice_get ps n ≡ Some p → drop n ps ≡ p ∷ drop (n + 1) ps
-drop-at n ps p e = drop_more ps n p (slice_get_within ps n p e) ∙ ap (λ (q : ℕ × ℕ). q ∷ drop (n + 1) ps) (get_or_from_slice_get ps n p p e)
 
 pub loop-place-preserved : goal.loop-place-preserved
 loop-place-preserved c =
