@@ -116,24 +116,15 @@ function stateAt(it, place) {
 
 // ---- faults, with their place
 function showFault(words, box = null, from = 0, to = 0) {
-  const fault = at("fault");
-  fault.replaceChildren(...words);
-  fault.classList.add("on");
-  at("view").classList.add("old");
-  for (const id of ["script", "hex"]) markIn(id, id === box ? from : 0, id === box ? to : 0, "");
-  for (const id of ["script", "hex"]) at(id).setAttribute("aria-invalid", id === box);
-}
-function clearFault() {
-  at("fault").classList.remove("on");
-  at("fault").replaceChildren();
-  at("view").classList.remove("old");
-  for (const id of ["script", "hex"]) { at(id).removeAttribute("aria-invalid"); markIn(id, 0, 0, ""); }
+  at("fault").replaceChildren(...words);
+  for (const [id, kind] of [["fault", "on"], ["view", "old"]]) at(id).classList.toggle(kind, words.length > 0);
+  for (const id of ["script", "hex"]) { markIn(id, id === box ? from : 0, id === box ? to : 0); at(id).setAttribute("aria-invalid", id === box); }
   document.querySelectorAll(".answer.bad").forEach(it => it.classList.remove("bad"));
 }
-function markIn(id, from, to, kind) {
+function markIn(id, from, to) {
   const text = at(id).value, mark = at(`${id}-mark`);
   if (to <= from || text.length > LONG) { mark.replaceChildren(); return; }
-  mark.replaceChildren(text.slice(0, from), make("mark", { class: kind, text: text.slice(from, to) }), text.slice(to) + "\n");
+  mark.replaceChildren(text.slice(0, from), make("mark", { text: text.slice(from, to) }), text.slice(to) + "\n");
   mark.scrollTop = at(id).scrollTop;
 }
 const goTo = (id, from, to) => make("button", { text: "go there", onclick() { const box = at(id); box.focus(); box.setSelectionRange(from, to); } });
@@ -149,23 +140,21 @@ function scriptFault(line, kind) {
 }
 const TOO_LONG = "The memory of a page does not suffice for the explanation of so many items. The program writes it: copy the octets as Hex into a file, and give the file to ./h2_bench explain.";
 function otherFault({ fault, line }) {
-  const words = [make("b", { text: `Fault ${fault}: ${fault < 3 ? "the run is too long" : FAULTS[fault] ?? "the call failed"}. ` }), fault < 3 ? TOO_LONG : ""];
-  if (fault >= 12 && fault <= 15 || fault === 26) {
-    words.push(`Answer ${line}: `, make("code", { text: answerWord(typed.answers[line - 1] ?? typed.answers[0]) }), ". ");
-    at("server").open = true;
-    at("answers").children[line - 1]?.classList.add("bad");
-  }
-  if (fault === 16) { words.push(LIMITS.filter(it => !(typed.config[it[0]] >= it[3] && typed.config[it[0]] <= it[4])).map(it => `${it[5]} has to be ${it[3]} to ${it[4]}`).join("; ") + "."); at("server").open = true; }
+  const isAnswer = fault >= 12 && fault <= 15 || fault === 26, words = [make("b", { text: `Fault ${fault}: ${fault < 3 ? "the run is too long" : FAULTS[fault] ?? "the call failed"}. ` }), fault < 3 ? TOO_LONG : ""];
+  if (isAnswer) words.push(`Answer ${line}: `, make("code", { text: answerWord(typed.answers[line - 1] ?? typed.answers[0]) }), ". ");
+  if (fault === 16) words.push(LIMITS.filter(it => !(typed.config[it[0]] >= it[3] && typed.config[it[0]] <= it[4])).map(it => `${it[5]} has to be ${it[3]} to ${it[4]}`).join("; ") + ".");
   showFault(words);
+  if (isAnswer || fault === 16) at("server").open = true;
+  if (isAnswer) at("answers").children[line - 1]?.classList.add("bad");
 }
 
 // ---- typing
 let waiting = 0;
+const later = time => { clearTimeout(waiting); waiting = setTimeout(() => play(), time); };
 function typing(source) {
   typed.source = source;
   typed[source] = at(source).value;
-  clearTimeout(waiting);
-  waiting = setTimeout(() => play(), typed[source].length > 20000 ? 300 : 60);
+  later(typed[source].length > 20000 ? 300 : 60);
 }
 // A line for each item, and one for the octets after them.
 const hexText = (octets, items) => [...items.slice(1).map(({ frame, octets: { hex } }) => frame && hex.length > 18 ? `${hex.slice(0, 18)} ${hex.slice(18)}` : hex), hexOf(octets.subarray(items.length > 1 ? items.at(-1).offset + lengthOf(items.at(-1)) : 0))].filter(Boolean).join("\n");
@@ -191,26 +180,17 @@ function readTyped() {
   return octets.slice();
 }
 function fillOther(octets, items) {
-  const note = (id, text) => at(`${id}-note`).textContent = text;
-  if (typed.source !== "hex") {
-    const fits = octets.length * 2 <= LONG;
-    typed.hex = fits ? hexText(octets, items) : "";
-    at("hex").value = typed.hex;
-    note("hex", fits ? counted(octets.length, "octet") : `${counted(octets.length, "octet")}: too long to show; "Copy as" has them`);
-  } else note("hex", counted(octets.length, "octet") + (typed.isDump ? " of a dump, read without its offsets" : ""));
-  if (typed.source !== "script") {
-    const text = octets.length * 2 <= LONG ? engine.scriptOf(octets).text : null;
-    typed.script = text ?? "";
-    at("script").value = typed.script;
-    note("script", text === null ? "too long to show; \"Copy as\" has it" : "a line for each frame");
-  } else note("script", "a line for each frame");
+  const fits = octets.length * 2 <= LONG, texts = { script: () => engine.scriptOf(octets).text, hex: () => hexText(octets, items) };
+  for (const [id, text] of Object.entries(texts)) if (typed.source !== id) at(id).value = typed[id] = fits ? text() : "";
+  at("hex-note").textContent = counted(octets.length, "octet") + (typed.source === "hex" ? (typed.isDump ? " of a dump, read without its offsets" : "") : fits ? "" : ": too long to show; \"Copy as\" has them");
+  at("script-note").textContent = fits || typed.source === "script" ? "a line for each frame" : "too long to show; \"Copy as\" has it";
 }
 function play(place = undefined) {
   const started = performance.now();
   try {
     const octets = readTyped();
     if (octets) {
-      clearFault();
+      showFault([]);
       const now = explained(octets);
       fillOther(octets, now.items);
       if (now.fault) otherFault(now);
@@ -525,7 +505,7 @@ function fillServer() {
   }));
   showServer();
 }
-const typing2 = () => { clearTimeout(waiting); waiting = setTimeout(() => play(), 80); };
+const typing2 = () => later(80);
 function fillAll() { for (const id of ["script", "hex"]) at(id).value = typed[id]; fillServer(); }
 
 // ---- beginning
