@@ -113,7 +113,6 @@ fn text_of(
 {
     let mut account = Account::new(alloc);
     explainer.account(alloc, conn, item, &mut account)?;
-    account.is_brief = false;
     let mut lines = ItemLines::new(alloc)?;
     lines.put(item, &account, explainer.block(conn), Paint(false))?;
     text_with(alloc, lines.octets())

@@ -5,7 +5,7 @@ use Rattle.h2_spec.specs.Frames.Parse.{Stop}
 use Rattle.h2_spec.specs.State.{State, ended_code}
 use Rattle.h2_spec.specs.Trace.{Run, next_event, trace}
 use Rattle.h2_conn.specs.Connection.{Connection}
-use Rattle.h2_explain_step.specs.Explained.{BeginsWithOwn, ExplainsItem, stream_in}
+use Rattle.h2_explain_step.specs.Explained.{ExplainsItem, stream_in}
 use Rattle.h2_explain_text.specs.Lines.{EndsLine, EndsLineIf, Words, lines_of, shown_words}
 use Rattle.h2_explain_text.specs.Rest.{is_said}
 use Rattle.h2_explain_item.specs.Item.{head_in}
@@ -62,7 +62,7 @@ shows_item form x ws = shows_stream form.stream (stream_in (head_in x.what)) && 
 -- not brief
 abbrev pub IsShownText : (json color brief : Bool) → Explained → List ℕ → Type 0
 IsShownText true color brief x t = EndsLine false t
-IsShownText false color brief x t = (w : Words) × BeginsWithOwn x w.changes × (t ≡ lines_of color x (shown_words brief w))
+IsShownText false color brief x t = (w : Words) × (t ≡ lines_of color x (shown_words brief w))
 
 -- the same, where it is shown; else nothing
 abbrev pub IsTextIf : Bool → Form → Explained → List ℕ → Type 0

@@ -4,7 +4,6 @@
 ghost use Rattle.std.specs.Prelude.{◌≡◌, ◌<◌, ◌≤◌, ◌+◌, ◌^◌, ◌++◌, ℕ, List, [], true, false, drop, length, option_map, IfErr, IfOk, OnErr, OnOk, is_err};
 ghost use Rattle.std.specs.String.{string_bytes};
 ghost use Rattle.std.specs.Io.KnownBytes.{Appends};
-ghost use Rattle.h2_explain_step.specs.Explained.{BeginsWithOwn};
 ghost use Rattle.h2_explain_text.specs.Lines.{EndsLine};
 ghost use Rattle.h2_spec.specs.Causes.Errors.{code_number};
 ghost use Rattle.h2_spec.specs.State.{ended_code};
@@ -88,8 +87,7 @@ fn put_json<A: Allocator + Copy>(
 
 /// Fits an account to a form: whether it is brief, and without the opening where that is not shown.
 fn fit<A: Allocator>(form: Form, account: &mut Account<A>)
-    ensures brief { account.new.is_brief ≡ form.brief }
-    ensures changes { account.new.changes.items ≡ account.old.changes.items }
+    ensures { account.new.is_brief ≡ form.brief }
 {
     if !shows_opening(form) {
         account.opening.clear();
@@ -107,7 +105,6 @@ fn put_text<A: Allocator + Copy>(
     block: ShownBlock<'_, A>,
     lines: &mut ItemLines<A>,
 ) -> Result<(), AllocError>
-    requires { BeginsWithOwn item.now account.old.changes.items }
     ensures { OnOk result (IsShownText form.json form.color form.brief item.now lines.new) }
 {
     fit(form, account);

@@ -1,5 +1,5 @@
 -- An item that was taken, with what was before it and what is after it.
-use Rattle.std.specs.Prelude.{◌≡◌, ℕ, ◌≤◌, Bool, true, false, List, [], ◌++◌, length, take, drop, Option, Some, None}
+use Rattle.std.specs.Prelude.{◌≡◌, ℕ, ◌≤◌, Bool, true, false, List, [], length, take, drop, Option, Some, None}
 use Rattle.std.specs.Borrow.{Bor}
 use Rattle.h2_spec.specs.declared.connection.Phase.{Phase}
 use Rattle.h2_spec.specs.declared.connection.Phase.TheVariants.{Preface, Settings, Running, Ended}
@@ -15,8 +15,6 @@ use Rattle.h2_conn.specs.Connection.{Connection, going}
 use Rattle.h2_conn.specs.Reports.{reported}
 use Rattle.h2_conn.specs.declared.report.TakenItem.{TakenItem}
 use Rattle.h2_explain_text.specs.Lines.{EndsLine, Words, lines_of}
-use Rattle.h2_explain_item.specs.Changes.{connection_changes, stream_changes}
-use Rattle.h2_explain_item.specs.declared.change.changes.ShownChange.{ShownChange}
 use Rattle.h2_explain_item.specs.declared.item.Explained.{Explained}
 use Rattle.h2_explain_item.specs.declared.item.Moment.{Moment}
 
@@ -70,12 +68,7 @@ pub record ExplainsItem (s : State) (b : List ℕ) (number offset : ℕ) (c : Co
 abbrev pub ExplainsBut : State → List ℕ → (number offset : ℕ) → (out out' : List ℕ) → Connection → Explained → Type 0
 ExplainsBut s b number offset out out' c x = (sent : Bor (List ℕ)) → sent.now ≡ drop (length out) out' → ExplainsItem s b number offset c (record x { sent = sent })
 
--- a list has what an item changed on the connection and on its stream, and after that what it changed on other streams
-abbrev pub BeginsWithOwn : Explained → List ShownChange → Type 0
-BeginsWithOwn x changes =
-    (others : List ShownChange) × (changes ≡ connection_changes x.before x.after ++ stream_changes x.before.stream x.after.stream x.after.counts.send ++ others)
-
 -- the text of an item: a line of JSON, or its lines
 abbrev pub IsTextOf : (json color : Bool) → Explained → List ℕ → Type 0
 IsTextOf true color x t = EndsLine false t
-IsTextOf false color x t = (w : Words) × BeginsWithOwn x w.changes × (t ≡ lines_of color x w)
+IsTextOf false color x t = (w : Words) × (t ≡ lines_of color x w)

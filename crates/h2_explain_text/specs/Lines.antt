@@ -141,12 +141,16 @@ pub record Words : Type 0 where
   pub moved : List UnshownChange
   pub entries : List ℕ
 
+-- the same, where this is what changed
+abbrev pub with_changes : List ShownChange → List UnshownChange → Words → Words
+with_changes changes moved w = record w { changes = changes; moved = moved }
+
 -- a list, or none where a text is brief
 abbrev pub detail : {A : Type 0} → (brief : Bool) → List A → List A
 detail true xs = []
 detail false xs = xs
 
--- the same, or the same without the lines of fields and of what changed
+-- all that is said, or all but the lines of fields and of what changed
 abbrev pub shown_words : (brief : Bool) → Words → Words
 shown_words brief w =
     record w { fields = detail brief w.fields; changes = detail brief w.changes; moved = detail brief w.moved; entries = detail brief w.entries }

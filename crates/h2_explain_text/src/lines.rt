@@ -3,7 +3,7 @@
 //! `specs/Lines.antt`, the format: docs/EXPLAIN.md.
 
 ghost use Rattle.std.specs.Prelude.{◌≡◌, ◌++◌, [], None, OnOk, false, flat_map, is_err};
-ghost use Rattle.h2_explain_text.specs.Lines.{Words as Said, blanks, cause_lines, change_line, detail, ended, error_lines, first_line, ignored_lines, is_silent, lines_of, main_lines, moved_line, reason_lines, rule_lines, scope, shown_words, started};
+ghost use Rattle.h2_explain_text.specs.Lines.{Words as Said, blanks, cause_lines, change_line, detail, ended, error_lines, first_line, ignored_lines, is_silent, lines_of, main_lines, moved_line, reason_lines, rule_lines, scope, shown_words, started, with_changes};
 ghost use Rattle.h2_explain_item.specs.Special.{rule_of_cause, rule_of_reason};
 ghost use Rattle.h2_spec.specs.Causes.Rules.{client_words, server_words};
 
@@ -581,8 +581,7 @@ impl<A: Allocator + Copy> ItemLines<A> {
         block: ShownBlock<'_, A>,
         paint: Paint,
     ) -> Result<(), AllocError>
-        ensures { OnOk result ((w : Said) × (w.changes ≡ account.now.changes.items) × (w.moved ≡ account.now.unshown.items)
-            × (self.new ≡ lines_of paint.0 item.now (shown_words account.now.is_brief w))) }
+        ensures { OnOk result ((w : Said) × (self.new ≡ lines_of paint.0 item.now (shown_words account.now.is_brief (with_changes account.now.changes.items account.now.unshown.items w)))) }
     {
         let ends = say_words(item, account, block, paint, &mut self.words);
         let words = self.words.octets()?;

@@ -14,6 +14,3 @@ pub returns-else-shows_item-clause-text : goal.returns-else-shows_item-clause-te
 returns-else-shows_item-clause-text g c =
     let hidden = sym c.shows_item.ensures ∙ c.if-shows_item.false in
     (c.account.new.account.facts, c.account.new.account.warnings, c.in_ok-account.ensures.warnings, subst (λ (b : Bool). IsTextIf b c.args.form c.args.item.now c.clear.new.self) (sym hidden) c.clear.ensures)
-
-pub put_text-requires : goal.put_text-requires
-put_text-requires g c = (_, c.in_ok-account.ensures.changes.is)
