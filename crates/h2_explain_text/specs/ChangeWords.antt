@@ -18,6 +18,10 @@ use Rattle.h2_explain_item.specs.declared.change.count.Count.{Count}
 abbrev pub octet_count : ℕ → List ℕ
 octet_count n = joined (decimal n ∷ (if n == 1 then codes " octet" else codes " octets") ∷ [])
 
+-- how much of a body remains
+abbrev pub remains : ℕ → List ℕ
+remains n = joined (octet_count n ∷ (if n == 1 then codes " of its body remains" else codes " of its body remain") ∷ [])
+
 -- the stream that a change is of; the connection, which is stream 0, is not named
 abbrev pub on_stream : ℕ → List ℕ
 on_stream id = joined (codes "stream " ∷ decimal id ∷ codes ": " ∷ [])
@@ -51,8 +55,7 @@ change_words (change.Number stream what before after) =
 change_words (change.State stream before after) = joined (on_stream stream ∷ kind_name before ∷ codes " -> " ∷ kind_name after ∷ [])
 change_words (change.Acknowledged before after) = codes "the server's settings are acknowledged"
 change_words (change.Stops stream remaining own connection) =
-    joined (on_stream stream ∷ octet_count remaining ∷ (if remaining == 1 then codes " of its body remains" else codes " of its body remain")
-    ∷ own_spent own ∷ connection_spent own connection ∷ [])
+    joined (on_stream stream ∷ remains remaining ∷ own_spent own ∷ connection_spent own connection ∷ [])
 
 -- the content-length of a stream that opens, if it has one
 abbrev pub declared_words : Option ℕ → List ℕ

@@ -3,7 +3,7 @@
 
 ghost use Rattle.std.specs.Prelude.{◌≡◌, ◌++◌, false, flat_map, OnOk, is_err};
 ghost use Rattle.std.specs.Fmt.{signed_decimal};
-ghost use Rattle.h2_explain_text.specs.ChangeWords.{change_words, connection_spent, counted, declared_words, moved_words, moving, octet_count, on_stream, on_stream_if, own_spent};
+ghost use Rattle.h2_explain_text.specs.ChangeWords.{change_words, connection_spent, counted, declared_words, moved_words, moving, octet_count, on_stream, on_stream_if, own_spent, remains};
 ghost use Rattle.h2_explain_text.specs.Lines.{change_line, moved_line};
 
 use crate::lines::INDENT;
@@ -38,6 +38,23 @@ impl Text for OctetsText {
     fn write_to<O: Output>(&self, output: &mut O) -> Result<(), DeviceFault> {
         let unit = if self.0 == 1 { " octet" } else { " octets" };
         texts!(Number(self.0), unit).write_to(output)
+    }
+}
+
+/// How much of a body remains.
+#[derive(Clone, Copy)]
+struct Remains(u64);
+
+impl Text for Remains {
+    ghost text = { λ n. remains n.0 };
+
+    fn write_to<O: Output>(&self, output: &mut O) -> Result<(), DeviceFault> {
+        let verb = if self.0 == 1 {
+            " of its body remains"
+        } else {
+            " of its body remain"
+        };
+        texts!(OctetsText(self.0), verb).write_to(output)
     }
 }
 
@@ -149,14 +166,8 @@ impl Text for ChangeWords {
             ShownChange::Acknowledged(_, _) =>
                 "the server's settings are acknowledged".write_to(output),
             ShownChange::Stops(stream, remaining, own, connection) => {
-                let verb = if remaining == 1 {
-                    " of its body remains"
-                } else {
-                    " of its body remain"
-                };
                 let (own, connection) = (OwnSpent(own), ConnectionSpent(own, connection));
-                let remaining = OctetsText(remaining);
-                texts!(OnStream(stream), remaining, verb, own, connection).write_to(output)
+                texts!(OnStream(stream), Remains(remaining), own, connection).write_to(output)
             }
         }
     }

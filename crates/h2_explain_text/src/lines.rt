@@ -384,7 +384,7 @@ fn put_changed<A: Allocator + Copy>(
 ) -> Result<(), AllocError>
     requires { out.old.failed ≡ false }
     ensures { OnOk result (out.new.octets.items ≡ out.old.octets.items ++ flat_map (change_line paint.0) (detail account.now.is_brief account.now.changes.items)
-        ++ flat_map (moved_line paint.0) (detail account.now.is_brief account.now.unshown.items) ++ detail account.now.is_brief entries.0.now) }
+        ++ flat_map (moved_line paint.0) (detail account.now.is_brief account.now.unshown.items) ++ detail account.now.is_brief entries.entry.0.now) }
 {
     let is_brief = account.is_brief;
     let changes = detail(is_brief, account.changes.as_slice());
