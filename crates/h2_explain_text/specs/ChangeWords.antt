@@ -62,11 +62,14 @@ abbrev pub declared_words : Option ℕ → List ℕ
 declared_words None = []
 declared_words (Some declared) = joined (codes ", content-length " ∷ decimal declared ∷ [])
 
+-- its windows, and that
+abbrev pub begins : (recv send : ℤ) → Option ℕ → List ℕ
+begins recv send declared =
+    joined (codes "begins with a receive window of " ∷ signed_decimal recv ∷ codes " and a send window of " ∷ signed_decimal send ∷ declared_words declared ∷ [])
+
 -- a change of a stream besides in words
 abbrev pub moved_words : UnshownChange → List ℕ
-moved_words (moved.Opened stream recv send declared) =
-    joined (on_stream stream ∷ codes "begins with a receive window of " ∷ signed_decimal recv ∷ codes " and a send window of " ∷ signed_decimal send
-    ∷ declared_words declared ∷ [])
+moved_words (moved.Opened stream recv send declared) = joined (on_stream stream ∷ begins recv send declared ∷ [])
 moved_words (moved.Number stream what before after) = joined (on_stream stream ∷ count_name what ∷ codes " " ∷ moving before after ∷ [])
 moved_words (moved.BodySent stream) = joined (on_stream stream ∷ codes "its body is sent" ∷ [])
 moved_words (moved.Block block) =

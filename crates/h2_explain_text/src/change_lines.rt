@@ -3,7 +3,7 @@
 
 ghost use Rattle.std.specs.Prelude.{◌≡◌, ◌++◌, false, flat_map, OnOk, is_err};
 ghost use Rattle.std.specs.Fmt.{signed_decimal};
-ghost use Rattle.h2_explain_text.specs.ChangeWords.{change_words, connection_spent, counted, declared_words, moved_words, moving, octet_count, on_stream, on_stream_if, own_spent, remains};
+ghost use Rattle.h2_explain_text.specs.ChangeWords.{begins, change_words, connection_spent, counted, declared_words, moved_words, moving, octet_count, on_stream, on_stream_if, own_spent, remains};
 ghost use Rattle.h2_explain_text.specs.Lines.{change_line, moved_line};
 
 use crate::lines::INDENT;
@@ -188,6 +188,20 @@ impl Text for DeclaredWords {
     }
 }
 
+/// With which windows a stream opens, and which content-length.
+#[derive(Clone, Copy)]
+struct Begins(i64, i64, Option<u64>);
+
+impl Text for Begins {
+    ghost text = { λ b. begins b.0 b.1 b.2 };
+
+    fn write_to<O: Output>(&self, output: &mut O) -> Result<(), DeviceFault> {
+        let (recv, send, declared) = (Signed(self.0), Signed(self.1), DeclaredWords(self.2));
+        let front = "begins with a receive window of ";
+        texts!(front, recv, " and a send window of ", send, declared).write_to(output)
+    }
+}
+
 /// A change of a stream that is not among the changes, in words.
 #[derive(Clone, Copy)]
 struct MovedWords(UnshownChange);
@@ -197,15 +211,9 @@ impl Text for MovedWords {
 
     fn write_to<O: Output>(&self, output: &mut O) -> Result<(), DeviceFault> {
         match self.0 {
-            UnshownChange::Opened(stream, recv, send, declared) => texts!(
-                OnStream(stream),
-                "begins with a receive window of ",
-                Signed(recv),
-                " and a send window of ",
-                Signed(send),
-                DeclaredWords(declared)
-            )
-            .write_to(output),
+            UnshownChange::Opened(stream, recv, send, declared) => {
+                texts!(OnStream(stream), Begins(recv, send, declared)).write_to(output)
+            }
             UnshownChange::Number(stream, what, before, after) => {
                 let moving = Moving(before, after);
                 texts!(OnStream(stream), what.name(), " ", moving).write_to(output)
