@@ -63,9 +63,14 @@ declared_words None = []
 declared_words (Some declared) = joined (codes ", content-length " ∷ decimal declared ∷ [])
 
 -- its windows, and that
+unfoldable pub receive_begins : ℤ → List ℕ
+receive_begins recv = joined (codes "begins with a receive window of " ∷ signed_decimal recv ∷ [])
+
+unfoldable pub send_begins : ℤ → List ℕ
+send_begins send = joined (codes " and a send window of " ∷ signed_decimal send ∷ [])
+
 abbrev pub begins : (recv send : ℤ) → Option ℕ → List ℕ
-begins recv send declared =
-    joined (codes "begins with a receive window of " ∷ signed_decimal recv ∷ codes " and a send window of " ∷ signed_decimal send ∷ declared_words declared ∷ [])
+begins recv send declared = joined (receive_begins recv ∷ send_begins send ∷ declared_words declared ∷ [])
 
 -- a change of a stream besides in words
 abbrev pub moved_words : UnshownChange → List ℕ

@@ -3,7 +3,7 @@
 
 ghost use Rattle.std.specs.Prelude.{◌≡◌, ◌++◌, false, flat_map, OnOk, is_err};
 ghost use Rattle.std.specs.Fmt.{signed_decimal};
-ghost use Rattle.h2_explain_text.specs.ChangeWords.{begins, change_words, connection_spent, counted, declared_words, moved_words, moving, octet_count, on_stream, on_stream_if, own_spent, remains};
+ghost use Rattle.h2_explain_text.specs.ChangeWords.{begins, change_words, connection_spent, counted, declared_words, moved_words, moving, octet_count, on_stream, on_stream_if, own_spent, receive_begins, remains, send_begins};
 ghost use Rattle.h2_explain_text.specs.Lines.{change_line, moved_line};
 
 use crate::lines::INDENT;
@@ -188,6 +188,32 @@ impl Text for DeclaredWords {
     }
 }
 
+/// With which receive window a stream opens.
+#[derive(Clone, Copy)]
+struct ReceiveBegins(i64);
+
+#[tactic(auto, unfolding(crate::specs::ChangeWords::receive_begins))]
+impl Text for ReceiveBegins {
+    ghost text = { λ b. receive_begins b.0 };
+
+    fn write_to<O: Output>(&self, output: &mut O) -> Result<(), DeviceFault> {
+        texts!("begins with a receive window of ", Signed(self.0)).write_to(output)
+    }
+}
+
+/// With which send window a stream opens.
+#[derive(Clone, Copy)]
+struct SendBegins(i64);
+
+#[tactic(auto, unfolding(crate::specs::ChangeWords::send_begins))]
+impl Text for SendBegins {
+    ghost text = { λ b. send_begins b.0 };
+
+    fn write_to<O: Output>(&self, output: &mut O) -> Result<(), DeviceFault> {
+        texts!(" and a send window of ", Signed(self.0)).write_to(output)
+    }
+}
+
 /// With which windows a stream opens, and which content-length.
 #[derive(Clone, Copy)]
 struct Begins(i64, i64, Option<u64>);
@@ -196,9 +222,8 @@ impl Text for Begins {
     ghost text = { λ b. begins b.0 b.1 b.2 };
 
     fn write_to<O: Output>(&self, output: &mut O) -> Result<(), DeviceFault> {
-        let (recv, send, declared) = (Signed(self.0), Signed(self.1), DeclaredWords(self.2));
-        let front = "begins with a receive window of ";
-        texts!(front, recv, " and a send window of ", send, declared).write_to(output)
+        let (recv, send) = (ReceiveBegins(self.0), SendBegins(self.1));
+        texts!(recv, send, DeclaredWords(self.2)).write_to(output)
     }
 }
 
