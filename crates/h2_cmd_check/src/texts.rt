@@ -12,16 +12,16 @@ ghost use Rattle.h2_cmd_check.specs.declared.fault.CaseFault.TheVariants.{BadCon
 use crate::fault::CaseFault;
 use h2_cmd_cases::{Line, line_of};
 use h2_conn::{Conn, ConnFault};
-use h2_explain_item::item::Explained;
+use h2_explain_item::item::{Explained, part_in};
 use h2_explain_step::explainer::ItemExplainer;
-use h2_explain_step::taking::take_item;
+use h2_explain_step::taking::{moment_at, stream_of_next};
 use h2_explain_text::account::Account;
 use h2_explain_text::lines::ItemLines;
 use h2_explain_text::paint::Paint;
 use h2_request_book::book::Book;
 use h2_script::{LineFault, add_line};
 use h2_spec::connection::Config;
-use h2_spec::octets::octets_from;
+use h2_spec::octets::{first_octets, octets_from};
 use std::alloc::{AllocError, Global};
 
 /// Whether a line says one of `explain`.
@@ -146,15 +146,30 @@ fn take_text(
     ensures takes { IfOk result (λ used. TakesText conn.old.state octets.now offset (map string_bytes texts.old.items) conn.new (map string_bytes texts.new.items) used) }
 {
     sent.clear();
-    let number = texts.len() as u64 + 1;
-    let memory = &mut explainer.memory;
-    let Some(mut item) = take_item(conn, octets, memory, number, offset, sent)? else {
+    let stream = stream_of_next(conn, octets);
+    let before = moment_at(conn, stream);
+    let Some(taken) = conn.take_and_lend(octets, &mut explainer.memory, sent)? else {
         return Ok(None);
     };
-    item.sent = sent.as_slice();
+    let used = taken.used;
+    let own = first_octets(octets, used);
+    let item = Explained {
+        number: texts.len() as u64 + 1,
+        offset,
+        octets: own,
+        ahead: octets,
+        used,
+        what: taken.item,
+        part: part_in(taken.item, own),
+        cause: taken.cause,
+        ignored: taken.ignored,
+        sent: sent.as_slice(),
+        before,
+        after: moment_at(conn, stream),
+    };
     let text = text_of(alloc, explainer, conn, &item)?;
     add_text(text, texts)?;
-    Ok(Some(item.used))
+    Ok(Some(used))
 }
 
 /// The texts of the items of octets, by what an explainer knows that is new.

@@ -1,6 +1,5 @@
 -- An item that was taken, with what was before it and what is after it.
-use Rattle.std.specs.Prelude.{◌≡◌, ℕ, ◌≤◌, Bool, true, false, List, [], length, take, drop, Option, Some, None}
-use Rattle.std.specs.Borrow.{Bor}
+use Rattle.std.specs.Prelude.{◌≡◌, ℕ, ◌≤◌, Bool, true, false, List, [], length, take, Option, Some, None}
 use Rattle.h2_spec.specs.declared.connection.Phase.{Phase}
 use Rattle.h2_spec.specs.declared.connection.Phase.TheVariants.{Preface, Settings, Running, Ended}
 use Rattle.h2_spec.specs.declared.frames.Head.{Head}
@@ -63,10 +62,6 @@ pub record ExplainsItem (s : State) (b : List ℕ) (number offset : ℕ) (c : Co
   pub sent_is : x.sent.now ≡ frames_octets event.sent
   pub before_is : x.before ≡ moment_of s (stream_ahead s.core.phase b)
   pub after_is : x.after ≡ moment_of c.state (stream_ahead s.core.phase b)
-
--- the same, once what was sent for it is lent: the octets that came after the others
-abbrev pub ExplainsBut : State → List ℕ → (number offset : ℕ) → (out out' : List ℕ) → Connection → Explained → Type 0
-ExplainsBut s b number offset out out' c x = (sent : Bor (List ℕ)) → sent.now ≡ drop (length out) out' → ExplainsItem s b number offset c (record x { sent = sent })
 
 -- the text of an item: a line of JSON, or its lines
 abbrev pub IsTextOf : (json color : Bool) → Explained → List ℕ → Type 0
