@@ -1,5 +1,5 @@
 -- The name of each count, in the text and in JSON.
-use Rattle.std.specs.Prelude.{ℕ, List, [], ◌∷◌, codes}
+use Rattle.std.specs.Prelude.{ℕ, Bool, true, false, List, [], ◌∷◌, codes}
 use Rattle.h2_explain_item.specs.declared.change.count.Count.{Count}
 use Rattle.h2_explain_item.specs.declared.change.count.Count.TheVariants.{ReceiveWindow, UnreturnedOctets, SendWindow, LastStream, GoawayLastStream, GoawayCode, ClientHeaderTableSize, ClientEnablePush, ClientMaxConcurrentStreams, ClientInitialWindowSize, ClientMaxFrameSize, ClientMaxHeaderListSize, SizeUpdatePending, OwnHeaderTableSize, OwnInitialWindowSize, OwnMaxFrameSize, TableEntries, TableOctets, TableMaximum, ContentReceived}
 
@@ -25,6 +25,14 @@ count_name TableEntries = codes "header table entries"
 count_name TableOctets = codes "header table octets"
 count_name TableMaximum = codes "header table maximum"
 count_name ContentReceived = codes "content received"
+
+-- whether a number may be absent: the client's GOAWAY, and its limits, before it gives them (6.5.2, 6.8)
+abbrev pub may_be_absent : Count → Bool
+may_be_absent GoawayLastStream = true
+may_be_absent GoawayCode = true
+may_be_absent ClientMaxConcurrentStreams = true
+may_be_absent ClientMaxHeaderListSize = true
+may_be_absent _ = false
 
 -- all counts, in the order of the code
 unfoldable pub all_counts : List Count

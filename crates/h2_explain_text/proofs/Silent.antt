@@ -1,7 +1,9 @@
 -- The lines of an item of which nothing is said: those of the opening alone.
-use Rattle.std.proofs.Common.{◌≡◌, ◌∙◌, ℕ, Bool, true, false, List, [], if◌then◌else◌, ap, refl, sym}
-use Rattle.h2_explain_text.specs.Lines.{Words, is_silent, lines_of, lines_unless, shown_words}
+use Rattle.std.proofs.Common.{◌≡◌, ◌∙◌, ℕ, Bool, true, false, List, [], ap, refl, sym}
+use Rattle.h2_explain_text.specs.Lines.{Words, detail, is_silent, lines, lines_of, lines_unless, shown_words, with_changes}
 use Rattle.h2_explain_item.specs.declared.diagnosis.field_facts.FieldFacts.{FieldFacts}
+use Rattle.h2_explain_item.specs.declared.change.changes.ShownChange.{ShownChange}
+use Rattle.h2_explain_item.specs.declared.change.changes.UnshownChange.{UnshownChange}
 use Rattle.h2_explain_item.specs.declared.diagnosis.special.CaseFacts.{CaseFacts}
 use Rattle.h2_explain_item.specs.declared.item.Explained.{Explained}
 
@@ -16,14 +18,19 @@ abbrev no_lines : List ℕ
 no_lines = []
 
 -- no words are none, whether they are left out or not
-pub no_words : (brief : Bool) → (if brief then no_lines else no_lines) ≡ no_lines
+pub no_words : (brief : Bool) → detail brief no_lines ≡ no_lines
 no_words false = refl
 no_words true = refl
 
 -- these lines of an opening, and no other words
 abbrev pub opening_alone : List ℕ → Words
-opening_alone opening = record { opening = opening; item = []; facts = no_facts; fields = []; sentence = []; also = []; sent = []; changes = [] }
+opening_alone opening = record { opening = opening; item = []; facts = no_facts; fields = []; sentence = []; also = []; sent = []; changes = []; moved = []; entries = [] }
 
--- so these are its lines
-pub silent_lines : (octets opening : List ℕ) (color brief : Bool) (x : Explained) → is_silent x.what ≡ true → octets ≡ opening → octets ≡ lines_of color x (shown_words brief (opening_alone opening))
-silent_lines octets opening color brief x silent is = is ∙ sym (ap (λ (b : Bool). lines_unless b color x (shown_words brief (opening_alone opening))) silent)
+-- so these are its lines, whatever changed
+pub silent_lines : (octets opening : List ℕ) (changes : List ShownChange) (moved : List UnshownChange) (color brief : Bool) (x : Explained) → is_silent x.what ≡ true → octets ≡ opening
+    → octets ≡ lines_of color x (shown_words brief (with_changes changes moved (opening_alone opening)))
+silent_lines octets opening changes moved color brief x silent is = is ∙ sym (ap (λ (b : Bool). lines_unless b color x (shown_words brief (with_changes changes moved (opening_alone opening)))) silent)
+
+-- of each other item all lines are said
+pub loud_lines : (octets : List ℕ) (color brief : Bool) (x : Explained) (w : Words) → is_silent x.what ≡ false → octets ≡ lines color x (shown_words brief w) → octets ≡ lines_of color x (shown_words brief w)
+loud_lines octets color brief x w loud is = is ∙ sym (ap (λ (b : Bool). lines_unless b color x (shown_words brief w)) loud)

@@ -1,3 +1,4 @@
+pub mod ChangeWords
 pub mod Lines
 pub mod Rest
 pub mod Waits

@@ -1,6 +1,6 @@
--- The lines of the text of an item, as far as they are fixed: its number and its offset, the cause of an error, and why
--- an item is ignored. The other words of an item are given to these definitions.
-use Rattle.std.specs.Prelude.{◌≡◌, ℕ, Bool, true, false, List, [], ◌∷◌, ◌++◌, codes, decimal, nat_lt, ◌&&◌, if◌then◌else◌, Option, Some, None}
+-- The lines of the text of an item, as far as they are fixed: its number and its offset, the cause of an error, why an
+-- item is ignored, and what it changed. The other words of an item are given to these definitions.
+use Rattle.std.specs.Prelude.{◌≡◌, ℕ, Bool, true, false, List, [], ◌∷◌, ◌++◌, codes, decimal, flat_map, nat_lt, ◌&&◌, if◌then◌else◌, Option, Some, None}
 use Rattle.h2_spec.specs.declared.causes.Cause.{Cause}
 use Rattle.h2_spec.specs.declared.connection.Phase.{Phase}
 use Rattle.h2_spec.specs.declared.connection.Phase.TheVariants.{Preface, Settings, Running, Ended}
@@ -15,6 +15,9 @@ use Rattle.h2_spec.specs.Causes.IgnoredWords.{ignored_name}
 use Rattle.h2_spec.specs.Causes.Rules.{Row, client_words, server_words}
 use Rattle.h2_spec.specs.Texts.Show.{joined}
 use Rattle.h2_explain_item.specs.declared.item.Explained.{Explained}
+use Rattle.h2_explain_item.specs.declared.change.changes.ShownChange.{ShownChange}
+use Rattle.h2_explain_item.specs.declared.change.changes.UnshownChange.{UnshownChange}
+use Rattle.h2_explain_text.specs.ChangeWords.{change_words, moved_words}
 use Rattle.h2_explain_text.specs.declared.paint.Role.{Role}
 use Rattle.h2_explain_text.specs.declared.paint.Role.TheVariants as role
 use Rattle.h2_explain_item.specs.declared.diagnosis.special.CaseFacts.{CaseFacts}
@@ -98,6 +101,19 @@ ignored_lines color reason row =
     joined (indent ∷ started color role.Ignored ∷ codes "ignored: " ∷ ignored_name reason
     ∷ row_lines indent color role.Ignored row row.sentence ∷ [])
 
+-- ---- what changed
+
+-- the line of a change in these words
+abbrev pub line_of_change : Bool → List ℕ → List ℕ
+line_of_change color words = joined (indent ∷ started color role.Change ∷ words ∷ ended color ∷ [])
+
+-- the line of a change, and of one of a stream besides
+unfoldable pub change_line : Bool → ShownChange → List ℕ
+change_line color change = line_of_change color (change_words change)
+
+unfoldable pub moved_line : Bool → UnshownChange → List ℕ
+moved_line color moved = line_of_change color (moved_words moved)
+
 -- ---- an item
 
 -- the lines of its cause, if it has one
@@ -112,7 +128,7 @@ reason_lines color (Some reason) case = ignored_lines color reason (rule_of_reas
 
 -- what is said about an item besides: the lines of what the server sent before it, the item in words, the lines of its
 -- fields, what decides whether its rule is a special case, the sentence of its error, the line of other causes, the
--- lines of what was sent and of what changed
+-- lines of what was sent, what changed on the connection and on streams, and the lines of the header table's entries
 pub record Words : Type 0 where
   pub opening : List ℕ
   pub item : List ℕ
@@ -121,22 +137,37 @@ pub record Words : Type 0 where
   pub sentence : List ℕ
   pub also : List ℕ
   pub sent : List ℕ
-  pub changes : List ℕ
+  pub changes : List ShownChange
+  pub moved : List UnshownChange
+  pub entries : List ℕ
 
--- the same, or the same without the lines of fields and of what changed
+-- the same, where this is what changed
+abbrev pub with_changes : List ShownChange → List UnshownChange → Words → Words
+with_changes changes moved w = record w { changes = changes; moved = moved }
+
+-- a list, or none where a text is brief
+abbrev pub detail : {A : Type 0} → (brief : Bool) → List A → List A
+detail true xs = []
+detail false xs = xs
+
+-- all that is said, or all but the lines of fields and of what changed
 abbrev pub shown_words : (brief : Bool) → Words → Words
-shown_words brief w = record w { fields = if brief then [] else w.fields; changes = if brief then [] else w.changes }
+shown_words brief w =
+    record w { fields = detail brief w.fields; changes = detail brief w.changes; moved = detail brief w.moved; entries = detail brief w.entries }
 
--- all lines of an item, with the special cases of its error and of why it is ignored
-abbrev pub lines_with : Bool → Explained → Words → (error_case ignored_case : Option SpecialCase) → List ℕ
-lines_with color x w error_case ignored_case =
+-- the lines of an item up to those of what was sent, with the special cases of its error and of why it is ignored
+abbrev pub main_lines_with : Bool → Explained → Words → (error_case ignored_case : Option SpecialCase) → List ℕ
+main_lines_with color x w error_case ignored_case =
     joined (w.opening ∷ first_line color x.number x.offset w.item ∷ w.fields
     ∷ cause_lines color x.after.counts.phase x.cause error_case w.sentence ∷ w.also
-    ∷ reason_lines color x.ignored ignored_case ∷ w.sent ∷ w.changes ∷ [])
+    ∷ reason_lines color x.ignored ignored_case ∷ w.sent ∷ [])
 
--- all lines of an item
+abbrev pub main_lines : Bool → Explained → Words → List ℕ
+main_lines color x w = main_lines_with color x w (case_of_error x w.facts) (case_of_reason x w.facts)
+
+-- all lines of an item: after these the lines of what changed
 abbrev pub lines : Bool → Explained → Words → List ℕ
-lines color x w = lines_with color x w (case_of_error x w.facts) (case_of_reason x w.facts)
+lines color x w = main_lines color x w ++ flat_map (change_line color) w.changes ++ flat_map (moved_line color) w.moved ++ w.entries
 
 -- whether nothing is said about an item itself: the preface
 abbrev pub is_silent : ItemHead → Bool

@@ -1,9 +1,10 @@
-//! An account of an item: what there is to show of it (`account`), and its lines of text (`lines`, with `text` and
-//! `paint`); the octets after the last item (`rest`), and what each live stream waits for at the end (`waits`). h2_explain_json
+//! An account of an item: what there is to show of it (`account`), and its lines of text (`lines`, with `text`,
+//! `change_lines` and `paint`); the octets after the last item (`rest`), and what each live stream waits for at the end (`waits`). h2_explain_json
 //! shows the same values as JSON.
 #![tactic(auto)]
 
 pub mod account;
+mod change_lines;
 pub mod lines;
 pub mod others;
 pub mod paint;

@@ -2,17 +2,16 @@
 //! of its error or of why it is ignored, of the frames that were sent, and of what changed. Definitions:
 //! `specs/Lines.antt`, the format: docs/EXPLAIN.md.
 
-ghost use Rattle.std.specs.Prelude.{◌≡◌, [], None, OnOk, if◌then◌else◌};
-ghost use Rattle.h2_explain_text.specs.Lines.{Words as Said, blanks, cause_lines, ended, error_lines, first_line, ignored_lines, is_silent, lines, lines_of, reason_lines, rule_lines, scope, shown_words, started};
+ghost use Rattle.std.specs.Prelude.{◌≡◌, ◌++◌, [], None, OnOk, false, flat_map, is_err};
+ghost use Rattle.h2_explain_text.specs.Lines.{Words as Said, blanks, cause_lines, change_line, detail, ended, error_lines, first_line, ignored_lines, is_silent, lines_of, main_lines, moved_line, reason_lines, rule_lines, scope, shown_words, started, with_changes};
 ghost use Rattle.h2_explain_item.specs.Special.{rule_of_cause, rule_of_reason};
 ghost use Rattle.h2_spec.specs.Causes.Rules.{client_words, server_words};
 
 use crate::account::Account;
+use crate::change_lines::{put_changes, put_moved};
 use crate::others::{say_accepted, say_beside_error, say_beside_reason};
 use crate::paint::{Paint, Role};
-use crate::text::{
-    say_all_moved, say_also, say_changes, say_entries, say_fields, say_item, say_opening, say_sent,
-};
+use crate::text::{say_also, say_entries, say_fields, say_item, say_opening, say_sent};
 use crate::warning_words::say_warnings;
 use h2_explain_item::diagnosis::special::{
     case_of_error, case_of_reason, rule_of_cause, rule_of_reason,
@@ -34,7 +33,7 @@ use std::marker::Model;
 use std::mem;
 
 /// The beginning of each line below the first one of an item.
-const INDENT: &str = "        ";
+pub(crate) const INDENT: &str = "        ";
 
 /// The blanks after a number and an offset: the words begin at the ninth column, two blanks on at least.
 #[derive(Clone, Copy)]
@@ -296,7 +295,8 @@ struct Ends {
     fields: usize,
     /// The end of the line of the other causes that hold of its block, which is empty if there are none.
     also: usize,
-    /// The end of the lines of the warnings, and of the frames that were sent. After it are those of what changed.
+    /// The end of the lines of the warnings, and of the frames that were sent. After it are those of the header table's
+    /// entries.
     sent: usize,
 }
 
@@ -315,17 +315,6 @@ fn say_shown_fields<A: Allocator + Copy>(
     if account.shows_fields {
         say_fields(block, paint, out);
     }
-}
-
-/// Puts the lines of what an item changed last.
-fn say_all_changes<A: Allocator + Copy>(
-    account: &Account<A>,
-    paint: Paint,
-    out: &mut TextBuilder<A>,
-) {
-    say_changes(account.changes.as_slice(), paint, out);
-    say_all_moved(account.unshown.as_slice(), paint, out);
-    say_entries(account.entries.as_slice(), paint, out);
 }
 
 /// Puts the words of an item in the place of those before.
@@ -351,7 +340,7 @@ fn say_words<A: Allocator + Copy>(
     say_warnings(account.warnings, paint, out);
     say_sent(item.sent, paint, account.is_brief, out);
     let sent = out.len();
-    say_all_changes(account, paint, out);
+    say_entries(account.entries.as_slice(), paint, out);
     Ends {
         opening,
         item: item_end,
@@ -366,7 +355,8 @@ fn say_words<A: Allocator + Copy>(
 /// `AllocError` where memory for it is refused.
 #[inline(always)]
 fn gather<A: Allocator, T: Text>(text: &T, out: &mut Gathered<A>) -> Result<(), AllocError>
-    ensures { OnOk result (out.new.octets.items ≡ T.text text.now) }
+    ensures text { OnOk result (out.new.octets.items ≡ T.text text.now) }
+    ensures flag { out.new.failed ≡ is_err result }
 {
     out.octets.clear();
     out.failed = false;
@@ -376,11 +366,37 @@ fn gather<A: Allocator, T: Text>(text: &T, out: &mut Gathered<A>) -> Result<(), 
     }
 }
 
-/// Lines that are left out where a text is brief: those of fields, and of what changed.
-fn detail(is_brief: bool, lines: Octets<'_>) -> Octets<'_>
-    ensures { result.0.now ≡ (if is_brief then [] else lines.entry.0.now) }
+/// What is left out where a text is brief: fields, and what changed.
+fn detail<T>(is_brief: bool, list: &[T]) -> &[T]
+    ensures { result.now ≡ detail is_brief list.now }
 {
-    if is_brief { Octets(&[]) } else { lines }
+    if is_brief { &list[..0] } else { list }
+}
+
+/// Puts the lines of what an item changed last, unless its account is brief; the last are those of entries.
+///
+/// `AllocError` where memory for them is refused.
+fn put_changed<A: Allocator + Copy>(
+    account: &Account<A>,
+    entries: Octets<'_>,
+    paint: Paint,
+    out: &mut Gathered<A>,
+) -> Result<(), AllocError>
+    requires { out.old.failed ≡ false }
+    ensures { OnOk result (out.new.octets.items ≡ out.old.octets.items ++ flat_map (change_line paint.0) (detail account.now.is_brief account.now.changes.items)
+        ++ flat_map (moved_line paint.0) (detail account.now.is_brief account.now.unshown.items) ++ detail account.now.is_brief entries.entry.0.now) }
+{
+    let is_brief = account.is_brief;
+    let changes = detail(is_brief, account.changes.as_slice());
+    let moved = detail(is_brief, account.unshown.as_slice());
+    let entries = Octets(detail(is_brief, entries.0));
+    if put_changes(changes, paint, out).is_err()
+        || put_moved(moved, paint, out).is_err()
+        || entries.write_to(out).is_err()
+    {
+        return Err(AllocError);
+    }
+    Ok(())
 }
 
 /// The first line of an item with these words.
@@ -397,17 +413,18 @@ fn first_of<'w>(item: &Explained<'_>, words: &'w [u8], ends: Ends, paint: Paint)
     }
 }
 
-/// The words after an item that is no error and not ignored: where the text is brief, without those of fields and of what
-/// changed.
+/// The words after an item that is no error and not ignored, up to those of what changed: where the text is brief, without
+/// those of fields.
 fn plain_rest(words: &[u8], ends: Ends, is_brief: bool) -> Octets<'_> {
     if is_brief {
         part(words, ends.also, ends.sent)
     } else {
-        part(words, ends.item, words.len())
+        part(words, ends.item, ends.sent)
     }
 }
 
-/// The lines of an item with these words that is no error and not ignored, without those of an opening.
+/// The lines of an item with these words that is no error and not ignored, up to those of what changed, without those of
+/// an opening.
 #[inline(always)]
 fn plain_lines<A: Allocator>(
     item: &Explained<'_>,
@@ -419,15 +436,16 @@ fn plain_lines<A: Allocator>(
 ) -> Result<(), AllocError>
     requires no_cause { item.now.cause ≡ None }
     requires no_reason { item.now.ignored ≡ None }
-    ensures { OnOk result ((w : Said) × (out.new.octets.items ≡ lines paint.0 item.now (shown_words is_brief w))) }
+    ensures text { OnOk result ((w : Said) × (out.new.octets.items ≡ main_lines paint.0 item.now (shown_words is_brief w))) }
+    ensures flag { out.new.failed ≡ is_err result }
 {
     let first = first_of(item, words, ends, paint);
     let rest = plain_rest(words, ends, is_brief);
     gather(&texts!(first, rest), out)
 }
 
-/// The lines of an item with these words.
-fn lines_with<A: Allocator + Copy>(
+/// The lines of an item with these words, up to those of what changed.
+fn main_lines<A: Allocator + Copy>(
     item: &Explained<'_>,
     words: &[u8],
     ends: Ends,
@@ -435,7 +453,8 @@ fn lines_with<A: Allocator + Copy>(
     paint: Paint,
     out: &mut Gathered<A>,
 ) -> Result<(), AllocError>
-    ensures { OnOk result ((w : Said) × (out.new.octets.items ≡ lines paint.0 item.now (shown_words account.now.is_brief w))) }
+    ensures text { OnOk result ((w : Said) × (out.new.octets.items ≡ main_lines paint.0 item.now (shown_words account.now.is_brief w))) }
+    ensures flag { out.new.failed ≡ is_err result }
 {
     let first = first_of(item, words, ends, paint);
     let sentence = account.sentence.as_str();
@@ -453,15 +472,33 @@ fn lines_with<A: Allocator + Copy>(
     };
     let opening = part(words, 0, ends.opening);
     let all_fields = part(words, ends.item, ends.fields);
-    let fields = detail(account.is_brief, all_fields);
+    let fields = detail(account.is_brief, all_fields.0);
     let also = part(words, ends.fields, ends.also);
     let sent = part(words, ends.also, ends.sent);
-    let all_changes = part(words, ends.sent, words.len());
-    let changes = detail(account.is_brief, all_changes);
+    let fields = Octets(fields);
     gather(
-        &texts!(opening, first, fields, cause, also, reason, sent, changes),
+        &texts!(opening, first, fields, cause, also, reason, sent),
         out,
     )
+}
+
+/// Puts the lines of an item with these words, up to those of what changed, in the place of what was gathered.
+#[inline(always)]
+fn put_main<A: Allocator + Copy>(
+    item: &Explained<'_>,
+    words: &[u8],
+    ends: Ends,
+    account: &Account<A>,
+    paint: Paint,
+    out: &mut Gathered<A>,
+) -> Result<(), AllocError>
+    ensures text { OnOk result ((w : Said) × (out.new.octets.items ≡ main_lines paint.0 item.now (shown_words account.now.is_brief w))) }
+    ensures flag { out.new.failed ≡ is_err result }
+{
+    if ends.opening == 0 && item.cause.is_none() && item.ignored.is_none() {
+        return plain_lines(item, words, ends, account.is_brief, paint, out);
+    }
+    main_lines(item, words, ends, account, paint, out)
 }
 
 /// Whether nothing is said about an item: the preface, as it has to be.
@@ -544,7 +581,7 @@ impl<A: Allocator + Copy> ItemLines<A> {
         block: ShownBlock<'_, A>,
         paint: Paint,
     ) -> Result<(), AllocError>
-        ensures { OnOk result ((w : Said) × (self.new ≡ lines_of paint.0 item.now (shown_words account.now.is_brief w))) }
+        ensures { OnOk result ((w : Said) × (self.new ≡ lines_of paint.0 item.now (shown_words account.now.is_brief (with_changes account.now.changes.items account.now.unshown.items w)))) }
     {
         let ends = say_words(item, account, block, paint, &mut self.words);
         let words = self.words.octets()?;
@@ -552,9 +589,8 @@ impl<A: Allocator + Copy> ItemLines<A> {
         if is_silent(item.what) {
             return gather(&part(words, 0, ends.opening), out);
         }
-        if ends.opening == 0 && item.cause.is_none() && item.ignored.is_none() {
-            return plain_lines(item, words, ends, account.is_brief, paint, out);
-        }
-        lines_with(item, words, ends, account, paint, out)
+        put_main(item, words, ends, account, paint, out)?;
+        let entries = part(words, ends.sent, words.len());
+        put_changed(account, entries, paint, out)
     }
 }

@@ -1,23 +1,19 @@
-//! The words of an item: the item itself, and the lines of its fields, of the frames that were sent, and of what
-//! changed. No definition speaks of them, the format is in docs/EXPLAIN.md.
+//! The words of an item: the item itself, and the lines of its fields, of the frames that were sent, and of the header
+//! table's entries. No definition speaks of them, the format is in docs/EXPLAIN.md.
 
 use crate::paint::{Paint, Role};
 use h2_explain_item::answer_fields::{AnswerPart, next_part};
-use h2_explain_item::change::changes::{ShownChange, UnshownChange};
-use h2_explain_item::change::count::Count;
 use h2_explain_item::change::header_table::EntryChange;
 use h2_explain_item::item::Explained;
 use h2_explain_item::shown_block::{ShownBlock, SpelledField};
 use h2_explain_words::frame_words::{say_frame, say_frame_in, say_head};
-use h2_explain_words::names::kind_name;
 use h2_explain_words::sent::next_frame;
 use h2_explain_words::spelled::Spelling;
 use h2_frame::FrameRef;
 use h2_hpack_instruction::instruction::Mode;
-use h2_io::say::{Cut, OctetCount, Say, TextBuilder};
+use h2_io::say::{Cut, OctetCount, TextBuilder};
 use h2_io::say_all;
 use h2_spec::causes::Cause;
-use h2_spec::connection::BlockView;
 use h2_spec::frames::{FrameType, ItemHead};
 use std::alloc::Allocator;
 
@@ -149,118 +145,6 @@ pub(crate) fn say_sent<A: Allocator>(
     }
 }
 
-/// A stream that a change is of, as `stream 1: `.
-#[derive(Clone, Copy)]
-struct OnStream(u32);
-
-impl Say for OnStream {
-    fn say<A: Allocator>(self, out: &mut TextBuilder<A>) {
-        say_all!(out; "stream ", self.0, ": ");
-    }
-}
-
-/// A number of a change, `none` where it is absent.
-#[derive(Clone, Copy)]
-struct Counted(Count, i64);
-
-impl Say for Counted {
-    fn say<A: Allocator>(self, out: &mut TextBuilder<A>) {
-        if self.1 == -1 && self.0.may_be_absent() {
-            say_all!(out; "none");
-        } else {
-            say_all!(out; self.1);
-        }
-    }
-}
-
-fn say_window<A: Allocator>(whose: &str, value: i64, out: &mut TextBuilder<A>) {
-    say_all!(out; whose, " send window is ", value);
-}
-
-/// Puts last why a body is not sent to its end: the windows that are spent.
-fn say_spent<A: Allocator>(own: i64, connection: i64, out: &mut TextBuilder<A>) {
-    if own <= 0 {
-        say_all!(out; ": ");
-        say_window("its", own, out);
-    }
-    if connection <= 0 {
-        say_all!(out; if own <= 0 { ", and " } else { ": " });
-        say_window("the connection's", connection, out);
-    }
-}
-
-/// Puts a change last.
-fn say_change<A: Allocator>(change: &ShownChange, out: &mut TextBuilder<A>) {
-    match change {
-        ShownChange::Number(stream, what, before, after) => {
-            if *stream != 0 {
-                say_all!(out; OnStream(*stream));
-            }
-            say_all!(out; what.name(), " ", Counted(*what, *before), " -> ", Counted(*what, *after));
-        }
-        ShownChange::State(stream, before, after) => say_all!(out;
-            OnStream(*stream), kind_name(*before), " -> ", kind_name(*after)),
-        ShownChange::Acknowledged(_, _) => say_all!(out; "the server's settings are acknowledged"),
-        ShownChange::Stops(stream, remaining, own, connection) => {
-            let verb = if *remaining == 1 {
-                " of its body remains"
-            } else {
-                " of its body remain"
-            };
-            say_all!(out; OnStream(*stream), OctetCount(*remaining), verb);
-            say_spent(*own, *connection, out);
-        }
-    }
-}
-
-/// A number before and after, as `65535 -> 0`.
-#[derive(Clone, Copy)]
-struct Moving(i64, i64);
-
-impl Say for Moving {
-    fn say<A: Allocator>(self, out: &mut TextBuilder<A>) {
-        say_all!(out; self.0, " -> ", self.1);
-    }
-}
-
-/// Puts last how far an open block has got.
-fn say_block<A: Allocator>(block: &BlockView, out: &mut TextBuilder<A>) {
-    let octets = OctetCount(u64::from(block.octets));
-    say_all!(out; "the block of stream ", block.stream, " is open: ", octets, ", a list of ", block.list_size);
-}
-
-/// Puts a change of a stream last that is not among the changes.
-fn say_moved<A: Allocator>(moved: &UnshownChange, out: &mut TextBuilder<A>) {
-    match moved {
-        UnshownChange::Opened(stream, recv, send, declared) => {
-            say_all!(out;
-                OnStream(*stream), "begins with a receive window of ", *recv,
-                " and a send window of ", *send);
-            if let Some(declared) = declared {
-                say_all!(out; ", content-length ", *declared);
-            }
-        }
-        UnshownChange::Number(stream, what, before, after) => say_all!(out;
-            OnStream(*stream), what.name(), " ", Moving(*before, *after)),
-        UnshownChange::BodySent(stream) => say_all!(out; OnStream(*stream), "its body is sent"),
-        UnshownChange::Block(block) => say_block(block, out),
-        UnshownChange::BlockEnds(stream) => say_all!(out; "the block of stream ", *stream, " ends"),
-    }
-}
-
-/// Puts the lines of what changed on streams besides last.
-pub(crate) fn say_all_moved<A: Allocator>(
-    moved: &[UnshownChange],
-    paint: Paint,
-    out: &mut TextBuilder<A>,
-) {
-    for change in moved {
-        paint.begin(Role::Change, out);
-        say_moved(change, out);
-        paint.end(out);
-    }
-}
-
 /// Puts an entry that was entered or evicted last.
 fn say_entry<A: Allocator + Copy>(change: &EntryChange<A>, out: &mut TextBuilder<A>) {
     let entry = &change.entry;
@@ -328,17 +212,4 @@ pub(crate) fn say_also<A: Allocator>(also: &[Cause], paint: Paint, out: &mut Tex
         say_all!(out; cause.name());
     }
     paint.end(out);
-}
-
-/// Puts the lines of changes last.
-pub(crate) fn say_changes<A: Allocator>(
-    changes: &[ShownChange],
-    paint: Paint,
-    out: &mut TextBuilder<A>,
-) {
-    for change in changes {
-        paint.begin(Role::Change, out);
-        say_change(change, out);
-        paint.end(out);
-    }
 }

@@ -3,7 +3,7 @@
 
 ghost use Rattle.std.specs.Prelude.{◌≡◌, map, slice_get, Some};
 ghost use Rattle.h2_spec.specs.Causes.Rules.{text_of};
-ghost use Rattle.h2_explain_item.specs.Counts.{all_counts, count_name};
+ghost use Rattle.h2_explain_item.specs.Counts.{all_counts, count_name, may_be_absent};
 
 use h2_spec::rules::text_at;
 
@@ -92,7 +92,9 @@ fn place_of(count: Count) -> usize
 
 impl Count {
     /// Whether the number may be absent: then -1 represents one that is.
-    pub fn may_be_absent(self) -> bool {
+    pub fn may_be_absent(self) -> bool
+        ensures { result ≡ may_be_absent self }
+    {
         match self {
             Count::GoawayLastStream
             | Count::GoawayCode
