@@ -44,7 +44,9 @@ pub left_is : (start : Start) (w : Walk) → Sees start w → left_by w ≡ unsp
 left_is start w e = left_in w.debugger e.gone w.seen.gone w.spoken (seen_by w.seen) (sight_above start (place_of w)) e.count e.seen
 
 all_in : (gone : List ℕ) (n : ℕ) (seen all : Sight) → n ≡ length gone → with_gone gone seen ≡ all → n + length seen.sent ≡ length all.sent
-all_in gone n seen all count e = omega (arith, count, length-append gone seen.sent, ap (λ (x : Sight). length x.sent) e)
+all_in gone n seen all count e =
+    let whole : length (gone ++ seen.sent) ≡ length all.sent = ap (λ (x : Sight). length x.sent) e in
+    omega (arith, count, length-append gone seen.sent, whole)
 
 sent_in : (d : CaseDebugger) (gone : List ℕ) (n : ℕ) (seen all : Sight) → n ≡ length gone → with_gone gone seen ≡ all
     → spoken_in d n (length (sight_by d seen).sent) ≡ length (sight_by d all).sent
