@@ -1,4 +1,6 @@
-use Rattle.std.proofs.Common.{◌≡◌, ◌∙◌, ◌++◌, ap, sym}
+use Rattle.std.proofs.Common.{◌≡◌, ◌∙◌, ◌++◌, ap, drop, sym}
+use Rattle.h2_spec.specs.Frames.Parse.{parse_all}
+use Rattle.h2_spec.specs.Trace.{next_event}
 use Rattle.h2_cmd_check.specs.ItemsTaken.{Sight, seen_by, with_gone}
 use Rattle.h2_cmd_check.proofs.Feeds.{items_with_gone, rest_fed, seen_fed, state_fed}
 use Rattle.h2_cmd_check.proofs.walk.Walk.feed.Goals as goal
@@ -20,6 +22,6 @@ returns-in-Ok-take_items-clause-walks c = λ start before.
         gone = gone;
         count = c.take_items.ensures.gone ∙ is.seen.count;
         seen = rw items (seen_fed start.state c.args.conn.now.state start.sent w.octets.items more w.at (with_gone gone (seen_by w.seen)) (with_gone gone (seen_by c.take_items.new.seen)) is.within.1 is.state is.rest is.seen.seen
-            (ap (λ (x : Sight). with_gone gone x) (rw slice at c.in-Ok-take_items.ensures.seen) ∙ sym (items_with_gone c.args.conn.now.state gone (seen_by w.seen) _)));
+            (ap (λ (x : Sight). with_gone gone x) (rw slice at c.in-Ok-take_items.ensures.seen) ∙ sym (items_with_gone c.args.conn.now.state gone (seen_by w.seen) (parse_all next_event c.args.conn.now.state (drop w.at (w.octets.items ++ more))).elements)));
       };
     }
