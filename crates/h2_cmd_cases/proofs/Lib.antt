@@ -1,3 +1,4 @@
 pub mod CaseLists
+pub mod LineLaws
 pub mod Lists
 pub mod Readings

@@ -4,7 +4,7 @@ ghost use Rattle.std.specs.Prelude.{◌≡◌, ◌<◌, ◌≤◌, length, map, 
 ghost use Rattle.std.specs.List.{list_all, list_any, position_or_len};
 ghost use Rattle.std.specs.Option.{option_map};
 ghost use Rattle.h2_spec.specs.Texts.Script.{lines_of};
-ghost use Rattle.h2_cmd_cases.specs.Files.{case_length, expect_something, is_silent_line, preamble_length, title_in};
+ghost use Rattle.h2_cmd_cases.specs.Files.{case_length, expect_something, is_silent_line, preamble_length, title_in, title_said};
 ghost use Rattle.h2_cmd_cases.specs.Lines.{begins, expects, line_said};
 
 use crate::line::{Line, line_of};
@@ -19,22 +19,20 @@ pub fn lines_in(alloc: Global, text: &[u8]) -> Result<Vec<&[u8]>, AllocError>
     text.split(|octet| *octet == b'\n').collect(alloc)
 }
 
+/// The title of a line that begins a case.
+#[tactic(auto, using(crate::proofs::LineLaws::title_is))]
+fn title_of_line(line: &[u8]) -> Option<&[u8]>
+    ensures { option_map (λ t. t.now) result ≡ title_said (line_said line.now) }
+{
+    line.strip_prefix(b";# ".as_slice())
+}
+
 /// Whether a line begins a case.
+#[tactic(auto, using(crate::proofs::LineLaws::begins_is))]
 fn begins(line: &[u8]) -> bool
     ensures { result ≡ begins (line_said line.now) }
 {
-    match line_of(line) {
-        Line::Title(_) => true,
-        Line::Script(_)
-        | Line::Words(_)
-        | Line::Sent(_)
-        | Line::Shown(_)
-        | Line::Cause(_)
-        | Line::Reason(_)
-        | Line::Explained(_)
-        | Line::Command(_)
-        | Line::Unspaced(_) => false,
-    }
+    title_of_line(line).is_some()
 }
 
 /// Whether a line expects something.
@@ -113,28 +111,14 @@ pub fn title_of<'t>(lines: &[&'t [u8]]) -> Option<&'t [u8]>
     let Some((first, _)) = lines.split_first() else {
         return None;
     };
-    match line_of(first) {
-        Line::Title(title) => Some(title),
-        Line::Script(_)
-        | Line::Words(_)
-        | Line::Sent(_)
-        | Line::Shown(_)
-        | Line::Cause(_)
-        | Line::Reason(_)
-        | Line::Explained(_)
-        | Line::Command(_)
-        | Line::Unspaced(_) => None,
-    }
+    title_of_line(first)
 }
 
 /// Whether lines begin with a title.
 fn is_titled(lines: &[&[u8]]) -> bool
     ensures { result ≡ is_some (title_in (map (λ l. l.now) lines.now)) }
 {
-    match title_of(lines) {
-        Some(_) => true,
-        None => false,
-    }
+    title_of(lines).is_some()
 }
 
 /// How many lines are in front of the first case: those before the first title, where they say nothing.

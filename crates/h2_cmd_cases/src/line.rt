@@ -80,9 +80,13 @@ fn expectation_of(line: &[u8]) -> Line<'_>
 }
 
 /// What a line of a case file says.
+#[tactic(auto, using(crate::proofs::LineLaws::script_is))]
 pub fn line_of(line: &[u8]) -> Line<'_>
     ensures { said_by result ≡ line_said line.now }
 {
+    if line.strip_prefix(b";".as_slice()).is_none() {
+        return Line::Script(line);
+    }
     if let Some(text) = line.strip_prefix(b";# ".as_slice()) {
         return Line::Title(text);
     }
