@@ -1,1 +1,5 @@
 pub mod Stops
+pub mod Whys
+pub mod ScriptLines
+pub mod Dialogues
+pub mod Results

@@ -5,6 +5,7 @@
 mod file;
 mod script_lines;
 mod serving;
+mod why;
 mod words;
 
 pub use h2_cmd_exchange::link::{Link, LinkRead};

@@ -1,6 +1,8 @@
 //! `serve --inject`: a dialogue is read, a port is listened on, and clients are served, the first one with the script.
 
-ghost use Rattle.std.specs.Prelude.{◌≡◌, ◌==◌, false, is_err};
+ghost use Rattle.std.specs.Prelude.{◌≡◌, ◌==◌, ◌-◌, IfOk, None, OnErr, Some, drop, false, slice_get, take};
+ghost use Rattle.h2_spec.specs.State.{opening};
+ghost use Rattle.h2_cmd_inject.specs.Results.{cause_by};
 ghost use Rattle.h2_cmd_inject.specs.Stops.{is_unwritten, is_written};
 ghost use Rattle.h2_cmd_inject.specs.declared.serving.Stop.TheVariants.{NoMemory};
 
@@ -85,7 +87,7 @@ fn refusal(alloc: Global, file: &str, refusal: FileRefusal) -> Stop
 {
     match refusal {
         FileRefusal::NoMemory => Stop::NoMemory,
-        FileRefusal::Line(line, why) => about_line(alloc, file, line, why),
+        FileRefusal::Line(line, why) => about_line(alloc, file, line, why.sentence()),
     }
 }
 
@@ -107,11 +109,26 @@ fn read<F: Files>(alloc: Global, file: &str, files: &mut F) -> Result<Vec<u8>, S
     }
 }
 
+/// The lines from a place on; none where there are fewer.
+fn lines_from<'c, 't>(lines: &'c [&'t [u8]], first: usize) -> &'c [&'t [u8]]
+    ensures { result.now ≡ drop first lines.now }
+{
+    if lines.len() < first {
+        return &[];
+    }
+    &lines[first..]
+}
+
 /// The lines of a dialogue.
-fn lines_of<'p, 't>(play: Play<'p, 't>) -> &'p [&'t [u8]] {
-    let first = play.dialogue.first;
-    let end = first.saturating_add(play.dialogue.count);
-    play.lines.get(first..end).unwrap_or_default()
+fn lines_of<'p, 't>(play: Play<'p, 't>) -> &'p [&'t [u8]]
+    ensures { result.now ≡ take play.entry.dialogue.now.count (drop play.entry.dialogue.now.first play.entry.lines.now) }
+{
+    let dialogue = play.dialogue;
+    let rest = lines_from(play.lines, dialogue.first);
+    if rest.len() <= dialogue.count {
+        return rest;
+    }
+    &rest[..dialogue.count]
 }
 
 /// The limits, the settings and the book that a dialogue says, if it says some.
@@ -126,10 +143,11 @@ fn own<F: Files>(
     if !have_words(lines) {
         return Ok(None);
     }
+    let dialogue = play.dialogue;
     let case = Case {
         file: play.file,
         lines,
-        number: play.dialogue.first.saturating_add(1),
+        number: dialogue.first.saturating_add(1),
     };
     match own_of(alloc, files, case) {
         Ok(own) => Ok(Some(own)),
@@ -183,7 +201,9 @@ fn cause_if(
     config: Config,
     end: End,
     course: &Course<'_>,
-) -> Result<Option<Cause>, AllocError> {
+) -> Result<Option<Cause>, AllocError>
+    ensures { IfOk result (λ cause. cause ≡ cause_by end (opening book.now config) course.now.octets) }
+{
     match end {
         End::ByServer(_) => last_cause(alloc, book, config, course.octets()),
         End::Closed | End::Silent | End::NoFrames | End::TooMuch | End::Late => Ok(None),
@@ -202,7 +222,8 @@ fn play_first<L: Link, O: Output>(
     requires writer { O.has_failed output.old ≡ false }
     ensures flag { O.has_failed output.new ≡ is_unwritten result }
 {
-    let steps = play.dialogue.steps.as_slice();
+    let dialogue = play.dialogue;
+    let steps = dialogue.steps.as_slice();
     let (course, end) = play_one(alloc, book, config, steps, link)?;
     let ended = Ended {
         course: &course,
@@ -223,7 +244,7 @@ fn play_first<L: Link, O: Output>(
         play.number,
         title,
         play.lines,
-        play.dialogue.first,
+        dialogue.first,
         findings.as_slice(),
         ending,
     )?;
@@ -312,7 +333,9 @@ fn dialogue_of<'p>(
     watch: ServeReport<'_>,
     dialogues: &'p [Dialogue],
 ) -> Result<&'p Dialogue, Stop>
-    ensures { is_unwritten result ≡ false }
+    ensures ok { IfOk result (λ dialogue. slice_get dialogues.now (watch.entry.dialogue - 1) ≡ Some dialogue.now) }
+    ensures err { OnErr result (slice_get dialogues.now (watch.entry.dialogue - 1) ≡ None) }
+    ensures flag { is_unwritten result ≡ false }
 {
     match dialogues.get((watch.dialogue as usize).saturating_sub(1)) {
         Some(dialogue) => Ok(dialogue),
