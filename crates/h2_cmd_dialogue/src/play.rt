@@ -140,7 +140,7 @@ impl<'b> Course<'b> {
             came: 0,
             is_closed: false,
         };
-        course.weave(steps, Incoming::Start, opening)?;
+        course.weave(alloc, steps, Incoming::Start, opening)?;
         Ok(course)
     }
 
@@ -159,7 +159,13 @@ impl<'b> Course<'b> {
     }
 
     /// An item came, for which the server sends this.
-    fn weave(&mut self, steps: &[Step], item: Incoming<'_>, sent: &[u8]) -> Result<(), AllocError>
+    fn weave(
+        &mut self,
+        alloc: Global,
+        steps: &[Step],
+        item: Incoming<'_>,
+        sent: &[u8],
+    ) -> Result<(), AllocError>
         ensures { OnOk result (self.new ≡ record self.old {
           weaving = after_item steps.now self.old.weaving (incoming_of item.entry);
           watched = with_octets self.old.watched (woven_item steps.now self.old.weaving (incoming_of item.entry) sent.now)
@@ -168,7 +174,9 @@ impl<'b> Course<'b> {
         }) }
     {
         let before = self.out.len();
-        let is_step = self.weaver.weave(steps, item, sent, &mut self.out)?;
+        let (parts, is_step) = self.weaver.weave(alloc, steps, item, sent)?;
+        self.out.extend_from_slice(parts.sent.as_slice())?;
+        self.out.extend_from_slice(parts.script.as_slice())?;
         let sent = behind(self.out.as_slice(), before);
         self.watched.note(sent, is_step)
     }
@@ -213,7 +221,7 @@ impl<'b> Course<'b> {
     {
         let sent = self.feed(alloc, octets)?;
         self.hear(steps, octets, item)?;
-        self.weave(steps, item, sent.as_slice())
+        self.weave(alloc, steps, item, sent.as_slice())
     }
 
     /// Takes the item that octets begin with, where it is whole. Gives how many octets it has; 0 where it is not.
