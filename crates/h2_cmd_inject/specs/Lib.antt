@@ -3,3 +3,4 @@ pub mod Whys
 pub mod ScriptLines
 pub mod Dialogues
 pub mod Results
+pub mod Views

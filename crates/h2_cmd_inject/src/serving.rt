@@ -1,12 +1,14 @@
 //! `serve --inject`: a dialogue is read, a port is listened on, and clients are served, the first one with the script.
 
-ghost use Rattle.std.specs.Prelude.{◌≡◌, ◌==◌, ◌-◌, IfOk, None, OnErr, Some, drop, false, slice_get, take};
+ghost use Rattle.std.specs.Prelude.{◌≡◌, ◌==◌, ◌-◌, [], IfOk, None, OnErr, Some, drop, false, slice_get, take};
+ghost use Rattle.h2_conn.specs.Connection.{going};
 ghost use Rattle.h2_spec.specs.State.{opening};
 ghost use Rattle.h2_cmd_inject.specs.Results.{cause_by};
 ghost use Rattle.h2_cmd_inject.specs.Stops.{is_unwritten, is_written};
 ghost use Rattle.h2_cmd_inject.specs.declared.serving.Stop.TheVariants.{NoMemory};
 
 use crate::file::{Dialogue, FileRefusal, dialogues_of};
+use crate::view::view_text;
 use crate::words::{Ending, PATIENCE, has_broken, result_text};
 use h2_cmd_args::command::{Serve, ServeReport};
 use h2_cmd_batch::{BenchFault, Case, CaseSetup, OwnFault, book_for_words, own_of, print_fault};
@@ -55,6 +57,8 @@ impl From<AllocError> for Stop {
 /// What a dialogue is played with.
 #[derive(Clone, Copy)]
 struct Play<'p, 't> {
+    /// What is shown of connections.
+    watch: ServeReport<'p>,
     file: &'p str,
     number: u64,
     lines: &'p [&'t [u8]],
@@ -173,6 +177,18 @@ fn print<O: Output>(output: &mut O, text: &[u8]) -> Result<(), Stop>
     }
 }
 
+/// A new connection.
+fn open(alloc: Global, book: &Book<Global>, config: Config) -> Result<Conn<'_, Global>, Stop>
+    ensures new { IfOk result (λ conn. conn ≡ going (opening book.now config) []) }
+    ensures flag { is_unwritten result ≡ false }
+{
+    match Conn::new(book, config, &mut Vec::new(alloc)) {
+        Ok(conn) => Ok(conn),
+        Err(ConnFault::BadConfig) => Err(Stop::Fault(BenchFault::BadConfig)),
+        Err(_) => Err(Stop::NoMemory),
+    }
+}
+
 /// Plays the connection of a client. Gives what is known of it, and how it ended.
 fn play_one<'b, L: Link>(
     alloc: Global,
@@ -210,6 +226,30 @@ fn cause_if(
     }
 }
 
+/// Prints what is shown of the connection with this number, where that is asked for.
+fn show<O: Output>(
+    alloc: Global,
+    book: &Book<Global>,
+    config: Config,
+    watch: ServeReport<'_>,
+    steps: &[Step],
+    number: u64,
+    course: &Course<'_>,
+    output: &mut O,
+) -> Result<(), Stop>
+    requires writer { O.has_failed output.old ≡ false }
+    ensures flag { O.has_failed output.new ≡ is_unwritten result }
+{
+    if !watch.explain {
+        return Ok(());
+    }
+    let conn = open(alloc, book, config)?;
+    let mut octets = Vec::from_slice(alloc, course.octets())?;
+    octets.extend_from_slice(course.rest())?;
+    let text = view_text(alloc, watch, conn, steps, number, octets.as_slice())?;
+    print(output, text.as_slice())
+}
+
 /// Plays a dialogue to the first client, and prints its result. Says whether something is broken.
 fn play_first<L: Link, O: Output>(
     alloc: Global,
@@ -225,6 +265,7 @@ fn play_first<L: Link, O: Output>(
     let dialogue = play.dialogue;
     let steps = dialogue.steps.as_slice();
     let (course, end) = play_one(alloc, book, config, steps, link)?;
+    show(alloc, book, config, play.watch, steps, 1, &course, output)?;
     let ended = Ended {
         course: &course,
         end,
@@ -281,9 +322,20 @@ fn serve_all<L: Link, O: Output>(
     }
     accept(link)?;
     let is_broken = play_first(alloc, book, config, play, link, output)?;
-    for _later in 1..count {
+    for later in 1..count {
         accept(link)?;
-        let _later = play_one(alloc, book, config, &[], link)?;
+        let (course, _end) = play_one(alloc, book, config, &[], link)?;
+        let number = u64::from(later).saturating_add(1);
+        show(
+            alloc,
+            book,
+            config,
+            play.watch,
+            &[],
+            number,
+            &course,
+            output,
+        )?;
     }
     Ok(is_broken)
 }
@@ -301,11 +353,7 @@ fn listen_and_serve<G: Guests, O: Output>(
     requires writer { O.has_failed output.old ≡ false }
     ensures flag { O.has_failed output.new ≡ is_unwritten result }
 {
-    match Conn::new(book, config, &mut Vec::new(alloc)) {
-        Ok(_) => {}
-        Err(ConnFault::BadConfig) => return Err(Stop::Fault(BenchFault::BadConfig)),
-        Err(_) => return Err(Stop::NoMemory),
-    }
+    let _conn = open(alloc, book, config)?;
     let Ok(port) = u16::try_from(plan.port) else {
         return Err(Stop::Fault(BenchFault::Socket));
     };
@@ -346,7 +394,7 @@ fn dialogue_of<'p>(
 /// Refuses the first dialogue whose words are refused.
 fn check_words<'p, F: Files>(
     alloc: Global,
-    file: &'p str,
+    watch: ServeReport<'p>,
     lines: &'p [&[u8]],
     dialogues: &'p [Dialogue],
     files: &mut F,
@@ -355,7 +403,8 @@ fn check_words<'p, F: Files>(
 {
     for dialogue in dialogues {
         let play = Play {
-            file,
+            watch,
+            file: watch.inject,
             number: 0,
             lines,
             dialogue,
@@ -381,8 +430,9 @@ fn run<F: Files, G: Guests, O: Output, E: Output>(
     let lines = lines_in(alloc, text.as_slice())?;
     let lines = lines.as_slice();
     let dialogues = dialogues_in(alloc, plan.watch.inject, lines)?;
-    check_words(alloc, plan.watch.inject, lines, dialogues.as_slice(), files)?;
+    check_words(alloc, plan.watch, lines, dialogues.as_slice(), files)?;
     let play = Play {
+        watch: plan.watch,
         file: plan.watch.inject,
         number: u64::from(plan.watch.dialogue),
         lines,
