@@ -1,6 +1,10 @@
 -- What is shown of a connection with a script.
-use Rattle.std.specs.Prelude.{ℕ, ◌||◌, nat_lt, Bool, length, if◌then◌else◌, Option, Some, None}
+use Rattle.std.specs.Prelude.{ℕ, ◌||◌, nat_lt, Bool, List, [], length, if◌then◌else◌, Option, Some, None}
+use Rattle.h2_cmd_dialogue.specs.Steps.{Comes, Incoming, Preface}
 use Rattle.h2_cmd_dialogue.specs.Woven.{Parts}
+use Rattle.h2_explain_item.specs.Item.{payload_in}
+use Rattle.h2_spec.specs.declared.frames.ItemHead.{ItemHead}
+use Rattle.h2_spec.specs.declared.frames.ItemHead.TheVariants as head
 
 -- the script has sent something, or kept something back
 abbrev pub has_spoken : Parts → Bool
@@ -15,3 +19,10 @@ since_with None number p = if has_spoken p then Some number else None
 abbrev pub judged : {X : Type 0} → Option ℕ → Option X → Option X
 judged None x = x
 judged (Some since) x = None
+
+-- what an item is for a script: of a frame that is too long the head alone
+abbrev pub incoming_in : ItemHead → List ℕ → Incoming
+incoming_in head.Preface octets = Preface
+incoming_in head.BadPreface octets = Preface
+incoming_in (head.Oversize h) octets = Comes h []
+incoming_in (head.Frame h) octets = Comes h (payload_in octets)

@@ -4,7 +4,9 @@
 
 ghost use Rattle.std.specs.Prelude.{◌≡◌, [], IfOk, OnOk};
 ghost use Rattle.h2_conn.specs.Connection.{going};
-ghost use Rattle.h2_cmd_inject.specs.Views.{has_spoken, judged, since_with};
+ghost use Rattle.h2_cmd_inject.specs.Views.{has_spoken, incoming_in, judged, since_with};
+ghost use Rattle.h2_cmd_dialogue.specs.Steps.{incoming_of};
+ghost use Rattle.h2_cmd_dialogue.specs.Woven.{after_item, parts_of};
 
 use h2_cmd_args::command::ServeReport;
 use h2_cmd_cases::lines_in;
@@ -25,7 +27,8 @@ use h2_explain_words::sent::next_frame;
 use h2_frame::FrameRef;
 use h2_io::say::TextBuilder;
 use h2_io::{say_all, string_of};
-use h2_spec::octets::{first_octets, octets_from};
+use h2_spec::frames::ItemHead;
+use h2_spec::octets::first_octets;
 use std::alloc::{AllocError, Global};
 
 /// Whether the script has sent something, or kept something back.
@@ -78,12 +81,17 @@ fn shown_as<'o>(since: Option<u64>, item: Explained<'o>, sent: &'o [u8]) -> Expl
     }
 }
 
-/// What an item is for a script.
-fn incoming<'o>(item: &'o Explained<'_>) -> Incoming<'o> {
-    match (item.frame(), item.head()) {
-        (Some(frame), _) => Incoming::Frame(frame),
-        (None, Some(head)) => Incoming::Frame(FrameRef { head, payload: &[] }),
-        (None, None) => Incoming::Preface,
+/// What an item is for a script: of a frame that is too long the head alone.
+fn incoming<'o>(item: &'o Explained<'_>) -> Incoming<'o>
+    ensures { incoming_of result ≡ incoming_in item.now.what item.now.octets.now }
+{
+    match item.what {
+        ItemHead::Preface | ItemHead::BadPreface => Incoming::Preface,
+        ItemHead::Oversize(head) => Incoming::Frame(FrameRef { head, payload: &[] }),
+        ItemHead::Frame(head) => Incoming::Frame(FrameRef {
+            head,
+            payload: item.payload(),
+        }),
     }
 }
 
@@ -223,7 +231,9 @@ impl<'b> View<'b> {
         out: &mut Vec<u8>,
     ) -> Result<(), AllocError>
         ensures ready { self.new.conn ≡ self.old.conn }
-        ensures offset { self.new.offset ≡ self.old.offset }
+        ensures weaver { OnOk result (self.new.weaver ≡ after_item steps.now self.old.weaver (incoming_in item.now.what item.now.octets.now)) }
+        ensures since { OnOk result (self.new.since ≡ since_with self.old.since item.now.number
+            (parts_of steps.now self.old.weaver (incoming_in item.now.what item.now.octets.now) item.now.sent.now)) }
     {
         let paint = Paint(watch.color);
         self.explainer
@@ -341,7 +351,7 @@ pub fn view_text(
         if used == 0 {
             break;
         }
-        rest = octets_from(rest, used);
+        rest = rest.get(used..).unwrap_or_default();
     }
     view.end(alloc, watch, rest, &mut text)?;
     numbered(alloc, number, text.as_slice())
