@@ -10,7 +10,7 @@ ghost use Rattle.h2_cmd_dialogue.specs.Watches.{heard_item, nothing_watched, wat
 ghost use Rattle.h2_cmd_dialogue.specs.Steps.{Start, Step, incoming_of};
 ghost use Rattle.h2_cmd_dialogue.specs.Plays.{Goes, TakesOne, TakesSome, with_read};
 
-use crate::item::{behind, front_item, is_client};
+use crate::item::{front_item, is_client};
 use crate::step::{Incoming, Step};
 use crate::watched::Watched;
 use crate::weave::Weaver;
@@ -173,12 +173,10 @@ impl<'b> Course<'b> {
           out = self.old.out ++ woven_item steps.now self.old.weaving (incoming_of item.entry) sent.now;
         }) }
     {
-        let before = self.out.len();
         let (parts, is_step) = self.weaver.weave(alloc, steps, item, sent)?;
-        self.out.extend_from_slice(parts.sent.as_slice())?;
-        self.out.extend_from_slice(parts.script.as_slice())?;
-        let sent = behind(self.out.as_slice(), before);
-        self.watched.note(sent, is_step)
+        let out = parts.into_out()?;
+        self.out.extend_from_slice(out.as_slice())?;
+        self.watched.note(out.as_slice(), is_step)
     }
 
     /// What the server sends for these octets.

@@ -4,7 +4,7 @@
 ghost use Rattle.std.specs.Prelude.{◌≡◌, ◌++◌, ◌≤◌, false, true, length, take, option_map, IfOk, OnOk, is_some, None, Some};
 ghost use Rattle.h2_spec.specs.Octets.{big_endian};
 ghost use Rattle.h2_cmd_dialogue.specs.Steps.{incoming_of};
-ghost use Rattle.h2_cmd_dialogue.specs.Woven.{after_item, base_of, kept, last_of, last_sent, later, next_step, no_parts, no_steps_taken, parts_of, parts_with, picked_frame, picked_frames, reset_by, resets, script_frame, script_frames, script_octets, stopped, stream_sent, with_item};
+ghost use Rattle.h2_cmd_dialogue.specs.Woven.{after_item, base_of, goes_out, kept, last_of, last_sent, later, next_step, no_parts, no_steps_taken, parts_of, parts_with, picked_frame, picked_frames, reset_by, resets, script_frame, script_frames, script_octets, stopped, stream_sent, with_item};
 
 use crate::item::behind;
 use crate::step::{Incoming, PROBE, ScriptFrame, Step, based, with_request};
@@ -254,6 +254,16 @@ impl Parts {
         ensures { OnOk result (self.new ≡ record self.old { script = self.old.script ++ script_octets base step.now }) }
     {
         put_script(base, step, &mut self.script)
+    }
+
+    /// What goes out.
+    pub fn into_out(self) -> Result<Vec<u8>, AllocError>
+        ensures { IfOk result (λ out. out.items ≡ goes_out self) }
+    {
+        let Self { sent, script, .. } = self;
+        let mut out = sent;
+        out.extend_from_slice(script.as_slice())?;
+        Ok(out)
     }
 }
 
