@@ -441,6 +441,75 @@ def test_reset():
     expect(sent[2:] == wanted, f"a stream that is reset: {sent}")
 
 
+# ---- the bench's own view
+
+VIEWED = """;# DATA on stream 0 (RFC 9113, 6.1)
+;- HEADERS 05 1
+DATA 00 0 x61
+;! MUST connection PROTOCOL_ERROR
+;+ pong
+HEADERS 05 1 hi8
+"""
+
+# What the server sends is withheld, then the script speaks. From there on neither a frame that is ignored nor an error is judged.
+VIEW = """1: #0 @0   the server's opening
+1:         sent SETTINGS, MAX_CONCURRENT_STREAMS 100, MAX_HEADER_LIST_SIZE 65536
+1: #2 @24  SETTINGS, empty
+1:         sent SETTINGS ACK
+1: #3 @33  HEADERS stream 1 END_STREAM END_HEADERS, 6 octets
+1:         withheld HEADERS stream 1 END_HEADERS, 1 octet
+1:         withheld DATA stream 1 END_STREAM, 2 octets
+1:         script DATA stream 0, 1 octet
+1:         script PING 68325f62656e6368
+1: #4 @48  PING ACK 68325f62656e6368
+1:         ignored: ping-acknowledgement; not judged, the script has spoken since #3
+1:         script HEADERS stream 1 END_STREAM END_HEADERS, 1 octet
+1: #5 @65  DATA stream 9 END_STREAM, 1 octet
+1:         sent GOAWAY last 1 PROTOCOL_ERROR
+1:         connection error PROTOCOL_ERROR: data-on-idle; not judged, the script has spoken since #3
+"""
+
+# A later connection has no script, so all is judged, as without one.
+LATER = """2: #0 @0   the server's opening
+2:         sent SETTINGS, MAX_CONCURRENT_STREAMS 100, MAX_HEADER_LIST_SIZE 65536
+2: #2 @24  SETTINGS, empty
+2:         sent SETTINGS ACK
+2: #3 @33  DATA stream 9 END_STREAM, 1 octet
+2:         connection error PROTOCOL_ERROR: data-on-idle, RFC 9113 5.1, server MUST; broken: client breach, RFC 9113 6.1
+2:         stream 9 is idle; HEADERS has to open it first
+2:         sent GOAWAY last 0 PROTOCOL_ERROR
+"""
+
+
+def view_client(port, octets, awaited, then):
+    """Sends octets, waits for others, sends more, and reads to the end."""
+    with socket.create_connection(("127.0.0.1", port), timeout=60) as connection:
+        connection.sendall(octets)
+        got = b""
+        while awaited not in got:
+            got += connection.recv(65536)
+        connection.sendall(then)
+        while connection.recv(65536):
+            pass
+
+
+def test_view():
+    """With `--explain` each item is shown with what of the server went out for it, what did not, and what the script sent."""
+    idle = octets_of(Frame(DATA, END_STREAM, 9, b"a"))
+    with tempfile.TemporaryDirectory() as folder:
+        path, port = f"{folder}/view.h2", free_port()
+        with open(path, "w", encoding="utf-8") as file:
+            file.write(VIEWED)
+        words = ["h2_bench", "serve", "--quiet", "--inject", path, "--explain", "--brief", str(port), "2", "GET|/|200|6869"]
+        with subprocess.Popen(words, executable=PROGRAM, stdout=subprocess.PIPE, text=True) as ran:
+            ran.stdout.readline()
+            view_client(port, START + octets_of(Frame(HEADERS, END_HEADERS | END_STREAM, 1, GET + b"A\1a")), PROBE, octets_of(Frame(PING, ACK, 0, PROBE)) + idle)
+            view_client(port, START, b"\4\1\0\0\0\0", idle)
+            text = ran.stdout.read()
+        found = f'not ok 1 - {path}: DATA on stream 0 (RFC 9113, 6.1)\n  ---\n  - line: 1\n    wanted: "a client that the server goes on with"\n    found: "ended by the server: data-on-idle"\n  ...\n'
+        expect(text == VIEW + found + LATER, f"a view: {text}")
+
+
 # ---- lines
 
 BAD = [
@@ -514,6 +583,7 @@ def test_injected(dialogues):
     global INJECTED
     INJECTED = True
     test_bad_lines_injected()
+    test_view()
     test_reactions()
     test_raw()
     test_waiting()

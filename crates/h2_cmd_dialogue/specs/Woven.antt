@@ -1,5 +1,5 @@
 -- What goes out for each item of a client, where a script adds frames to what the server sends.
-use Rattle.std.specs.Prelude.{ℕ, zero, suc, ◌+◌, ◌%◌, min, ◌==◌, ◌&&◌, not, List, [], ◌∷◌, ◌++◌, length, take, drop, slice_get, flat_map, option_to_list, if◌then◌else◌, Option, Some, None, Result, Ok, Err}
+use Rattle.std.specs.Prelude.{ℕ, zero, suc, ◌+◌, ◌%◌, min, ◌==◌, ◌&&◌, not, Bool, true, false, List, [], ◌∷◌, ◌++◌, length, take, drop, slice_get, flat_map, option_to_list, if◌then◌else◌, Option, Some, None, Result, Ok, Err}
 use Rattle.std.specs.List.{list_any}
 use Rattle.h2_explain_words.specs.Sent.{FirstFrame, first_frame}
 use Rattle.h2_spec.specs.declared.frames.Head.{Head}
@@ -25,23 +25,29 @@ base_of None = 0
 
 -- ---- what the server sends
 
--- a frame at the front of octets, unless the script has reset its stream
-abbrev pub kept_frame : List ℕ → Head → List ℕ → List ℕ
-kept_frame reset h octets = if list_any (λ n. n == h.stream) reset then [] else take (9 + h.length) octets
+-- a frame at the front of octets, where the script has reset its stream, or where it has not
+abbrev pub picked_frame : (is_stopped : Bool) → List ℕ → Head → List ℕ → List ℕ
+picked_frame false reset h octets = if list_any (λ n. n == h.stream) reset then [] else take (9 + h.length) octets
+picked_frame true reset h octets = if list_any (λ n. n == h.stream) reset then take (9 + h.length) octets else []
 
-abbrev pub kept_first : List ℕ → List ℕ → Option FirstFrame → (List ℕ → List ℕ) → List ℕ
-kept_first reset octets None follow = []
-kept_first reset octets (Some f) follow = kept_frame reset f.head octets ++ follow f.rest
+abbrev pub picked_first : Bool → List ℕ → List ℕ → Option FirstFrame → (List ℕ → List ℕ) → List ℕ
+picked_first is_stopped reset octets None follow = []
+picked_first is_stopped reset octets (Some f) follow = picked_frame is_stopped reset f.head octets ++ follow f.rest
 
--- at most this many frames
-abbrev pub kept_frames : List ℕ → ℕ → List ℕ → List ℕ
-kept_frames reset zero octets = []
-kept_frames reset (suc more) octets = kept_first reset octets (first_frame octets) (kept_frames reset more)
+-- of at most this many frames
+abbrev pub picked_frames : Bool → List ℕ → ℕ → List ℕ → List ℕ
+picked_frames is_stopped reset zero octets = []
+picked_frames is_stopped reset (suc more) octets = picked_first is_stopped reset octets (first_frame octets) (picked_frames is_stopped reset more)
 
 -- what the server sends, without the frames on streams that the script has reset (RFC 9113, 5.1): all where that is none
 abbrev pub kept : List ℕ → List ℕ → List ℕ
 kept [] octets = octets
-kept (stream ∷ reset) octets = kept_frames (stream ∷ reset) (length octets) octets
+kept (stream ∷ reset) octets = picked_frames false (stream ∷ reset) (length octets) octets
+
+-- those frames
+abbrev pub stopped : List ℕ → List ℕ → List ℕ
+stopped [] octets = []
+stopped (stream ∷ reset) octets = picked_frames true (stream ∷ reset) (length octets) octets
 
 -- ---- what the script sends
 
@@ -117,18 +123,39 @@ step_if base (Some s) item = if names base s.awaited item then Some s else None
 abbrev pub next_step : List Step → Weaving → Incoming → Option Step
 next_step steps w item = step_if (base_of w.base) (slice_get steps w.taken) item
 
--- what goes out: what the server sends; with a step its frames after that, or instead of it
-abbrev pub written : Weaving → Option Step → List ℕ → List ℕ
-written w None sent = kept w.reset sent
-written w (Some s) sent = (if s.is_instead then [] else kept w.reset sent) ++ script_octets (base_of w.base) s
+-- what the server sends for an item, as far as it goes out, and as far as it does not; and what the script sends after that
+pub record Parts : Type 0 where
+  pub sent : List ℕ
+  pub withheld : List ℕ
+  pub script : List ℕ
+
+abbrev pub no_parts : Parts
+no_parts = record { sent = []; withheld = []; script = [] }
+
+-- what the server sends goes out; with a step its frames after that, or instead of it
+abbrev pub parts_with : Weaving → Option Step → List ℕ → Parts
+parts_with w None sent = record { sent = kept w.reset sent; withheld = stopped w.reset sent; script = [] }
+parts_with w (Some s) sent = record {
+  sent = if s.is_instead then [] else kept w.reset sent;
+  withheld = if s.is_instead then sent else stopped w.reset sent;
+  script = script_octets (base_of w.base) s;
+}
+
+-- what goes out
+abbrev pub goes_out : Parts → List ℕ
+goes_out p = p.sent ++ p.script
 
 abbrev pub later : Weaving → Option Step → Weaving
 later w None = w
 later w (Some s) = record w { taken = min (w.taken + 1) 18446744073709551615; reset = w.reset ++ resets (base_of w.base) s.frames }
 
--- what goes out for an item, for which the server sends this
+-- the parts of an item, for which the server sends this
+abbrev pub parts_of : List Step → Weaving → Incoming → List ℕ → Parts
+parts_of steps w item sent = parts_with (with_item w item) (next_step steps (with_item w item) item) sent
+
+-- what goes out for it
 abbrev pub woven_item : List Step → Weaving → Incoming → List ℕ → List ℕ
-woven_item steps w item sent = written (with_item w item) (next_step steps (with_item w item) item) sent
+woven_item steps w item sent = goes_out (parts_of steps w item sent)
 
 abbrev pub after_item : List Step → Weaving → Incoming → Weaving
 after_item steps w item = later (with_item w item) (next_step steps (with_item w item) item)

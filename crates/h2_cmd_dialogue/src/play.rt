@@ -10,7 +10,7 @@ ghost use Rattle.h2_cmd_dialogue.specs.Watches.{heard_item, nothing_watched, wat
 ghost use Rattle.h2_cmd_dialogue.specs.Steps.{Start, Step, incoming_of};
 ghost use Rattle.h2_cmd_dialogue.specs.Plays.{Goes, TakesOne, TakesSome, with_read};
 
-use crate::item::{behind, front_item, is_client};
+use crate::item::{front_item, is_client};
 use crate::step::{Incoming, Step};
 use crate::watched::Watched;
 use crate::weave::Weaver;
@@ -140,7 +140,7 @@ impl<'b> Course<'b> {
             came: 0,
             is_closed: false,
         };
-        course.weave(steps, Incoming::Start, opening)?;
+        course.weave(alloc, steps, Incoming::Start, opening)?;
         Ok(course)
     }
 
@@ -159,7 +159,13 @@ impl<'b> Course<'b> {
     }
 
     /// An item came, for which the server sends this.
-    fn weave(&mut self, steps: &[Step], item: Incoming<'_>, sent: &[u8]) -> Result<(), AllocError>
+    fn weave(
+        &mut self,
+        alloc: Global,
+        steps: &[Step],
+        item: Incoming<'_>,
+        sent: &[u8],
+    ) -> Result<(), AllocError>
         ensures { OnOk result (self.new ≡ record self.old {
           weaving = after_item steps.now self.old.weaving (incoming_of item.entry);
           watched = with_octets self.old.watched (woven_item steps.now self.old.weaving (incoming_of item.entry) sent.now)
@@ -167,10 +173,10 @@ impl<'b> Course<'b> {
           out = self.old.out ++ woven_item steps.now self.old.weaving (incoming_of item.entry) sent.now;
         }) }
     {
-        let before = self.out.len();
-        let is_step = self.weaver.weave(steps, item, sent, &mut self.out)?;
-        let sent = behind(self.out.as_slice(), before);
-        self.watched.note(sent, is_step)
+        let (parts, is_step) = self.weaver.weave(alloc, steps, item, sent)?;
+        let out = parts.into_out()?;
+        self.out.extend_from_slice(out.as_slice())?;
+        self.watched.note(out.as_slice(), is_step)
     }
 
     /// What the server sends for these octets.
@@ -213,7 +219,7 @@ impl<'b> Course<'b> {
     {
         let sent = self.feed(alloc, octets)?;
         self.hear(steps, octets, item)?;
-        self.weave(steps, item, sent.as_slice())
+        self.weave(alloc, steps, item, sent.as_slice())
     }
 
     /// Takes the item that octets begin with, where it is whole. Gives how many octets it has; 0 where it is not.

@@ -1,10 +1,10 @@
 //! What goes out for each item of a client, where a script adds frames to what the server sends. Definitions:
 //! `specs/Woven.antt`.
 
-ghost use Rattle.std.specs.Prelude.{◌≡◌, ◌++◌, ◌≤◌, length, take, option_map, IfOk, OnOk, is_some, Some};
+ghost use Rattle.std.specs.Prelude.{◌≡◌, ◌++◌, ◌≤◌, false, true, length, take, option_map, IfOk, OnOk, is_some, None, Some};
 ghost use Rattle.h2_spec.specs.Octets.{big_endian};
 ghost use Rattle.h2_cmd_dialogue.specs.Steps.{incoming_of};
-ghost use Rattle.h2_cmd_dialogue.specs.Woven.{after_item, base_of, kept, kept_frame, kept_frames, last_of, last_sent, later, next_step, no_steps_taken, reset_by, resets, script_frame, script_frames, script_octets, stream_sent, with_item, woven_item, written};
+ghost use Rattle.h2_cmd_dialogue.specs.Woven.{after_item, base_of, goes_out, kept, last_of, last_sent, later, next_step, no_parts, no_steps_taken, parts_of, parts_with, picked_frame, picked_frames, reset_by, resets, script_frame, script_frames, script_octets, stopped, stream_sent, with_item};
 
 use crate::item::behind;
 use crate::step::{Incoming, PROBE, ScriptFrame, Step, based, with_request};
@@ -157,45 +157,114 @@ fn put_resets(base: u32, frames: &[ScriptFrame], reset: &mut Vec<u32>) -> Result
     Ok(())
 }
 
-/// Appends a frame that the server sends, unless the script has reset its stream.
-fn put_kept(
+/// What the server sends for an item, apart, and what the script sends after it.
+#[derive(Drop)]
+pub struct Parts {
+    /// The frames of the server that go out.
+    pub sent: Vec<u8>,
+    /// Those that do not.
+    pub withheld: Vec<u8>,
+    /// Those of the script.
+    pub script: Vec<u8>,
+}
+
+impl Model for Parts {
+    ghost use Rattle.h2_cmd_dialogue.specs.Woven as woven;
+
+    ghost Value = { woven.Parts };
+
+    ghost view = { λ p. record { sent = p.sent.items; withheld = p.withheld.items; script = p.script.items } };
+}
+
+/// Appends a frame that the server sends; to what is withheld where the script has reset its stream.
+fn put_frame_apart(
     reset: &[u32],
     frame: FrameRef<'_>,
     octets: &[u8],
     out: &mut Vec<u8>,
+    withheld: &mut Vec<u8>,
 ) -> Result<(), AllocError>
-    ensures { OnOk result (out.new.items ≡ out.old.items ++ kept_frame reset.now frame.entry.head octets.now) }
+    ensures out { OnOk result (out.new.items ≡ out.old.items ++ picked_frame false reset.now frame.entry.head octets.now) }
+    ensures withheld { OnOk result (withheld.new.items ≡ withheld.old.items ++ picked_frame true reset.now frame.entry.head octets.now) }
 {
-    if reset.contains(&frame.head.stream) {
-        return Ok(());
-    }
     let count = 9usize.saturating_add(frame.head.length as usize);
-    out.extend_from_slice(first_octets(octets, count))
+    let octets = first_octets(octets, count);
+    if reset.contains(&frame.head.stream) {
+        withheld.extend_from_slice(octets)
+    } else {
+        out.extend_from_slice(octets)
+    }
 }
 
-/// Appends the frames that the server sends, but those on streams that the script has reset.
-fn put_all_kept(reset: &[u32], sent: &[u8], out: &mut Vec<u8>) -> Result<(), AllocError>
-    ensures { OnOk result (out.new.items ≡ out.old.items ++ kept_frames reset.now (length sent.now) sent.now) }
+/// Appends the frames that the server sends; to what is withheld those on streams that the script has reset.
+fn put_frames_apart(
+    reset: &[u32],
+    sent: &[u8],
+    out: &mut Vec<u8>,
+    withheld: &mut Vec<u8>,
+) -> Result<(), AllocError>
+    ensures out { OnOk result (out.new.items ≡ out.old.items ++ picked_frames false reset.now (length sent.now) sent.now) }
+    ensures withheld { OnOk result (withheld.new.items ≡ withheld.old.items ++ picked_frames true reset.now (length sent.now) sent.now) }
 {
     let mut rest = sent;
     for _frame in 0..sent.len() {
         let Some((frame, behind)) = next_frame(rest) else {
             return Ok(());
         };
-        put_kept(reset, frame, rest, out)?;
+        put_frame_apart(reset, frame, rest, out, withheld)?;
         rest = behind;
     }
     Ok(())
 }
 
-/// Appends what the server sends for an item, without what is on streams that the script has reset.
-fn put_sent(reset: &[u32], sent: &[u8], out: &mut Vec<u8>) -> Result<(), AllocError>
-    ensures { OnOk result (out.new.items ≡ out.old.items ++ kept reset.now sent.now) }
-{
-    if reset.is_empty() {
-        return out.extend_from_slice(sent);
+impl Parts {
+    /// Nothing.
+    fn new(alloc: Global) -> Parts
+        ensures { result ≡ no_parts }
+    {
+        Parts {
+            sent: Vec::new(alloc),
+            withheld: Vec::new(alloc),
+            script: Vec::new(alloc),
+        }
     }
-    put_all_kept(reset, sent, out)
+
+    /// What the server sends for an item goes out, but what is on streams that the script has reset.
+    fn put_sent(&mut self, reset: &[u32], sent: &[u8]) -> Result<(), AllocError>
+        ensures { OnOk result (self.new ≡ record self.old {
+          sent = self.old.sent ++ kept reset.now sent.now;
+          withheld = self.old.withheld ++ stopped reset.now sent.now;
+        }) }
+    {
+        if reset.is_empty() {
+            return self.sent.extend_from_slice(sent);
+        }
+        put_frames_apart(reset, sent, &mut self.sent, &mut self.withheld)
+    }
+
+    /// What the server sends for an item does not go out.
+    fn withhold(&mut self, sent: &[u8]) -> Result<(), AllocError>
+        ensures { OnOk result (self.new ≡ record self.old { withheld = self.old.withheld ++ sent.now }) }
+    {
+        self.withheld.extend_from_slice(sent)
+    }
+
+    /// What a step sends goes out.
+    fn put_script(&mut self, base: u32, step: &Step) -> Result<(), AllocError>
+        ensures { OnOk result (self.new ≡ record self.old { script = self.old.script ++ script_octets base step.now }) }
+    {
+        put_script(base, step, &mut self.script)
+    }
+
+    /// What goes out.
+    pub fn into_out(self) -> Result<Vec<u8>, AllocError>
+        ensures { IfOk result (λ out. out.items ≡ goes_out self) }
+    {
+        let Self { sent, script, .. } = self;
+        let mut out = sent;
+        out.extend_from_slice(script.as_slice())?;
+        Ok(out)
+    }
 }
 
 impl Weaver {
@@ -251,44 +320,57 @@ impl Weaver {
         }
     }
 
-    /// A step is taken: appends what goes out with it.
-    fn take_step(&mut self, step: &Step, sent: &[u8], out: &mut Vec<u8>) -> Result<(), AllocError>
+    /// A step is taken: gives what goes out with it.
+    fn take_step(&mut self, alloc: Global, step: &Step, sent: &[u8]) -> Result<Parts, AllocError>
         ensures state { OnOk result (self.new ≡ later self.old (Some step.now)) }
-        ensures out { OnOk result (out.new.items ≡ out.old.items ++ written self.old (Some step.now) sent.now) }
+        ensures parts { IfOk result (λ parts. parts ≡ parts_with self.old (Some step.now) sent.now) }
     {
         let base = self.base();
-        if !step.is_instead {
-            put_sent(self.reset.as_slice(), sent, out)?;
+        let mut parts = Parts::new(alloc);
+        if step.is_instead {
+            parts.withhold(sent)?;
+        } else {
+            parts.put_sent(self.reset.as_slice(), sent)?;
         }
-        put_script(base, step, out)?;
+        parts.put_script(base, step)?;
         put_resets(base, step.frames.as_slice(), &mut self.reset)?;
         self.taken = self.taken.saturating_add(1);
-        Ok(())
+        Ok(parts)
     }
 
-    /// An item came, for which the server sends this: appends what goes out. Says whether a step was taken.
+    /// No step is taken: gives what goes out.
+    fn take_none(&self, alloc: Global, sent: &[u8]) -> Result<Parts, AllocError>
+        ensures { IfOk result (λ parts. parts ≡ parts_with self.now None sent.now) }
+    {
+        let mut parts = Parts::new(alloc);
+        parts.put_sent(self.reset.as_slice(), sent)?;
+        Ok(parts)
+    }
+
+    /// An item came, for which the server sends this: gives what goes out of it and what does not, what the script sends, and
+    /// whether a step was taken.
     ///
     /// `AllocError` where memory is refused: the dialogue can't go on.
     pub fn weave(
         &mut self,
+        alloc: Global,
         steps: &[Step],
         item: Incoming<'_>,
         sent: &[u8],
-        out: &mut Vec<u8>,
-    ) -> Result<bool, AllocError>
+    ) -> Result<(Parts, bool), AllocError>
         ensures state { OnOk result (self.new ≡ after_item steps.now self.old (incoming_of item.entry)) }
-        ensures out { OnOk result (out.new.items ≡ out.old.items ++ woven_item steps.now self.old (incoming_of item.entry) sent.now) }
-        ensures step { IfOk result (λ taken. taken ≡ is_some (next_step steps.now (with_item self.old (incoming_of item.entry)) (incoming_of item.entry))) }
+        ensures parts { IfOk result (λ woven. woven.0 ≡ parts_of steps.now self.old (incoming_of item.entry) sent.now) }
+        ensures step { IfOk result (λ woven. woven.1 ≡ is_some (next_step steps.now (with_item self.old (incoming_of item.entry)) (incoming_of item.entry))) }
     {
         self.base = with_request(self.base, item);
         match self.next_step(steps, item) {
             Some(step) => {
-                self.take_step(step, sent, out)?;
-                Ok(true)
+                let parts = self.take_step(alloc, step, sent)?;
+                Ok((parts, true))
             }
             None => {
-                put_sent(self.reset.as_slice(), sent, out)?;
-                Ok(false)
+                let parts = self.take_none(alloc, sent)?;
+                Ok((parts, false))
             }
         }
     }

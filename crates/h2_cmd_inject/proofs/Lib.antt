@@ -1,0 +1,4 @@
+pub mod ResultLaws
+pub mod ScriptLaws
+pub mod FileLaws
+pub mod Refusals

@@ -1,1 +1,6 @@
 pub mod Stops
+pub mod Whys
+pub mod ScriptLines
+pub mod Dialogues
+pub mod Results
+pub mod Views

@@ -1,10 +1,14 @@
 //! `serve --inject`: a dialogue is read, a port is listened on, and clients are served, the first one with the script.
 
-ghost use Rattle.std.specs.Prelude.{◌≡◌, ◌==◌, false, is_err};
+ghost use Rattle.std.specs.Prelude.{◌≡◌, ◌==◌, ◌-◌, [], IfOk, None, OnErr, Some, drop, false, slice_get, take};
+ghost use Rattle.h2_conn.specs.Connection.{going};
+ghost use Rattle.h2_spec.specs.State.{opening};
+ghost use Rattle.h2_cmd_inject.specs.Results.{cause_by};
 ghost use Rattle.h2_cmd_inject.specs.Stops.{is_unwritten, is_written};
 ghost use Rattle.h2_cmd_inject.specs.declared.serving.Stop.TheVariants.{NoMemory};
 
 use crate::file::{Dialogue, FileRefusal, dialogues_of};
+use crate::view::view_text;
 use crate::words::{Ending, PATIENCE, has_broken, result_text};
 use h2_cmd_args::command::{Serve, ServeReport};
 use h2_cmd_batch::{BenchFault, Case, CaseSetup, OwnFault, book_for_words, own_of, print_fault};
@@ -53,6 +57,8 @@ impl From<AllocError> for Stop {
 /// What a dialogue is played with.
 #[derive(Clone, Copy)]
 struct Play<'p, 't> {
+    /// What is shown of connections.
+    watch: ServeReport<'p>,
     file: &'p str,
     number: u64,
     lines: &'p [&'t [u8]],
@@ -85,7 +91,7 @@ fn refusal(alloc: Global, file: &str, refusal: FileRefusal) -> Stop
 {
     match refusal {
         FileRefusal::NoMemory => Stop::NoMemory,
-        FileRefusal::Line(line, why) => about_line(alloc, file, line, why),
+        FileRefusal::Line(line, why) => about_line(alloc, file, line, why.sentence()),
     }
 }
 
@@ -107,11 +113,26 @@ fn read<F: Files>(alloc: Global, file: &str, files: &mut F) -> Result<Vec<u8>, S
     }
 }
 
+/// The lines from a place on; none where there are fewer.
+fn lines_from<'c, 't>(lines: &'c [&'t [u8]], first: usize) -> &'c [&'t [u8]]
+    ensures { result.now ≡ drop first lines.now }
+{
+    if lines.len() < first {
+        return &[];
+    }
+    &lines[first..]
+}
+
 /// The lines of a dialogue.
-fn lines_of<'p, 't>(play: Play<'p, 't>) -> &'p [&'t [u8]] {
-    let first = play.dialogue.first;
-    let end = first.saturating_add(play.dialogue.count);
-    play.lines.get(first..end).unwrap_or_default()
+fn lines_of<'p, 't>(play: Play<'p, 't>) -> &'p [&'t [u8]]
+    ensures { result.now ≡ take play.entry.dialogue.now.count (drop play.entry.dialogue.now.first play.entry.lines.now) }
+{
+    let dialogue = play.dialogue;
+    let rest = lines_from(play.lines, dialogue.first);
+    if rest.len() <= dialogue.count {
+        return rest;
+    }
+    &rest[..dialogue.count]
 }
 
 /// The limits, the settings and the book that a dialogue says, if it says some.
@@ -126,10 +147,11 @@ fn own<F: Files>(
     if !have_words(lines) {
         return Ok(None);
     }
+    let dialogue = play.dialogue;
     let case = Case {
         file: play.file,
         lines,
-        number: play.dialogue.first.saturating_add(1),
+        number: dialogue.first.saturating_add(1),
     };
     match own_of(alloc, files, case) {
         Ok(own) => Ok(Some(own)),
@@ -152,6 +174,18 @@ fn print<O: Output>(output: &mut O, text: &[u8]) -> Result<(), Stop>
     match output.flush() {
         Ok(()) => Ok(()),
         Err(_) => Err(Stop::NotWritten),
+    }
+}
+
+/// A new connection.
+fn open(alloc: Global, book: &Book<Global>, config: Config) -> Result<Conn<'_, Global>, Stop>
+    ensures new { IfOk result (λ conn. conn ≡ going (opening book.now config) []) }
+    ensures flag { is_unwritten result ≡ false }
+{
+    match Conn::new(book, config, &mut Vec::new(alloc)) {
+        Ok(conn) => Ok(conn),
+        Err(ConnFault::BadConfig) => Err(Stop::Fault(BenchFault::BadConfig)),
+        Err(_) => Err(Stop::NoMemory),
     }
 }
 
@@ -183,11 +217,37 @@ fn cause_if(
     config: Config,
     end: End,
     course: &Course<'_>,
-) -> Result<Option<Cause>, AllocError> {
+) -> Result<Option<Cause>, AllocError>
+    ensures { IfOk result (λ cause. cause ≡ cause_by end (opening book.now config) course.now.octets) }
+{
     match end {
         End::ByServer(_) => last_cause(alloc, book, config, course.octets()),
         End::Closed | End::Silent | End::NoFrames | End::TooMuch | End::Late => Ok(None),
     }
+}
+
+/// Prints what is shown of the connection with this number, where that is asked for.
+fn show<O: Output>(
+    alloc: Global,
+    book: &Book<Global>,
+    config: Config,
+    watch: ServeReport<'_>,
+    steps: &[Step],
+    number: u64,
+    course: &Course<'_>,
+    output: &mut O,
+) -> Result<(), Stop>
+    requires writer { O.has_failed output.old ≡ false }
+    ensures flag { O.has_failed output.new ≡ is_unwritten result }
+{
+    if !watch.explain {
+        return Ok(());
+    }
+    let conn = open(alloc, book, config)?;
+    let mut octets = Vec::from_slice(alloc, course.octets())?;
+    octets.extend_from_slice(course.rest())?;
+    let text = view_text(alloc, watch, conn, steps, number, octets.as_slice())?;
+    print(output, text.as_slice())
 }
 
 /// Plays a dialogue to the first client, and prints its result. Says whether something is broken.
@@ -202,8 +262,10 @@ fn play_first<L: Link, O: Output>(
     requires writer { O.has_failed output.old ≡ false }
     ensures flag { O.has_failed output.new ≡ is_unwritten result }
 {
-    let steps = play.dialogue.steps.as_slice();
+    let dialogue = play.dialogue;
+    let steps = dialogue.steps.as_slice();
     let (course, end) = play_one(alloc, book, config, steps, link)?;
+    show(alloc, book, config, play.watch, steps, 1, &course, output)?;
     let ended = Ended {
         course: &course,
         end,
@@ -223,7 +285,7 @@ fn play_first<L: Link, O: Output>(
         play.number,
         title,
         play.lines,
-        play.dialogue.first,
+        dialogue.first,
         findings.as_slice(),
         ending,
     )?;
@@ -260,9 +322,20 @@ fn serve_all<L: Link, O: Output>(
     }
     accept(link)?;
     let is_broken = play_first(alloc, book, config, play, link, output)?;
-    for _later in 1..count {
+    for later in 1..count {
         accept(link)?;
-        let _later = play_one(alloc, book, config, &[], link)?;
+        let (course, _end) = play_one(alloc, book, config, &[], link)?;
+        let number = u64::from(later).saturating_add(1);
+        show(
+            alloc,
+            book,
+            config,
+            play.watch,
+            &[],
+            number,
+            &course,
+            output,
+        )?;
     }
     Ok(is_broken)
 }
@@ -280,11 +353,7 @@ fn listen_and_serve<G: Guests, O: Output>(
     requires writer { O.has_failed output.old ≡ false }
     ensures flag { O.has_failed output.new ≡ is_unwritten result }
 {
-    match Conn::new(book, config, &mut Vec::new(alloc)) {
-        Ok(_) => {}
-        Err(ConnFault::BadConfig) => return Err(Stop::Fault(BenchFault::BadConfig)),
-        Err(_) => return Err(Stop::NoMemory),
-    }
+    let _conn = open(alloc, book, config)?;
     let Ok(port) = u16::try_from(plan.port) else {
         return Err(Stop::Fault(BenchFault::Socket));
     };
@@ -312,7 +381,9 @@ fn dialogue_of<'p>(
     watch: ServeReport<'_>,
     dialogues: &'p [Dialogue],
 ) -> Result<&'p Dialogue, Stop>
-    ensures { is_unwritten result ≡ false }
+    ensures ok { IfOk result (λ dialogue. slice_get dialogues.now (watch.entry.dialogue - 1) ≡ Some dialogue.now) }
+    ensures err { OnErr result (slice_get dialogues.now (watch.entry.dialogue - 1) ≡ None) }
+    ensures flag { is_unwritten result ≡ false }
 {
     match dialogues.get((watch.dialogue as usize).saturating_sub(1)) {
         Some(dialogue) => Ok(dialogue),
@@ -323,7 +394,7 @@ fn dialogue_of<'p>(
 /// Refuses the first dialogue whose words are refused.
 fn check_words<'p, F: Files>(
     alloc: Global,
-    file: &'p str,
+    watch: ServeReport<'p>,
     lines: &'p [&[u8]],
     dialogues: &'p [Dialogue],
     files: &mut F,
@@ -332,7 +403,8 @@ fn check_words<'p, F: Files>(
 {
     for dialogue in dialogues {
         let play = Play {
-            file,
+            watch,
+            file: watch.inject,
             number: 0,
             lines,
             dialogue,
@@ -358,8 +430,9 @@ fn run<F: Files, G: Guests, O: Output, E: Output>(
     let lines = lines_in(alloc, text.as_slice())?;
     let lines = lines.as_slice();
     let dialogues = dialogues_in(alloc, plan.watch.inject, lines)?;
-    check_words(alloc, plan.watch.inject, lines, dialogues.as_slice(), files)?;
+    check_words(alloc, plan.watch, lines, dialogues.as_slice(), files)?;
     let play = Play {
+        watch: plan.watch,
         file: plan.watch.inject,
         number: u64::from(plan.watch.dialogue),
         lines,

@@ -1,4 +1,10 @@
-//! The text of a dialogue's result, by version 13 of the Test Anything Protocol. No definition speaks of these texts.
+//! The text of a dialogue's result, by version 13 of the Test Anything Protocol. Definitions: `specs/Results.antt`; what is wanted
+//! and found is said in words of which they say nothing.
+
+ghost use Rattle.std.specs.Prelude.{◌≡◌, IfOk, OnOk};
+ghost use Rattle.std.specs.Option.{option_map};
+ghost use Rattle.std.specs.String.{string_bytes};
+ghost use Rattle.h2_cmd_inject.specs.Results.{AppendsOne, AppendsSome, AreVerdicts, IsNote, IsNoteIf, IsResult, IsVerdict, IsVerdictIf, decides, directive, has_broken, is_allowed, is_open, is_shown, is_unsettled, line_shown, note_mark};
 
 use h2_cmd_check::{Title, result_front};
 use h2_cmd_dialogue::findings::{Finding, Found};
@@ -158,78 +164,225 @@ fn say_found(finding: Finding, ending: Ending<'_>, out: &mut TextBuilder) {
     }
 }
 
-/// A verdict that makes the result `not ok`.
-fn is_broken(finding: &Finding) -> bool {
-    matches!(finding.judged, Judged::Broken)
+/// A verdict that the RFC leaves open.
+fn is_unsettled(judged: Judged) -> bool
+    ensures { result ≡ is_unsettled judged }
+{
+    matches!(judged, Judged::Unsettled)
 }
 
-/// A verdict that the RFC leaves open.
-fn is_unsettled(finding: &Finding) -> bool {
-    matches!(finding.judged, Judged::Unsettled)
+/// A verdict that the RFC allows.
+fn is_allowed(judged: Judged) -> bool
+    ensures { result ≡ is_allowed judged }
+{
+    matches!(judged, Judged::Allowed)
 }
 
 /// Whether a verdict is shown as that of the result: those that are broken, or, where none is, those that are open.
-fn is_shown(finding: &Finding, has_broken: bool) -> bool {
+fn is_shown(judged: Judged, has_broken: bool) -> bool
+    ensures { result ≡ is_shown has_broken judged }
+{
     if has_broken {
-        is_broken(finding)
+        judged.is_broken()
     } else {
-        is_unsettled(finding)
+        is_unsettled(judged)
     }
 }
 
 /// Whether one of these is broken.
-pub fn has_broken(findings: &[Finding]) -> bool {
-    findings.iter().any(|finding| is_broken(finding))
+pub fn has_broken(findings: &[Finding]) -> bool
+    ensures { result ≡ has_broken findings.now }
+{
+    findings.iter().any(|finding| finding.judged.is_broken())
+}
+
+/// Whether one of these is open.
+fn is_open(findings: &[Finding]) -> bool
+    ensures { result ≡ is_open findings.now }
+{
+    findings.iter().any(|finding| is_unsettled(finding.judged))
+}
+
+/// Whether one of these decides that the result is `not ok`.
+fn decides(findings: &[Finding]) -> bool
+    ensures { result ≡ decides findings.now }
+{
+    has_broken(findings) || is_open(findings)
+}
+
+/// The words after the name of a result.
+fn directive(findings: &[Finding]) -> &'static str
+    ensures { result.now ≡ directive findings.now }
+{
+    if has_broken(findings) {
+        return "\n";
+    }
+    if is_open(findings) {
+        return " # TODO the RFC leaves it open, or the code is neither named nor generic\n";
+    }
+    "\n"
+}
+
+/// The number of the line that a finding is about, from 1; that of the title, where it is about the dialogue.
+fn line_shown(first: usize, finding: Finding) -> usize
+    ensures { result ≡ line_shown first finding.line }
+{
+    if finding.line == 0 {
+        first.saturating_add(1)
+    } else {
+        finding.line
+    }
+}
+
+/// What is wanted, as a text.
+fn wanted_text(alloc: Global, lines: &[&[u8]], finding: Finding) -> Result<String, AllocError> {
+    let mut out = TextBuilder::with(alloc, true);
+    say_wanted(lines, finding, &mut out);
+    out.finish()
+}
+
+/// What was found, as a text.
+fn found_text(alloc: Global, finding: Finding, ending: Ending<'_>) -> Result<String, AllocError> {
+    let mut out = TextBuilder::with(alloc, true);
+    say_found(finding, ending, &mut out);
+    out.finish()
 }
 
 /// A verdict in YAML.
-fn say_verdict(
+fn verdict_text(
+    alloc: Global,
     lines: &[&[u8]],
     first: usize,
     finding: Finding,
     ending: Ending<'_>,
-    out: &mut TextBuilder,
-) {
-    let line = if finding.line == 0 {
-        first.saturating_add(1)
-    } else {
-        finding.line
-    };
-    say_all!(out; "  - line: ", line, "\n    wanted: \"");
-    say_wanted(lines, finding, out);
-    "\"\n    found: \"".say(out);
-    say_found(finding, ending, out);
-    "\"\n".say(out);
+) -> Result<String, AllocError>
+    ensures { IfOk result (λ text. IsVerdict (line_shown first finding.line) (string_bytes text)) }
+{
+    let line = line_shown(first, finding);
+    let wanted = wanted_text(alloc, lines, finding)?;
+    let found = found_text(alloc, finding, ending)?;
+    format!(in alloc; "  - line: {line}\n    wanted: \"{wanted}\"\n    found: \"{found}\"\n")
 }
 
-/// The verdicts that decide, in YAML.
-fn say_verdicts(
+/// Appends a verdict in YAML, if it is shown.
+fn push_verdict(
+    alloc: Global,
+    lines: &[&[u8]],
+    first: usize,
+    has_broken: bool,
+    finding: Finding,
+    ending: Ending<'_>,
+    out: &mut Vec<u8>,
+) -> Result<(), AllocError>
+    ensures { OnOk result (AppendsOne (IsVerdictIf has_broken first finding) out.old.items out.new.items) }
+{
+    if !is_shown(finding.judged, has_broken) {
+        return Ok(());
+    }
+    let text = verdict_text(alloc, lines, first, finding, ending)?;
+    out.extend_from_slice(text.as_bytes())?;
+    Ok(())
+}
+
+/// Appends the verdicts that are shown, in YAML.
+fn push_verdicts(
+    alloc: Global,
+    lines: &[&[u8]],
+    first: usize,
+    has_broken: bool,
+    findings: &[Finding],
+    ending: Ending<'_>,
+    out: &mut Vec<u8>,
+) -> Result<(), AllocError>
+    ensures { OnOk result (AppendsSome (IsVerdictIf has_broken first) findings.now out.old.items out.new.items) }
+{
+    for finding in findings {
+        push_verdict(alloc, lines, first, has_broken, *finding, ending, out)?;
+    }
+    Ok(())
+}
+
+/// The words before a note: the connection is still open, or another reaction is allowed.
+fn note_mark(found: Found) -> &'static str
+    ensures { result.now ≡ note_mark found }
+{
+    match found {
+        Found::Lingers => "# lingers: ",
+        Found::Reaction(_, _)
+        | Found::Sends(_)
+        | Found::Missing
+        | Found::Limit(_)
+        | Found::Late(_)
+        | Found::Ended(_) => "# allowed: ",
+    }
+}
+
+/// A note in a comment.
+fn note_text(
+    alloc: Global,
+    lines: &[&[u8]],
+    finding: Finding,
+    ending: Ending<'_>,
+) -> Result<String, AllocError>
+    ensures { IfOk result (λ text. IsNote finding.found (string_bytes text)) }
+{
+    let mark = note_mark(finding.found);
+    let found = found_text(alloc, finding, ending)?;
+    let wanted = wanted_text(alloc, lines, finding)?;
+    format!(in alloc; "{mark}{found}; wanted: {wanted}\n")
+}
+
+/// Appends a note in a comment, where a verdict is that something is allowed.
+fn push_note(
+    alloc: Global,
+    lines: &[&[u8]],
+    finding: Finding,
+    ending: Ending<'_>,
+    out: &mut Vec<u8>,
+) -> Result<(), AllocError>
+    ensures { OnOk result (AppendsOne (IsNoteIf finding) out.old.items out.new.items) }
+{
+    if !is_allowed(finding.judged) {
+        return Ok(());
+    }
+    let text = note_text(alloc, lines, finding, ending)?;
+    out.extend_from_slice(text.as_bytes())
+}
+
+/// Appends the notes in comments.
+fn push_notes(
+    alloc: Global,
+    lines: &[&[u8]],
+    findings: &[Finding],
+    ending: Ending<'_>,
+    out: &mut Vec<u8>,
+) -> Result<(), AllocError>
+    ensures { OnOk result (AppendsSome IsNoteIf findings.now out.old.items out.new.items) }
+{
+    for finding in findings {
+        push_note(alloc, lines, *finding, ending, out)?;
+    }
+    Ok(())
+}
+
+/// The verdicts that decide, as a block of YAML; nothing where none does.
+fn verdicts_text(
+    alloc: Global,
     lines: &[&[u8]],
     first: usize,
     findings: &[Finding],
     ending: Ending<'_>,
-    out: &mut TextBuilder,
-) {
+) -> Result<Vec<u8>, AllocError>
+    ensures { IfOk result (λ text. AreVerdicts first findings.now text.items) }
+{
+    if !decides(findings) {
+        return Ok(Vec::new(alloc));
+    }
+    let mut out = Vec::from_slice(alloc, b"  ---\n".as_slice())?;
     let has_broken = has_broken(findings);
-    "  ---\n".say(out);
-    for finding in findings {
-        if is_shown(finding, has_broken) {
-            say_verdict(lines, first, *finding, ending, out);
-        }
-    }
-    "  ...\n".say(out);
-}
-
-/// A note in a comment: another reaction that is allowed, or that the connection is still open.
-fn say_note(lines: &[&[u8]], finding: Finding, ending: Ending<'_>, out: &mut TextBuilder) {
-    match finding.found {
-        Found::Lingers => "# lingers: ".say(out),
-        _ => "# allowed: ".say(out),
-    }
-    say_found(finding, ending, out);
-    "; wanted: ".say(out);
-    say_wanted(lines, finding, out);
-    "\n".say(out);
+    push_verdicts(alloc, lines, first, has_broken, findings, ending, &mut out)?;
+    out.extend_from_slice(b"  ...\n".as_slice())?;
+    Ok(out)
 }
 
 /// The text of the result of the dialogue with this number, from 1, whose first line is at this place of a file's.
@@ -243,28 +396,13 @@ pub fn result_text(
     first: usize,
     findings: &[Finding],
     ending: Ending<'_>,
-) -> Result<Vec<u8>, AllocError> {
-    let has_broken = has_broken(findings);
-    let is_open = findings.iter().any(|finding| is_unsettled(finding));
-    let front = result_front(alloc, !(has_broken || is_open), number, title)?;
-    let mut out = TextBuilder::with(alloc, true);
-    if has_broken {
-        "\n".say(&mut out);
-    } else if is_open {
-        " # TODO the RFC leaves it open, or the code is neither named nor generic\n".say(&mut out);
-    } else {
-        "\n".say(&mut out);
-    }
-    if has_broken || is_open {
-        say_verdicts(lines, first, findings, ending, &mut out);
-    }
-    for finding in findings {
-        if matches!(finding.judged, Judged::Allowed) {
-            say_note(lines, *finding, ending, &mut out);
-        }
-    }
-    let rest = out.into_octets()?;
-    let mut text = front;
-    text.extend_from_slice(rest.as_slice())?;
+) -> Result<Vec<u8>, AllocError>
+    ensures { IfOk result (λ text. IsResult number title.entry.file.now (option_map (λ t. t.now) title.entry.title) first findings.now text.items) }
+{
+    let mut text = result_front(alloc, !decides(findings), number, title)?;
+    text.extend_from_slice(directive(findings).as_bytes())?;
+    let verdicts = verdicts_text(alloc, lines, first, findings, ending)?;
+    text.extend_from_slice(verdicts.as_slice())?;
+    push_notes(alloc, lines, findings, ending, &mut text)?;
     Ok(text)
 }

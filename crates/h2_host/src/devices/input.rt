@@ -130,10 +130,20 @@ fn refusal_of_against(against: &Against<'_>) -> Option<&'static str> {
     refusal_of_aim(against)
 }
 
+/// Whether a server shows other than all items as text, or keeps them.
+fn is_beside_text(watch: ServeReport<'_>) -> bool {
+    watch.json
+        || (watch.strict || watch.times)
+        || (watch.errors || watch.stream.is_some())
+        || watch.record_to != ""
+}
+
 /// Why words of `serve` are refused that don't go together, where they don't.
 fn refusal_of_serve(watch: ServeReport<'_>) -> Option<&'static str> {
-    if watch.inject != "" && watch.explain {
-        return Some("error: --inject does not go with --explain and the words that explain\n");
+    if watch.inject != "" && is_beside_text(watch) {
+        return Some(
+            "error: --inject goes with --explain, --brief and --full, and no other word that explains\n",
+        );
     }
     if watch.dialogue == 0 {
         return Some("error: invalid value for '--dialogue <dialogue>': the first one is 1\n");
