@@ -1,7 +1,7 @@
 //! Which lines of `table` are refused, and why.
 
 use crate::place::{Quoted, Reasons};
-use h2_io::say::{Say, TextBuilder};
+use h2_io::say::Say;
 use h2_io::say_all;
 
 /// How many lines that were refused have a sentence of their own.
@@ -32,29 +32,18 @@ impl<'r, 's> TableReasons<'r, 's> {
         self.line = self.line.saturating_add(1);
     }
 
-    /// The sentences, with the front of one about this line; none where the line has none of its own.
-    fn begin(&mut self, line: &[u8]) -> Option<&mut TextBuilder> {
+    /// Says why the line is refused: it is above this limit of the table, or no command.
+    pub fn refuse(&mut self, line: &[u8], limit: Option<u32>) {
         self.refused = self.refused.saturating_add(1);
         if self.refused > SAID {
-            return None;
+            return;
         }
         let source = self.reasons.source;
         let out = &mut self.reasons.out;
         say_all!(out; source, ", line ", self.line, ": ", Quoted(line));
-        Some(out)
-    }
-
-    /// Says that the line is no command.
-    pub fn no_command(&mut self, line: &[u8]) {
-        if let Some(out) = self.begin(line) {
-            say_all!(out; " is no command; one is add NAME VALUE or max N.\n");
-        }
-    }
-
-    /// Says that the line's maximum is above the limit.
-    pub fn above_limit(&mut self, line: &[u8], limit: u32) {
-        if let Some(out) = self.begin(line) {
-            say_all!(out; " is above the limit of the table, ", limit, ".\n");
+        match limit {
+            Some(limit) => say_all!(out; " is above the limit of the table, ", limit, ".\n"),
+            None => say_all!(out; " is no command; one is add NAME VALUE or max N.\n"),
         }
     }
 

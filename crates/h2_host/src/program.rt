@@ -225,7 +225,7 @@ fn run_asked<'w, C: Commands>(
     mut asked: Result<Plan<'w>, Refusal>,
     devices: Devices<'w>,
 ) -> ExitCode {
-    if version::is_asked(&asked) {
+    if version::is_asked(words, &asked) {
         return version::print(rt);
     }
     let output = WaitingOutput::new(rt, rt.stdout());
@@ -253,15 +253,12 @@ fn run_asked<'w, C: Commands>(
 
 /// Does what the words of the command line ask for. A FILE among them that is the input is the value of `--in`.
 fn run_words<C: Commands>(rt: &HostRuntime, commands: &C) -> io::Result<ExitCode> {
-    let words = words_of(rt)?;
-    let (asked, devices) = asked_of(rt, &words);
-    match with_file(rt, &words, &asked)? {
-        None => Ok(run_asked(rt, commands, &words, asked, devices)),
-        Some(named) => {
-            let (asked, devices) = asked_of(rt, &named);
-            Ok(run_asked(rt, commands, &named, asked, devices))
-        }
+    let mut words = words_of(rt)?;
+    if let Some(named) = with_file(rt, &words)? {
+        words = named;
     }
+    let (asked, devices) = asked_of(rt, &words);
+    Ok(run_asked(rt, commands, &words, asked, devices))
 }
 
 /// Does what the words of the command line ask for, by these commands.

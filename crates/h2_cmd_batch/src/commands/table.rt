@@ -139,12 +139,12 @@ fn obey(
         Some(TableCommand::Max(max)) => match table.set_max(u64::from(max)) {
             Ok(()) => Ok(TableReply::Counts),
             Err(fault) => {
-                reasons.above_limit(line, table.limit());
+                reasons.refuse(line, Some(table.limit()));
                 Ok(TableReply::Refused(fault.number()))
             }
         },
         None => {
-            reasons.no_command(line);
+            reasons.refuse(line, None);
             Ok(TableReply::Refused(BenchFault::BadCommand.number()))
         }
     }
