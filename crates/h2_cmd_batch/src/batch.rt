@@ -100,6 +100,13 @@ pub fn say_memory(fault: BenchFault, reasons: &mut Reasons<'_>) {
     }
 }
 
+/// The same, where a fault ended what is printed.
+pub fn say_end<T>(ended: &Result<T, PrintFault>, reasons: &mut Reasons<'_>) {
+    if let Err(PrintFault::Fault(fault)) = ended {
+        say_memory(*fault, reasons);
+    }
+}
+
 /// Writes an answer: the text of a report with its status, or the line of a fault with status 1.
 fn print_report<O: Output>(
     output: &mut O,
@@ -140,13 +147,6 @@ pub fn print_end<O: Output>(output: &mut O, ended: Result<(), PrintFault>) -> u8
     }
 }
 
-/// As `say_memory`, where a fault ended what is printed.
-fn say_end(ended: Result<(), PrintFault>, reasons: &mut Reasons<'_>) {
-    if let Err(PrintFault::Fault(fault)) = ended {
-        say_memory(fault, reasons);
-    }
-}
-
 /// Plays a connection over a whole input, and reports it.
 fn print_played<O: Output>(
     alloc: Global,
@@ -164,7 +164,7 @@ fn print_played<O: Output>(
     ensures name { O.name output.new ≡ O.name output.old }
 {
     let ended = write_play(alloc, play, book, input, output, reasons);
-    say_end(ended, reasons);
+    say_end(&ended, reasons);
     print_end(output, ended)
 }
 
@@ -184,7 +184,7 @@ fn print_table<O: Output>(
     ensures name { O.name output.new ≡ O.name output.old }
 {
     let ended = write_table(alloc, limit, input.as_slice(), output, reasons);
-    say_end(ended, reasons);
+    say_end(&ended, reasons);
     print_end(output, ended)
 }
 

@@ -10,7 +10,7 @@ ghost use Rattle.h2_cmd_run.specs.ExplainProgram.{EndsExplain, IsReported, Repor
 use crate::explain::{ExplainOutcome, explain_text, read_text};
 use h2_cmd_args::command::Explain;
 use h2_cmd_batch::{
-    PrintFault, advise, book_for_words, print_fault_as, say_memory, write_reason,
+    PrintFault, advise, book_for_words, print_fault_as, say_end, say_memory, write_reason,
 };
 use h2_cmd_book_file::Files;
 use h2_cmd_messages::Reasons;
@@ -39,13 +39,6 @@ fn print_explained<O: Output>(
             PrintFault::Fault(fault) => print_fault_as(output, json, fault),
             PrintFault::NotWritten => 3,
         },
-    }
-}
-
-/// Puts why an explanation was cut short that has no reason yet: memory was refused.
-fn say_end(ended: &Result<ExplainOutcome, PrintFault>, reasons: &mut Reasons<'_>) {
-    if let Err(PrintFault::Fault(fault)) = ended {
-        say_memory(*fault, reasons);
     }
 }
 

@@ -68,11 +68,6 @@ pub struct TakenInput<R> {
     keeps: bool,
     /// How many octets the reader gave.
     count: usize,
-    /// How many octets the reader gave.
-    pub fn count(&self) -> usize {
-        self.count
-    }
-
     /// Whether it was the reader that could not be read.
     is_reader_failure: bool,
     /// Whether memory for that text was refused.
