@@ -6,9 +6,7 @@ use crate::devices::input::Given;
 use crate::refused_words::say_refused_words;
 use h2_cmd_args::Words;
 use h2_cmd_args::command::{Check, Plan, Refusal, Serve};
-use h2_cmd_messages::{
-    InputSource, TextBuilder, say_limits, say_port, say_unread, say_unwritten,
-};
+use h2_cmd_messages::{InputSource, TextBuilder, say_limits, say_port, say_unread, say_unwritten};
 use std::io::{ErrorKind, Write};
 use std::rt::Files;
 
