@@ -106,7 +106,10 @@ pub fn write_reason<E: Output>(errors: &mut E, why: bool, text: Result<String, A
     ensures quiet { why ≡ false → errors.new ≡ errors.old }
     ensures name { E.name errors.new ≡ E.name errors.old }
 {
-    if why && let Ok(text) = text && !text.is_empty() {
+    if why
+        && let Ok(text) = text
+        && !text.is_empty()
+    {
         let _ = errors.write(text.as_bytes());
     }
 }

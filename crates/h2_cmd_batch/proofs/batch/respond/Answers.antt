@@ -18,11 +18,11 @@ returns-in-Err-clause-printed g c = λ files well held is. (
 
 pub returns-clause-printed : goal.returns-clause-printed
 returns-clause-printed g c = λ files well held is.
-    let x = c.answer.ensures.printed well held is in (
+    let x = c.answer-status.ensures.printed well held is in (
       x.0,
       elim x.1 [
         | inl memory ↦ inl memory
-        | inr found ↦ inr (subst (λ (r : Result (List Entry) ℕ). AnswersAs r (batch_asked c.args.batch.now) (g.I.Input.remaining c.args.input.now) (g.I.Input.has_failed c.answer.new.input) x.0) (sym (c.in-Ok.ensures.ok files)) found)
+        | inr found ↦ inr (subst (λ (r : Result (List Entry) ℕ). AnswersAs r (batch_asked c.args.batch.now) (g.I.Input.remaining c.args.input.now) (g.I.Input.has_failed c.answer-status.new.input) x.0) (sym (c.in-Ok.ensures.ok files)) found)
       ],
       x.2,
     )

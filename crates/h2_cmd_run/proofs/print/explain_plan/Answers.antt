@@ -34,11 +34,11 @@ returns-in-Err-clause-printed g c = λ book file well held is. (
 pub returns-clause-printed : goal.returns-clause-printed
 returns-clause-printed g c = λ book file well held is.
     let known = still-known c.args.plan.now.file.now (g.F.Files.is_printed c.args.files.now) (g.F.Files.is_printed c.book_for_words.new.files) c.book_for_words.ensures.same_printed file in
-    let x = c.explain_read.ensures.printed known well held is in (
+    let x = c.explain_read-status.ensures.printed known well held is in (
       x.0,
       elim x.1 [
         | inl memory ↦ inl memory
-        | inr found ↦ inr (with-book (form_of (form_asked c.args.plan.now)) _ c.in-Ok.book (g.F.Files.file c.args.files.now) (g.F.Files.file c.book_for_words.new.files) c.args.plan.now.file.now (g.I.Input.remaining c.args.input.now) (g.I.Input.has_failed c.explain_read.new.input) c.args.plan.now.config x.0 (c.in-Ok.ensures.ok book) c.book_for_words.ensures.same_files found)
+        | inr found ↦ inr (with-book (form_of (form_asked c.args.plan.now)) _ c.in-Ok.book (g.F.Files.file c.args.files.now) (g.F.Files.file c.book_for_words.new.files) c.args.plan.now.file.now (g.I.Input.remaining c.args.input.now) (g.I.Input.has_failed c.explain_read-status.new.input) c.args.plan.now.config x.0 (c.in-Ok.ensures.ok book) c.book_for_words.ensures.same_files found)
       ],
       x.2,
     )
