@@ -81,14 +81,19 @@ fn say_of_plan<C: Commands>(
     }
 }
 
-/// Says on standard error what is to be said about a command that ended.
+/// Says on standard error what is to be said about a command that ended: its reasons, where its output was written, and what
+/// it could not say.
 pub fn end<C: Commands>(
     rt: &HostRuntime,
     words: &Words,
     asked: &Result<Plan<'_>, Refusal>,
     given: &Given<'_, '_, C>,
     ending: Ending,
+    reasons: &[u8],
 ) {
+    if ending.unwritten.is_none() {
+        let _ = rt.stderr().write_all(reasons);
+    }
     let mut out = TextBuilder::new(rt.alloc());
     match asked {
         Ok(plan) => say_of_plan(rt, plan, given, ending, &mut out),

@@ -1,4 +1,4 @@
-//! What is said of words that were refused, beside what clap says of them.
+//! What is said where words are refused, beside what clap says.
 
 use crate::devices::file_word::file_word;
 use h2_cmd_args::command::Refusal;

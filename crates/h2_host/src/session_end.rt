@@ -1,4 +1,4 @@
-//! What is said of the octets of a session: h2_debug is below the sentences, and answers numbers.
+//! What is said about the octets of a session: h2_debug is below the sentences, and answers numbers.
 
 use h2_cmd_messages::{
     InputSource, TextBuilder, has_digits, say_limits, say_more_octets, say_no_hex, say_too_long,
