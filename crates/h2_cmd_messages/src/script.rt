@@ -1,9 +1,8 @@
 //! What is wrong with a line of a script: its kind in words, and the place in the line.
 
 use crate::place::{InputSource, Quoted, up_to};
-use h2_io::is_hex_text;
 use h2_io::say::{Say, TextBuilder};
-use h2_io::say_all;
+use h2_io::{is_hex_text, say_all};
 use h2_spec::scripts::SyntaxKind;
 use memchr::{memchr, memchr_iter};
 

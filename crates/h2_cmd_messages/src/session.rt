@@ -3,9 +3,8 @@
 use crate::hex::digit_count;
 use crate::place::InputSource;
 use crate::script::line_of;
-use h2_io::is_hex_text;
 use h2_io::say::{Say, TextBuilder};
-use h2_io::say_all;
+use h2_io::{is_hex_text, say_all};
 
 /// The numbers of faults, and what each says of a command; those that end a session are not among them, of which more is
 /// known.

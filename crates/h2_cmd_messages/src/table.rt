@@ -7,7 +7,7 @@ use h2_io::say_all;
 /// How many lines that were refused have a sentence of their own.
 const SAID: usize = 100;
 
-/// What is said of the lines that `table` refuses: of the first 100 why, and how many more there are.
+/// What is said where `table` refuses lines: why, for the first 100, and how many more there are.
 #[derive(Drop)]
 pub struct TableReasons<'r, 's> {
     reasons: &'r mut Reasons<'s>,
