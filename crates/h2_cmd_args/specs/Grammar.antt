@@ -237,12 +237,13 @@ pub record BookAsked : Type 0 where
   pub why : Bool
   pub answers : List Text
 
--- a command that reads its whole input and then answers it
+-- a command that reads its whole input and then answers it; of those without a book, whether the reason is written where the
+-- input is refused
 pub data BatchAsked : Type 0 where
   play : (config : Config) → (cut : ℕ) → (each : Bool) → (book : BookAsked) → BatchAsked
-  asm : BatchAsked
-  dis : BatchAsked
-  table : (limit : ℕ) → BatchAsked
+  asm : (why : Bool) → BatchAsked
+  dis : (why : Bool) → BatchAsked
+  table : (limit : ℕ) → (why : Bool) → BatchAsked
 
 -- how an explanation is written: whether as JSON, with colours, with what `--strict` says, with long texts whole, without
 -- fields and changes, only of items that have an error, a reason to ignore them or a warning, only of a stream
@@ -310,8 +311,12 @@ config_at rows = record {
   frame = number_at (codes "frame") 16384 rows;
 }
 
+-- whether reasons are written
+abbrev pub why_at : List Row → Bool
+why_at rows = not (is_set (codes "quiet") rows)
+
 abbrev pub book_at : List Row → BookAsked
-book_at rows = record { file = text_at (codes "book") rows; why = not (is_set (codes "quiet") rows); answers = texts_at (codes "ANSWER") rows }
+book_at rows = record { file = text_at (codes "book") rows; why = why_at rows; answers = texts_at (codes "ANSWER") rows }
 
 -- whether a word is an answer: it has a `|`
 abbrev pub is_answer : Text → Bool
@@ -341,7 +346,7 @@ explain_book_at rows = record (book_at rows) { answers = answers_among (texts_at
 
 -- the book of `check`: a file alone
 abbrev pub file_book_at : List Row → BookAsked
-file_book_at rows = record { file = text_at (codes "book") rows; why = not (is_set (codes "quiet") rows); answers = [] }
+file_book_at rows = record { file = text_at (codes "book") rows; why = why_at rows; answers = [] }
 
 -- how the explanation is written
 abbrev pub form_at : List Row → FormAsked
@@ -391,9 +396,9 @@ cases_asked rows = if is_against rows then against_asked rows else check_asked r
 abbrev pub asked_by : Text → List Row → Option Asked
 asked_by name rows =
     if bytes_eq name (codes "play") then Some (batch (play (config_at rows) (number_at (codes "cut") 0 rows) (is_set (codes "each") rows) (book_at rows)))
-    else if bytes_eq name (codes "asm") then Some (batch asm)
-    else if bytes_eq name (codes "dis") then Some (batch dis)
-    else if bytes_eq name (codes "table") then Some (batch (table (number_at (codes "LIMIT") 0 rows)))
+    else if bytes_eq name (codes "asm") then Some (batch (asm (why_at rows)))
+    else if bytes_eq name (codes "dis") then Some (batch (dis (why_at rows)))
+    else if bytes_eq name (codes "table") then Some (batch (table (number_at (codes "LIMIT") 0 rows) (why_at rows)))
     else if bytes_eq name (codes "debug") then Some (debug (config_at rows) (book_at rows))
     else (if bytes_eq name (codes "serve") then Some (serve (config_at rows) (number_at (codes "PORT") 0 rows) (number_at (codes "COUNT") 0 rows) (report_at rows) (book_at rows))
     else (if bytes_eq name (codes "explain") then Some (explain (config_at rows) (form_at rows) (file_among (texts_at (codes "ANSWER") rows)) (explain_book_at rows))

@@ -20,9 +20,9 @@ devices_asked d = record { file = d.file.now; raw = d.raw; quiet = d.quiet; prom
 
 abbrev pub batch_asked : Batch → BatchAsked
 batch_asked (Play p) = play p.config p.cut p.each (book_asked p.book)
-batch_asked Asm = asm
-batch_asked Dis = dis
-batch_asked (Table limit) = table limit
+batch_asked (Asm words) = asm words.why
+batch_asked (Dis words) = dis words.why
+batch_asked (Table limit words) = table limit words.why
 
 abbrev pub form_asked : Explain → FormAsked
 form_asked e = record { json = e.json; color = e.color; strict = e.strict; full = e.full; brief = e.brief; errors = e.errors; stream = e.stream }

@@ -4,7 +4,7 @@
 ghost use Rattle.std.specs.Prelude.{◌≡◌, ◌≤◌, length, IfOk, IfErr, IfSome, bytes_eq, Some, None, codes, map, option_map};
 ghost use Rattle.clap.specs.Words.{found_of, kind_of, rows_of, subcommand_of, subcommand_rows_of};
 ghost use Rattle.clap.specs.declared.error.ErrorKind.TheVariants.{OutOfMemory};
-ghost use Rattle.h2_cmd_args.specs.Grammar.{against_asked, answers_among, asked_at, asked_by, asked_of, bench_app, book_at, check_asked, config_at, devices_at, devices_found, devices_of, file_among, files_among, is_against, is_answer, is_part_at, is_set, number_at, number_given, path_in, report_at, text_at, texts_at};
+ghost use Rattle.h2_cmd_args.specs.Grammar.{against_asked, answers_among, asked_at, asked_by, asked_of, bench_app, book_at, check_asked, config_at, devices_at, devices_found, devices_of, file_among, files_among, is_against, is_answer, is_part_at, is_set, number_at, number_given, path_in, report_at, text_at, texts_at, why_at};
 ghost use Rattle.h2_cmd_args.specs.Plans.{book_asked, devices_asked, planned, report_asked, Refuses};
 
 use crate::usages::bench_command;
@@ -36,6 +36,17 @@ pub struct Play<'a> {
     pub each: bool,
     /// The answers.
     pub book: BookWords<'a>,
+    /// How sentences call the input: the path of its file; empty for standard input.
+    pub input: &'a str,
+}
+
+/// What a command without a book says where it refuses something.
+#[derive(Clone, Copy)]
+pub struct InputWords<'a> {
+    /// Whether the reason is written where the input is refused: unless the words ask for quiet.
+    pub why: bool,
+    /// How sentences call the input: the path of its file; empty for standard input.
+    pub input: &'a str,
 }
 
 /// How a connection is debugged.
@@ -70,6 +81,8 @@ pub struct Explain<'a> {
     pub file: &'a str,
     /// The answers.
     pub book: BookWords<'a>,
+    /// How sentences call the input: the path of its file; empty for standard input.
+    pub input: &'a str,
 }
 
 /// What is shown of connections that are served, and which dialogue the first one is given.
@@ -176,11 +189,11 @@ pub enum Batch<'a> {
     /// Plays a connection over the octets of the input.
     Play(Play<'a>),
     /// Writes the octets of the script that the input is, as hex.
-    Asm,
+    Asm(InputWords<'a>),
     /// Writes the script of the octets that the input has as hex.
-    Dis,
+    Dis(InputWords<'a>),
     /// Changes a dynamic table of this limit, 0 to 65536, by the lines of the input.
-    Table(u32),
+    Table(u32, InputWords<'a>),
 }
 
 /// What is to be done.
@@ -297,6 +310,23 @@ fn book_from<'a>(alloc: Global, matches: &ArgMatches<'a>) -> Result<BookWords<'a
     Ok(book_with(matches, answers))
 }
 
+/// The path of the file that is the input; empty for standard input.
+fn input_in<'a>(matches: &ArgMatches<'a>) -> &'a str
+    ensures { result.now ≡ path_in (text_at (codes "in") (rows_of (found_of matches.now))) }
+{
+    path_in(text_at(matches, "in"))
+}
+
+/// What a command without a book says where it refuses something.
+fn input_words<'a>(matches: &ArgMatches<'a>) -> InputWords<'a>
+    ensures { result.why ≡ why_at (rows_of (found_of matches.now)) }
+{
+    InputWords {
+        why: !is_set(matches, "quiet"),
+        input: input_in(matches),
+    }
+}
+
 /// How a connection is to be played.
 fn play_from<'a>(alloc: Global, matches: &ArgMatches<'a>) -> Result<Play<'a>, AllocError>
     ensures { IfOk result (λ play. Some (planned (Plan.Batch (Batch.Play play))) ≡ asked_by (codes "play") (rows_of
@@ -308,6 +338,7 @@ fn play_from<'a>(alloc: Global, matches: &ArgMatches<'a>) -> Result<Play<'a>, Al
         cut: number_at(matches, "cut", 0),
         each: is_set(matches, "each"),
         book,
+        input: input_in(matches),
     })
 }
 
@@ -415,6 +446,14 @@ fn answers_among<'w, 'a>(words: &'w [&'a str]) -> &'w [&'a str]
     &words[files_among(words)..]
 }
 
+/// The path of the file that explain is given, as FILE or by `--in`; empty for standard input.
+fn input_among<'a>(matches: &ArgMatches<'a>, words: &[&'a str]) -> &'a str {
+    match file_among(words) {
+        "" => input_in(matches),
+        file => file,
+    }
+}
+
 /// How a connection is to be explained.
 fn explain_from<'a>(alloc: Global, matches: &ArgMatches<'a>) -> Result<Explain<'a>, AllocError>
     ensures { IfOk result (λ explain. Some (planned (Plan.Explain explain)) ≡ asked_by (codes "explain") (rows_of
@@ -433,6 +472,7 @@ fn explain_from<'a>(alloc: Global, matches: &ArgMatches<'a>) -> Result<Explain<'
         stream: number_given(matches, "stream"),
         file: file_among(words.as_slice()),
         book: book_with(matches, answers),
+        input: input_among(matches, words.as_slice()),
     })
 }
 
@@ -517,14 +557,14 @@ fn plan_from<'a>(
         return Ok(Some(Plan::Batch(Batch::Play(play_from(alloc, matches)?))));
     }
     if is(name, "asm") {
-        return Ok(Some(Plan::Batch(Batch::Asm)));
+        return Ok(Some(Plan::Batch(Batch::Asm(input_words(matches)))));
     }
     if is(name, "dis") {
-        return Ok(Some(Plan::Batch(Batch::Dis)));
+        return Ok(Some(Plan::Batch(Batch::Dis(input_words(matches)))));
     }
     if is(name, "table") {
         let limit = number_at(matches, "LIMIT", 0);
-        return Ok(Some(Plan::Batch(Batch::Table(limit))));
+        return Ok(Some(Plan::Batch(Batch::Table(limit, input_words(matches)))));
     }
     if is(name, "debug") {
         return Ok(Some(Plan::Debug(debug_from(alloc, matches)?)));
@@ -593,7 +633,7 @@ fn devices_in<'a>(matches: &ArgMatches<'a>) -> Devices<'a>
     ensures { devices_asked result ≡ devices_at (rows_of (found_of matches.now)) }
 {
     Devices {
-        file: path_in(text_at(matches, "in")),
+        file: input_in(matches),
         raw: is_set(matches, "raw"),
         quiet: is_set(matches, "quiet"),
         prompt: text_at(matches, "prompt"),

@@ -13,6 +13,10 @@ abbrev pub AnswersInput : List Entry → BatchAsked → Option (List ℕ) → Bo
 AnswersInput book asked input input_failed t = ((input_failed ≡ true) × (t ≡ failed Read))
     ⊎ ((input_failed ≡ false) × ((octets : List ℕ) → input ≡ Some octets → OrCutShort (places_read book asked octets) (printed_read book asked octets) t))
 
+-- the same, or memory was refused before anything was written, and no read failed
+abbrev pub AnswersBook : List Entry → BatchAsked → Option (List ℕ) → Bool → Printed → Type 0
+AnswersBook book asked input input_failed t = ((t ≡ failed NoMemory) × (input_failed ≡ false)) ⊎ AnswersInput book asked input input_failed t
+
 -- the fault of the book is found before anything is read
 abbrev pub AnswersAs : Result (List Entry) ℕ → BatchAsked → Option (List ℕ) → Bool → Printed → Type 0
 AnswersAs (Err fault) asked input input_failed t = t ≡ refused fault
@@ -40,9 +44,9 @@ EndsBatch files asked input input_failed before after status = PrintsSome (λ t.
 -- the path of the book's file; empty where there is none
 abbrev pub file_of : BatchAsked → List ℕ
 file_of (play config cut each book) = book.file
-file_of asm = []
-file_of dis = []
-file_of (table limit) = []
+file_of (asm why) = []
+file_of (dis why) = []
+file_of (table limit why) = []
 
 -- no file is needed, or the device reports its files
 abbrev pub KnowsFile : List ℕ → Bool → Type 0
@@ -52,9 +56,9 @@ KnowsFile file is_printed = (file ≡ []) ⊎ (is_printed ≡ true)
 abbrev pub no_files : Directory
 no_files path = None
 
--- whether words ask for the reason where an entry is refused
+-- whether words ask for the reason where something is refused
 abbrev pub asks_why_batch : BatchAsked → Bool
 asks_why_batch (play config cut each book) = book.why
-asks_why_batch asm = false
-asks_why_batch dis = false
-asks_why_batch (table limit) = false
+asks_why_batch (asm why) = why
+asks_why_batch (dis why) = why
+asks_why_batch (table limit why) = why

@@ -51,16 +51,16 @@ places_play each book config (Some octets) = places_played each book config octe
 
 abbrev pub printed : List Entry → BatchAsked → List ℕ → Printed
 printed book (play config cut each said) input = printed_play each book config (octets_spelled input)
-printed book asm input = printed_asm input
-printed book dis input = printed_dis (octets_spelled input)
-printed book (table limit) input = done (table_text limit input)
+printed book (asm why) input = printed_asm input
+printed book (dis why) input = printed_dis (octets_spelled input)
+printed book (table limit why) input = done (table_text limit input)
 
 -- the parts of what a command prints that are written while it runs: the places of `play`, the parts of `table`
 abbrev pub places : List Entry → BatchAsked → List ℕ → List (List ℕ)
 places book (play config cut each said) input = places_play each book config (octets_spelled input)
-places book asm input = []
-places book dis input = []
-places book (table limit) input = table_parts limit input
+places book (asm why) input = []
+places book (dis why) input = []
+places book (table limit why) input = table_parts limit input
 
 -- an input that is too long is not read
 abbrev pub printed_read : List Entry → BatchAsked → List ℕ → Printed

@@ -6,7 +6,7 @@ ghost use Rattle.h2_cmd_args.specs.Plans.{batch_asked};
 ghost use Rattle.h2_cmd_batch.specs.Reports.{seen};
 ghost use Rattle.h2_cmd_batch.specs.Books.{book_in};
 ghost use Rattle.h2_cmd_batch.specs.Each.{not_written, printed_after};
-ghost use Rattle.h2_cmd_batch.specs.CommandEnd.{EndsBatch, KnowsFile, Prints, PrintsSome, asks_why_batch, file_of};
+ghost use Rattle.h2_cmd_batch.specs.CommandEnd.{AnswersBook, EndsBatch, KnowsFile, Prints, PrintsSome, asks_why_batch, file_of};
 ghost use Rattle.h2_cmd_batch.specs.Faults.{fault_number};
 ghost use Rattle.h2_io.specs.HexText.{octets_spelled};
 ghost use Rattle.h2_cmd_batch.specs.TableProgram.{table_parts, table_text};
@@ -14,7 +14,7 @@ ghost use Rattle.h2_cmd_batch.specs.Printed.{OrCutShort, done, failed, failed_as
 ghost use Rattle.h2_cmd_batch.specs.declared.fault.BenchFault.TheVariants.{NoMemory};
 
 use crate::advice::advise_batch;
-use crate::books::book_for_words;
+use crate::books::{book_for_words, write_reason};
 use crate::commands::asm::asm_report;
 use crate::commands::dis::dis_text;
 use crate::commands::each::{PrintFault, write_text};
@@ -23,8 +23,9 @@ use crate::commands::table::write_table;
 use crate::fault::{BenchFault, FaultText};
 use crate::input::read_all;
 use crate::report::{Report, whole};
-use h2_cmd_args::command::{Batch, Play};
+use h2_cmd_args::command::{Batch, InputWords, Play};
 use h2_cmd_book_file::Files;
+use h2_cmd_messages::{Reasons, say_no_memory};
 use h2_io::{Input, Output, Text};
 use h2_request_book::book::Book;
 use std::alloc::Global;
@@ -48,7 +49,7 @@ fn book_for<F: Files, E: Output>(
 {
     match batch {
         Batch::Play(play) => book_for_words(alloc, &play.book, files, errors),
-        Batch::Asm | Batch::Dis | Batch::Table(_) => Ok(Book::new(alloc)),
+        Batch::Asm(_) | Batch::Dis(_) | Batch::Table(_, _) => Ok(Book::new(alloc)),
     }
 }
 
@@ -92,8 +93,26 @@ pub fn print_fault_as<O: Output>(output: &mut O, json: bool, fault: BenchFault) 
     print(output, &FaultText { json, fault }, 1)
 }
 
+/// Puts what a fault means that has no reason yet: memory was refused.
+pub fn say_memory(fault: BenchFault, reasons: &mut Reasons<'_>) {
+    if let BenchFault::NoMemory = fault {
+        say_no_memory(&mut reasons.out);
+    }
+}
+
+/// The same, where a fault ended what is printed.
+pub fn say_end<T>(ended: &Result<T, PrintFault>, reasons: &mut Reasons<'_>) {
+    if let Err(PrintFault::Fault(fault)) = ended {
+        say_memory(*fault, reasons);
+    }
+}
+
 /// Writes an answer: the text of a report with its status, or the line of a fault with status 1.
-fn print_report<O: Output>(output: &mut O, answer: Result<Report, BenchFault>) -> u8
+fn print_report<O: Output>(
+    output: &mut O,
+    answer: Result<Report, BenchFault>,
+    reasons: &mut Reasons<'_>,
+) -> u8
     requires { O.has_failed output.old ≡ false }
     ensures printed { O.has_failed output.new ≡ false → (held : List ℕ) → O.written output.old ≡ Some held
         → Prints (seen answer) held (O.written output.new) result }
@@ -102,7 +121,10 @@ fn print_report<O: Output>(output: &mut O, answer: Result<Report, BenchFault>) -
 {
     match answer {
         Ok(report) => print(output, &report, report.status()),
-        Err(why) => print_fault(output, why),
+        Err(why) => {
+            say_memory(why, reasons);
+            print_fault(output, why)
+        }
     }
 }
 
@@ -132,6 +154,7 @@ fn print_played<O: Output>(
     book: &Book<Global>,
     input: Vec<u8>,
     output: &mut O,
+    reasons: &mut Reasons<'_>,
 ) -> u8
     requires { O.has_failed output.old ≡ false }
     ensures printed { O.has_failed output.new ≡ false → let spelled = octets_spelled input.items in
@@ -140,12 +163,19 @@ fn print_played<O: Output>(
     ensures flag { O.has_failed output.new ≡ (result == 3) }
     ensures name { O.name output.new ≡ O.name output.old }
 {
-    let ended = write_play(alloc, play, book, input, output);
+    let ended = write_play(alloc, play, book, input, output, reasons);
+    say_end(&ended, reasons);
     print_end(output, ended)
 }
 
 /// Does what the lines of a whole input ask of a dynamic table, and reports it.
-fn print_table<O: Output>(alloc: Global, limit: u32, input: Vec<u8>, output: &mut O) -> u8
+fn print_table<O: Output>(
+    alloc: Global,
+    limit: u32,
+    input: Vec<u8>,
+    output: &mut O,
+    reasons: &mut Reasons<'_>,
+) -> u8
     requires { O.has_failed output.old ≡ false }
     ensures printed { O.has_failed output.new ≡ false
         → PrintsSome (OrCutShort (table_parts limit input.items) (done (table_text limit input.items)))
@@ -153,7 +183,8 @@ fn print_table<O: Output>(alloc: Global, limit: u32, input: Vec<u8>, output: &mu
     ensures flag { O.has_failed output.new ≡ (result == 3) }
     ensures name { O.name output.new ≡ O.name output.old }
 {
-    let ended = write_table(alloc, limit, input.as_slice(), output);
+    let ended = write_table(alloc, limit, input.as_slice(), output, reasons);
+    say_end(&ended, reasons);
     print_end(output, ended)
 }
 
@@ -164,6 +195,7 @@ fn print_input<O: Output>(
     book: &Book<Global>,
     input: Vec<u8>,
     output: &mut O,
+    reasons: &mut Reasons<'_>,
 ) -> u8
     requires { O.has_failed output.old ≡ false }
     ensures printed { O.has_failed output.new ≡ false
@@ -174,14 +206,61 @@ fn print_input<O: Output>(
     ensures name { O.name output.new ≡ O.name output.old }
 {
     match batch {
-        Batch::Play(play) => print_played(alloc, play, book, input, output),
-        Batch::Asm => print_report(output, asm_report(alloc, input.as_slice())),
-        Batch::Dis => print_report(output, whole(dis_text(alloc, input.as_slice()))),
-        Batch::Table(limit) => print_table(alloc, *limit, input, output),
+        Batch::Play(play) => print_played(alloc, play, book, input, output, reasons),
+        Batch::Asm(_) => {
+            let report = asm_report(alloc, input.as_slice(), reasons);
+            print_report(output, report, reasons)
+        }
+        Batch::Dis(_) => {
+            let report = whole(dis_text(alloc, input.as_slice(), reasons));
+            print_report(output, report, reasons)
+        }
+        Batch::Table(limit, _) => print_table(alloc, *limit, input, output, reasons),
     }
 }
 
-/// Reads the input of a command, and does it.
+/// Reads the input of a command, and does it with its book.
+fn answer<I: Input, O: Output>(
+    alloc: Global,
+    batch: &Batch<'_>,
+    book: &Book<Global>,
+    input: &mut I,
+    output: &mut O,
+    reasons: &mut Reasons<'_>,
+) -> u8
+    requires reader { I.has_failed input.old ≡ false }
+    requires writer { O.has_failed output.old ≡ false }
+    ensures printed { O.has_failed output.new ≡ false
+        → PrintsSome (AnswersBook book.now (batch_asked batch.now) (I.remaining input.old) (I.has_failed input.new))
+        (O.written output.old) (O.written output.new) result }
+    ensures flag { O.has_failed output.new ≡ (result == 3) }
+    ensures input { I.name input.new ≡ I.name input.old }
+    ensures name { O.name output.new ≡ O.name output.old }
+{
+    match read_all(alloc, input, reasons) {
+        Ok(octets) => print_input(alloc, batch, book, octets, output, reasons),
+        Err(fault) => {
+            say_memory(fault, reasons);
+            print_fault(output, fault)
+        }
+    }
+}
+
+/// What the words of a command say of reasons.
+fn words_of<'b>(batch: &'b Batch<'_>) -> InputWords<'b>
+    ensures { result.why ≡ asks_why_batch (batch_asked batch.now) }
+{
+    match batch {
+        Batch::Play(play) => InputWords {
+            why: play.book.why,
+            input: play.input,
+        },
+        Batch::Asm(words) | Batch::Dis(words) | Batch::Table(_, words) => *words,
+    }
+}
+
+/// Reads the input of a command, and does it. Why the book or the input is refused is written to `errors`, and what is strange
+/// about an input that is taken, where the words do not ask for quiet; but not why a read failed.
 pub fn respond<F: Files, I: Input, O: Output, E: Output>(
     alloc: Global,
     batch: &Batch<'_>,
@@ -207,8 +286,9 @@ pub fn respond<F: Files, I: Input, O: Output, E: Output>(
         Err(fault) => return print_fault(output, fault),
     };
     advise_batch(alloc, batch, errors);
-    match read_all(alloc, input) {
-        Ok(octets) => print_input(alloc, batch, &book, octets, output),
-        Err(fault) => print_fault(output, fault),
-    }
+    let words = words_of(batch);
+    let mut reasons = Reasons::new(alloc, words.input);
+    let status = answer(alloc, batch, &book, input, output, &mut reasons);
+    write_reason(errors, words.why, reasons.out.finish());
+    status
 }

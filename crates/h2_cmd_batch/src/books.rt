@@ -101,12 +101,15 @@ fn add_file<F: Files>(
     add_book(alloc, files, path, book)
 }
 
-/// Writes a text where it is there and asked for. What can't be written is left out.
+/// Writes a text where it is there, not empty and asked for. What can't be written is left out.
 pub fn write_reason<E: Output>(errors: &mut E, why: bool, text: Result<String, AllocError>)
     ensures quiet { why ≡ false → errors.new ≡ errors.old }
     ensures name { E.name errors.new ≡ E.name errors.old }
 {
-    if why && let Ok(text) = text {
+    if why
+        && let Ok(text) = text
+        && !text.is_empty()
+    {
         let _ = errors.write(text.as_bytes());
     }
 }

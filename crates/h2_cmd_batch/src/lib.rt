@@ -16,7 +16,7 @@ mod results;
 
 pub use advice::advise;
 pub use answer::parse_answer;
-pub use batch::{print, print_end, print_fault, print_fault_as, respond};
+pub use batch::{print, print_end, print_fault, print_fault_as, respond, say_end, say_memory};
 pub use books::{book_for_words, write_reason};
 pub use case_setup::{Case, CaseSetup, Common, OwnFault, RefusedWords, own_of, words_line};
 pub use commands::each::PrintFault;

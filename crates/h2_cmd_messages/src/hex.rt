@@ -5,7 +5,8 @@ use crate::dump::{Look, has_offsets, look_of, look_of_octets};
 use crate::place::{InputSource, place_at};
 use h2_io::say::{HexOctet, Say, TextBuilder};
 use h2_io::say_all;
-use std::alloc::{AllocError, Allocator, Global};
+use h2_spec::octets::first_octets;
+use std::alloc::Allocator;
 
 /// Whether an octet is a space, a tab, a carriage return or a line feed.
 fn is_space(octet: u8) -> bool {
@@ -69,14 +70,10 @@ fn bad_digit(text: &[u8]) -> Option<usize> {
         .position(|octet| !is_space(*octet) && !octet.is_ascii_hexdigit())
 }
 
-/// Whether a text is pairs of hex digits, with white space anywhere.
-pub fn is_hex(text: &[u8]) -> bool {
-    bad_digit(text).is_none() && digit_count(text) % 2 == 0
-}
-
 /// Says why a text is no hex text.
 pub fn say_no_hex(source: InputSource<'_>, text: &[u8], out: &mut TextBuilder) {
     match bad_digit(text) {
+        _ if text == UNCLEAR => say_unclear(source, out),
         Some(at) => say_bad_digit(source, text, at, out),
         None => say_odd(source, text, out),
     }
@@ -122,18 +119,16 @@ fn say_odd(source: InputSource<'_>, text: &[u8], out: &mut TextBuilder) {
     );
 }
 
-/// Says that a text has no octets.
-pub fn say_no_octets(source: InputSource<'_>, out: &mut TextBuilder) {
-    say_all!(out; source, ": no octets.\n");
-}
+/// What is given instead of a dump with offsets whose octets are not clear: no hex text.
+pub const UNCLEAR: &[u8] = b"(a dump whose octets are not clear)";
 
 /// Says that a text was read as hex that looks like a dump with offsets.
-pub fn say_offsets(source: InputSource<'_>, out: &mut TextBuilder) {
+fn say_offsets(source: InputSource<'_>, out: &mut TextBuilder) {
     say_all!(out; source, ": each line begins with a number that grows by 16, so this looks like a dump with offsets; they were read as octets too: explain and debug --in FILE read its octets where each offset is their number so far; else make it by xxd -p.\n");
 }
 
 /// Says that a text is a dump with offsets whose octets are not clear.
-pub fn say_unclear(source: InputSource<'_>, out: &mut TextBuilder) {
+fn say_unclear(source: InputSource<'_>, out: &mut TextBuilder) {
     say_all!(out; source, ": it looks like a dump with offsets, and its octets are not clear, as in words that are turned around: make it by xxd -p.\n");
 }
 
@@ -146,33 +141,25 @@ fn digit_of(octet: u8) -> Option<u8> {
     u8::try_from(value).ok()
 }
 
-/// The first octets that a hex text writes.
-fn front_of(alloc: Global, text: &[u8]) -> Result<Vec<u8>, AllocError> {
-    let mut octets = Vec::new(alloc);
-    let mut high = None;
-    for digit in text
-        .iter()
-        .filter_map(|octet| digit_of(*octet))
-        .take(2 * FRONT)
-    {
-        match high {
-            None => high = Some(digit),
-            Some(first) => {
-                octets.push(first << 4 | digit)?;
-                high = None;
-            }
-        }
+/// Puts the first octets that a hex text writes into `octets`, and gives how many they are.
+fn put_front(text: &[u8], octets: &mut [u8]) -> usize {
+    let mut digits = text.iter().filter_map(|octet| digit_of(*octet));
+    let mut count = 0usize;
+    for place in octets {
+        let (Some(high), Some(low)) = (digits.next(), digits.next()) else {
+            return count;
+        };
+        *place = high << 4 | low;
+        count = count.saturating_add(1);
     }
-    Ok(octets)
+    count
 }
 
-/// Says of octets that were taken what they look like, where that is a capture or a text and no connection. Without
-/// memory for a look nothing is said.
-pub fn say_strange(alloc: Global, source: InputSource<'_>, text: &[u8], out: &mut TextBuilder) {
-    let Ok(octets) = front_of(alloc, text) else {
-        return;
-    };
-    let octets = octets.as_slice();
+/// Says of octets that were taken what they look like, where that is a capture or a text and no connection.
+fn say_strange(source: InputSource<'_>, text: &[u8], out: &mut TextBuilder) {
+    let mut front = [0; FRONT];
+    let count = put_front(text, &mut front);
+    let octets = first_octets(&front, count);
     if octets.starts_with(b"PRI".as_slice()) || octets.len() < 4 {
         return;
     }
@@ -183,5 +170,16 @@ pub fn say_strange(alloc: Global, source: InputSource<'_>, text: &[u8], out: &mu
     match look_of_octets(octets) {
         Look::Other | Look::Mark => {}
         look => say_all!(out; source, ": its octets are no connection; ", advice(look), ".\n"),
+    }
+}
+
+/// Says what is strange about a hex text that was taken.
+pub fn say_warnings(source: InputSource<'_>, text: &[u8], out: &mut TextBuilder) {
+    if !has_digits(text) {
+        say_all!(out; source, ": no octets.\n");
+    } else if has_offsets(text) {
+        say_offsets(source, out);
+    } else {
+        say_strange(source, text, out);
     }
 }

@@ -3,7 +3,7 @@
 use h2_io::say::{Cut, Say, TextBuilder};
 use h2_io::say_all;
 use h2_spec::octets::first_octets;
-use std::alloc::Allocator;
+use std::alloc::{Allocator, Global};
 
 /// What was read: standard input, or the file at a path.
 #[derive(Clone, Copy)]
@@ -12,11 +12,41 @@ pub enum InputSource<'a> {
     File(&'a str),
 }
 
+impl<'a> InputSource<'a> {
+    /// The file at a path; standard input where the path is empty.
+    pub fn at(path: &'a str) -> InputSource<'a> {
+        if path.is_empty() {
+            InputSource::Input
+        } else {
+            InputSource::File(path)
+        }
+    }
+}
+
 impl Say for InputSource<'_> {
     fn say<A: Allocator>(self, out: &mut TextBuilder<A>) {
         match self {
             InputSource::Input => "standard input".say(out),
             InputSource::File(path) => Cut(path.as_bytes()).say(out),
+        }
+    }
+}
+
+/// What a command says of its input.
+#[derive(Drop)]
+pub struct Reasons<'a> {
+    /// What the input is called.
+    pub source: InputSource<'a>,
+    /// The sentences, each a line.
+    pub out: TextBuilder,
+}
+
+impl<'a> Reasons<'a> {
+    /// Nothing yet; the input is the file at a path, or standard input where that is empty. Takes no memory.
+    pub fn new(alloc: Global, path: &'a str) -> Reasons<'a> {
+        Reasons {
+            source: InputSource::at(path),
+            out: TextBuilder::new(alloc),
         }
     }
 }

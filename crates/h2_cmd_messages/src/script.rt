@@ -1,9 +1,8 @@
 //! What is wrong with a line of a script: its kind in words, and the place in the line.
 
-use crate::hex::is_hex;
 use crate::place::{InputSource, Quoted, up_to};
 use h2_io::say::{Say, TextBuilder};
-use h2_io::say_all;
+use h2_io::{is_hex_text, say_all};
 use h2_spec::scripts::SyntaxKind;
 use memchr::{memchr, memchr_iter};
 
@@ -97,7 +96,7 @@ pub fn say_bad_line(
         say_all!(out; Quoted(part_at(found, part)), ": ");
     }
     say_all!(out; rule(kind));
-    if is_hex(text) {
+    if is_hex_text(text) {
         say_all!(out; "; it looks like hex, of which h2_bench dis writes a script");
     }
     say_all!(out; ".\n");

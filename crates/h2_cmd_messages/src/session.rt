@@ -1,10 +1,10 @@
 //! Why a line of `debug` is refused.
 
-use crate::hex::{digit_count, is_hex};
+use crate::hex::digit_count;
 use crate::place::InputSource;
 use crate::script::line_of;
 use h2_io::say::{Say, TextBuilder};
-use h2_io::say_all;
+use h2_io::{is_hex_text, say_all};
 
 /// The numbers of faults, and what each says of a command; those that end a session are not among them, of which more is
 /// known.
@@ -50,7 +50,7 @@ const DIGITS: usize = 8;
 /// Says of the second line of an input that it looks like octets, if it does: only the first line has them.
 pub fn say_more_octets(text: &[u8], out: &mut TextBuilder) {
     let line = line_of(text, 2);
-    if digit_count(line) >= DIGITS && is_hex(line) {
+    if digit_count(line) >= DIGITS && is_hex_text(line) {
         say_all!(out; InputSource::Input, ", line 2: it looks like more octets, and the first line alone has them; a file of --in FILE may have them on any number of lines.\n");
     }
 }

@@ -105,6 +105,10 @@ ReportsWith form (Ok book) files file input input_failed config t = ReportsFrom 
 abbrev pub IsOutOfMemory : (json input_failed : Bool) → Printed → Type 0
 IsOutOfMemory json input_failed t = ((t ≡ failed NoMemory) ⊎ (t ≡ failed_as json NoMemory)) × (input_failed ≡ false)
 
+-- that, or what is reported with this book
+abbrev pub IsReported : Form → Directory → Config → List ℕ → List Entry → Option (List ℕ) → Bool → Printed → Type 0
+IsReported form files config file book input input_failed t = IsOutOfMemory form.json input_failed t ⊎ ReportsFrom form files file input input_failed book config t
+
 -- that, or this is reported. So where a read failed, `fault 22` is all that is reported
 abbrev pub IsExplained : Form → Directory → Config → List ℕ → BookAsked → Option (List ℕ) → Bool → Printed → Type 0
 IsExplained form files config file book input input_failed t = IsOutOfMemory form.json input_failed t ⊎ ReportsWith form (book_said files book) files file input input_failed config t

@@ -17,12 +17,14 @@ ghost use Rattle.h2_cmd_batch.specs.declared.fault.BenchFault.TheVariants.{NoMem
 use h2_cmd_args::command::Explain;
 use h2_cmd_batch::{BenchFault, PrintFault, read_all, read_hex, refused_limits};
 use h2_cmd_book_file::{Files, FilesFault};
+use h2_cmd_messages::{Reasons, say_too_long, say_unread};
 use h2_conn::Conn;
 use h2_explain::{ClientVerdict, ExplainFault, Form, explain};
 use h2_io::{Input, MAX_INPUT, Output};
 use h2_request_book::book::Book;
 use h2_spec::connection::Config;
 use std::alloc::Global;
+use std::io::ErrorKind;
 
 /// How an explanation ended that was written whole.
 #[derive(Clone, Copy)]
@@ -51,8 +53,13 @@ impl ExplainOutcome {
     }
 }
 
-/// The octets of a file, as `read_all` has those of an input.
-fn read_file<F: Files>(alloc: Global, files: &mut F, path: &str) -> Result<Vec<u8>, BenchFault>
+/// The octets of a file, as `read_all` has those of an input; the reasons say why it was not read.
+fn read_file<F: Files>(
+    alloc: Global,
+    files: &mut F,
+    path: &str,
+    reasons: &mut Reasons<'_>,
+) -> Result<Vec<u8>, BenchFault>
     ensures ok { F.is_printed files.old ≡ true → IfOk result (λ text. (form : ExplainForm) → (book : List Entry) → (config : Config) → (t : Printed)
         → ReportsText form book config text.items t → ReportsFile form book config (F.file files.old path.now) t) }
     ensures within { IfOk result (λ text. length text.items ≤ most) }
@@ -63,7 +70,15 @@ fn read_file<F: Files>(alloc: Global, files: &mut F, path: &str) -> Result<Vec<u
     match files.read(alloc, path, MAX_INPUT) {
         Ok(octets) => Ok(octets),
         Err(FilesFault::NoMemory) => Err(BenchFault::NoMemory),
-        Err(FilesFault::Failed) | Err(FilesFault::TooLong) => Err(BenchFault::Read),
+        Err(FilesFault::Failed) => {
+            let kind = files.failure(path).unwrap_or(ErrorKind::Other);
+            say_unread(reasons.source, kind, &mut reasons.out);
+            Err(BenchFault::Read)
+        }
+        Err(FilesFault::TooLong) => {
+            say_too_long(reasons.source, MAX_INPUT, &mut reasons.out);
+            Err(BenchFault::Read)
+        }
     }
 }
 
@@ -75,6 +90,7 @@ pub fn read_text<F: Files, I: Input>(
     file: &str,
     files: &mut F,
     input: &mut I,
+    reasons: &mut Reasons<'_>,
 ) -> Result<Vec<u8>, BenchFault>
     requires reader { I.has_failed input.old ≡ false }
     ensures ok { KnowsFile file.now (F.is_printed files.old) → IfOk result (λ text. (form : ExplainForm) → (book : List Entry) → (config : Config) → (t : Printed)
@@ -88,9 +104,9 @@ pub fn read_text<F: Files, I: Input>(
     ensures same_files { F.file files.new ≡ F.file files.old }
 {
     if file.is_empty() {
-        read_all(alloc, input)
+        read_all(alloc, input, reasons)
     } else {
-        read_file(alloc, files, file)
+        read_file(alloc, files, file, reasons)
     }
 }
 
@@ -159,7 +175,7 @@ fn explain_octets<O: Output>(
 /// Explains a new connection over the octets that hex text spells; says how it ended.
 ///
 /// `BadHex` where the text is no hex text, then `BadConfig` where a limit or a setting is out of range; nothing is
-/// written then. `NoMemory` where memory is refused: some first items may have been explained. `NotWritten` where a
+/// written then, and the reasons say which. `NoMemory` where memory is refused: some first items may have been explained. `NotWritten` where a
 /// write failed.
 pub fn explain_text<O: Output>(
     alloc: Global,
@@ -168,6 +184,7 @@ pub fn explain_text<O: Output>(
     book: &Book<Global>,
     text: &[u8],
     output: &mut O,
+    reasons: &mut Reasons<'_>,
 ) -> Result<ExplainOutcome, PrintFault>
     requires few { length text.now ≤ most }
     requires writer { O.has_failed output.old ≡ false }
@@ -178,9 +195,9 @@ pub fn explain_text<O: Output>(
     ensures name { O.name output.new ≡ O.name output.old }
 {
     if !config.is_allowed() {
-        return Err(PrintFault::Fault(refused_limits(text)));
+        return Err(PrintFault::Fault(refused_limits(config, text, reasons)));
     }
-    match read_hex(alloc, text) {
+    match read_hex(alloc, text, reasons) {
         Ok(octets) => explain_octets(alloc, form, config, book, octets.as_slice(), output),
         Err(fault) => Err(PrintFault::Fault(fault)),
     }

@@ -5,12 +5,15 @@ ghost use Rattle.std.specs.Prelude.{◌≡◌, ◌==◌, ◌≤◌, length, ◌+
 ghost use Rattle.h2_cmd_args.specs.Plans.{book_asked, form_asked};
 ghost use Rattle.h2_cmd_batch.specs.CommandEnd.{KnowsFile, Prints, PrintsSome};
 ghost use Rattle.h2_cmd_batch.specs.Input.{most};
-ghost use Rattle.h2_cmd_run.specs.ExplainProgram.{EndsExplain, ReportsText, cut_off, explained_after, form_of};
+ghost use Rattle.h2_cmd_run.specs.ExplainProgram.{EndsExplain, IsReported, ReportsText, cut_off, explained_after, form_of};
 
 use crate::explain::{ExplainOutcome, explain_text, read_text};
 use h2_cmd_args::command::Explain;
-use h2_cmd_batch::{PrintFault, advise, book_for_words, print_fault_as};
+use h2_cmd_batch::{
+    PrintFault, advise, book_for_words, print_fault_as, say_end, say_memory, write_reason,
+};
 use h2_cmd_book_file::Files;
+use h2_cmd_messages::Reasons;
 use h2_explain::Form;
 use h2_io::{Input, Output};
 use h2_request_book::book::Book;
@@ -46,6 +49,7 @@ fn print_text<O: Output>(
     book: &Book<Global>,
     text: &[u8],
     output: &mut O,
+    reasons: &mut Reasons<'_>,
 ) -> u8
     requires few { length text.now ≤ most }
     requires writer { O.has_failed output.old ≡ false }
@@ -63,11 +67,42 @@ fn print_text<O: Output>(
         errors: plan.errors,
         stream: plan.stream,
     };
-    let ended = explain_text(alloc, form, plan.config, book, text, output);
+    let ended = explain_text(alloc, form, plan.config, book, text, output, reasons);
+    say_end(&ended, reasons);
     print_explained(output, plan.json, ended)
 }
 
-/// Makes the book of an explanation, reads its text, and explains it.
+/// Reads the text of an explanation, and explains it with its book.
+fn explain_read<F: Files, I: Input, O: Output>(
+    alloc: Global,
+    plan: &Explain<'_>,
+    book: &Book<Global>,
+    files: &mut F,
+    input: &mut I,
+    output: &mut O,
+    reasons: &mut Reasons<'_>,
+) -> u8
+    requires reader { I.has_failed input.old ≡ false }
+    requires writer { O.has_failed output.old ≡ false }
+    ensures printed { KnowsFile plan.now.file.now (F.is_printed files.old) → O.has_failed output.new ≡ false
+        → PrintsSome (IsReported (form_of (form_asked plan.now)) (F.file files.old) plan.now.config plan.now.file.now book.now (I.remaining input.old) (I.has_failed input.new))
+        (O.written output.old) (O.written output.new) result }
+    ensures flag { O.has_failed output.new ≡ (result == 3) }
+    ensures input { I.name input.new ≡ I.name input.old }
+    ensures name { O.name output.new ≡ O.name output.old }
+    ensures same_files { F.file files.new ≡ F.file files.old }
+{
+    match read_text(alloc, plan.file, files, input, reasons) {
+        Ok(text) => print_text(alloc, plan, book, text.as_slice(), output, reasons),
+        Err(fault) => {
+            say_memory(fault, reasons);
+            print_fault_as(output, plan.json, fault)
+        }
+    }
+}
+
+/// Makes the book of an explanation, reads its text, and explains it. Why something of that is refused is written to `errors`,
+/// and what is strange about the text, where the words do not ask for quiet; but not why a read of the input failed.
 pub fn explain_plan<F: Files, I: Input, O: Output, E: Output>(
     alloc: Global,
     plan: &Explain<'_>,
@@ -94,8 +129,8 @@ pub fn explain_plan<F: Files, I: Input, O: Output, E: Output>(
         Err(fault) => return print_fault_as(output, plan.json, fault),
     };
     advise(alloc, plan.config, plan.book.why, errors);
-    match read_text(alloc, plan.file, files, input) {
-        Ok(text) => print_text(alloc, plan, &book, text.as_slice(), output),
-        Err(fault) => print_fault_as(output, plan.json, fault),
-    }
+    let mut reasons = Reasons::new(alloc, plan.input);
+    let status = explain_read(alloc, plan, &book, files, input, output, &mut reasons);
+    write_reason(errors, plan.book.why, reasons.out.finish());
+    status
 }

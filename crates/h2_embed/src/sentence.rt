@@ -1,33 +1,13 @@
 //! The sentence that says why something was refused, as the program says it on standard error.
 
 use h2_cmd_args::Words;
-use h2_cmd_args::command::parse;
+use h2_cmd_args::command::{Plan, parse};
 use h2_cmd_messages::{InputSource, TextBuilder};
 use h2_cmd_run::Ran;
-use h2_host::{Outcome, say_outcome, say_refused_words};
+use h2_host::{SessionEnd, say_refused_words};
 use std::alloc::{AllocError, Global};
 
-/// Puts the sentence of a second look at the words and the input.
-fn say(alloc: Global, words: &Words, input: &[u8], status: u8, out: &mut TextBuilder) {
-    match parse(alloc, words) {
-        Ok(plan) => {
-            let outcome = Outcome {
-                status,
-                is_said: false,
-                source: InputSource::Input,
-                seen: input,
-                count: input.len(),
-                is_cut: false,
-                failure: None,
-                unwritten: None,
-            };
-            say_outcome(alloc, &plan, outcome, out);
-        }
-        Err(refusal) => say_refused_words(&refusal, words.as_slice(), out),
-    }
-}
-
-/// The sentence about a command that was refused something, where it has not said one; empty where nothing was.
+/// The sentence about words that were refused, or about a session, where the command has not said one; empty where there is none.
 pub(crate) fn second_look(
     alloc: Global,
     words: &Words,
@@ -36,7 +16,20 @@ pub(crate) fn second_look(
 ) -> Result<String, AllocError> {
     let mut out = TextBuilder::new(alloc);
     if ran.reason.is_empty() && (ran.status == 1 || ran.status == 2) {
-        say(alloc, words, input, ran.status, &mut out);
+        match parse(alloc, words) {
+            Ok(Plan::Debug(debug)) => {
+                let session = SessionEnd {
+                    status: ran.status,
+                    config: debug.config,
+                    source: InputSource::Input,
+                    seen: input,
+                    count: input.len(),
+                };
+                session.say(&mut out);
+            }
+            Ok(_) => {}
+            Err(refusal) => say_refused_words(&refusal, words.as_slice(), &mut out),
+        }
     }
     out.finish()
 }

@@ -2,12 +2,11 @@
 
 use crate::commands::Commands;
 use crate::devices::files::failure_of;
-use crate::devices::input::{Given, read_file};
-use crate::{Outcome, say_outcome, say_refused_words};
+use crate::devices::input::Given;
+use crate::refused_words::say_refused_words;
 use h2_cmd_args::Words;
-use h2_cmd_args::command::{Check, Plan, Refusal};
-use h2_cmd_messages::{InputSource, say_unread};
-use h2_io::MAX_INPUT;
+use h2_cmd_args::command::{Check, Plan, Refusal, Serve};
+use h2_cmd_messages::{InputSource, TextBuilder, say_limits, say_port, say_unread, say_unwritten};
 use std::io::{ErrorKind, Write};
 use std::rt::Files;
 
@@ -36,76 +35,8 @@ impl Ending {
     }
 }
 
-/// The octets of a file that was read already. A pipe can't be read again, and is not.
-fn read_again(rt: &HostRuntime, path: &str) -> Result<Vec<u8>, Option<ErrorKind>> {
-    match rt.metadata(path) {
-        Ok(about) if about.is_file() || about.is_dir() => match read_file(rt, path, MAX_INPUT) {
-            Ok(octets) => Ok(octets),
-            Err(kind) => Err(Some(kind)),
-        },
-        Ok(_) => Err(None),
-        Err(error) => Err(Some(error.kind())),
-    }
-}
-
-/// The outcome of a command over its input.
-fn outcome_of<'o, C: Commands>(given: &'o Given<'_, '_, C>, ending: Ending) -> Outcome<'o> {
-    let source = if given.taken.is_reader_failure() {
-        InputSource::Input
-    } else {
-        given.source
-    };
-    Outcome {
-        status: ending.status,
-        is_said: ending.is_said,
-        source,
-        seen: given.taken.seen(),
-        count: given.taken.count(),
-        is_cut: given.taken.is_cut(),
-        failure: ending.unbound.or(given.taken.failure()),
-        unwritten: ending.unwritten,
-    }
-}
-
-/// Says what is to be said about the octets of a file that a command read itself.
-fn say_of_file(
-    rt: &HostRuntime,
-    plan: &Plan<'_>,
-    path: &str,
-    outcome: Outcome<'_>,
-    out: &mut h2_cmd_messages::TextBuilder,
-) {
-    let source = InputSource::File(path);
-    match read_again(rt, path) {
-        Ok(octets) => {
-            let seen = octets.as_slice();
-            say_outcome(
-                rt.alloc(),
-                plan,
-                Outcome {
-                    source,
-                    seen,
-                    ..outcome
-                },
-                out,
-            );
-        }
-        Err(None) => {}
-        Err(failure) => say_outcome(
-            rt.alloc(),
-            plan,
-            Outcome {
-                source,
-                failure,
-                ..outcome
-            },
-            out,
-        ),
-    }
-}
-
 /// Says which files of cases can't be read, and why.
-fn say_of_cases(rt: &HostRuntime, check: &Check<'_>, out: &mut h2_cmd_messages::TextBuilder) {
+fn say_of_cases(rt: &HostRuntime, check: &Check<'_>, out: &mut TextBuilder) {
     for path in check.files.as_slice() {
         if let Some(kind) = failure_of(rt, path) {
             say_unread(InputSource::File(path), kind, out);
@@ -113,35 +44,59 @@ fn say_of_cases(rt: &HostRuntime, check: &Check<'_>, out: &mut h2_cmd_messages::
     }
 }
 
-fn say_of_plan(
-    rt: &HostRuntime,
-    plan: &Plan<'_>,
-    outcome: Outcome<'_>,
-    out: &mut h2_cmd_messages::TextBuilder,
-) {
-    match plan {
-        Plan::Explain(explain) if explain.file != "" && outcome.unwritten.is_none() => {
-            say_of_file(rt, plan, explain.file, outcome, out);
-        }
-        Plan::Check(check) if outcome.unwritten.is_none() && !outcome.is_said => {
-            say_of_cases(rt, check, out);
-        }
-        Plan::Against(_) => {}
-        _ => say_outcome(rt.alloc(), plan, outcome, out),
+/// Says why nothing was served.
+fn say_served(serve: &Serve<'_>, ending: Ending, out: &mut TextBuilder) {
+    if ending.status != 1 {
+        return;
+    }
+    if ending.unbound.is_none() && !serve.config.is_allowed() {
+        say_limits(serve.config, out);
+    } else {
+        say_port(serve.port, ending.unbound, out);
     }
 }
 
-/// Says on standard error what is to be said about a command that ended.
+/// Says what the command could not say: why a device failed, and what it does not know of one.
+fn say_of_plan<C: Commands>(
+    rt: &HostRuntime,
+    plan: &Plan<'_>,
+    given: &Given<'_, '_, C>,
+    ending: Ending,
+    out: &mut TextBuilder,
+) {
+    if let Some(kind) = ending.unwritten {
+        say_unwritten(kind, out);
+        return;
+    }
+    if let Some(kind) = given.taken.failure() {
+        say_unread(given.failed_source(), kind, out);
+        return;
+    }
+    match plan {
+        _ if ending.is_said => {}
+        Plan::Serve(serve) => say_served(serve, ending, out),
+        Plan::Check(check) => say_of_cases(rt, check, out),
+        Plan::Debug(debug) => given.say_session(ending.status, debug.config, out),
+        _ => {}
+    }
+}
+
+/// Says on standard error what is to be said about a command that ended: its reasons, where its output was written, and what
+/// it could not say.
 pub fn end<C: Commands>(
     rt: &HostRuntime,
     words: &Words,
     asked: &Result<Plan<'_>, Refusal>,
     given: &Given<'_, '_, C>,
     ending: Ending,
+    reasons: &[u8],
 ) {
-    let mut out = h2_cmd_messages::TextBuilder::new(rt.alloc());
+    if ending.unwritten.is_none() {
+        let _ = rt.stderr().write_all(reasons);
+    }
+    let mut out = TextBuilder::new(rt.alloc());
     match asked {
-        Ok(plan) => say_of_plan(rt, plan, outcome_of(given, ending), &mut out),
+        Ok(plan) => say_of_plan(rt, plan, given, ending, &mut out),
         Err(refusal) => say_refused_words(refusal, words.as_slice(), &mut out),
     }
     if let Ok(text) = out.finish() {

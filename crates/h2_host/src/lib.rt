@@ -1,8 +1,7 @@
 //! What the program has of its host: its words, its files, standard input, output and error. Which device is the input of
 //! a command is decided here, by `input`; what is said about a fault, by `ending`. What a command does is given to it
 //! (`Commands`), so that nothing here waits for the proofs of the commands. The devices are here too: standard input and
-//! output that wait, a file as the input, a person at a terminal; and the second look at what was refused, for the
-//! sentences of h2_cmd_messages.
+//! output that wait, a file as the input, a person at a terminal.
 #![tactic(auto)]
 
 mod case_input;
@@ -13,8 +12,9 @@ mod ending;
 mod items;
 mod program;
 mod prompt;
-mod second_look;
+mod refused_words;
 mod served;
+mod session_end;
 mod version;
 
 pub use commands::Commands;
@@ -28,5 +28,6 @@ pub use program::run_program;
 pub use prompt::console::{Behind, Console, Manner, OctetsExplainer};
 pub use prompt::session_output::{Noted, SessionOutput};
 pub use prompt::session_state::SessionState;
-pub use second_look::{Outcome, say_outcome, say_refused_words};
+pub use refused_words::say_refused_words;
 pub use served::ServerOutput;
+pub use session_end::SessionEnd;

@@ -7,10 +7,10 @@ use crate::devices::file_word::with_file;
 use crate::devices::files::NamedFiles;
 use crate::devices::input::{Given, Standard, input_of, is_session, refusal_for_devices};
 use crate::ending::{Ending, end};
-use crate::{Noted, SessionOutput, SessionState, WaitingOutput, version};
+use crate::{SessionOutput, SessionState, WaitingOutput, version};
 use h2_cmd_args::Words;
 use h2_cmd_args::command::{Command, Devices, Plan, Refusal, parse_command};
-use h2_io::{FromRead, IntoWrite, Output};
+use h2_io::{FromRead, Gathered, IntoWrite, Output};
 use std::io;
 use std::io::{BufWriter, ErrorKind, Write};
 use std::process::ExitCode;
@@ -114,26 +114,22 @@ fn carry_out_over<C: Commands, W: Write>(
     devices: Devices<'_>,
     given: &mut Given<'_, '_, C>,
     output: &mut W,
-) -> Ending {
-    let mut stderr = rt.stderr();
-    let mut errors = IntoWrite::new(&mut stderr);
-    let mut noted = Noted::new(&mut errors);
+    reasons: &mut Gathered,
+) -> u8 {
     let mut output = IntoWrite::new(output);
     if is_session(asked) {
-        let status = run_session(rt, commands, asked, devices, given, &mut output, &mut noted);
-        return Ending::of(status, noted.is_written());
+        return run_session(rt, commands, asked, devices, given, &mut output, reasons);
     }
     let mut files = NamedFiles { rt };
     let mut input = FromRead::new(&mut given.taken);
-    let status = commands.carry_out(
+    commands.carry_out(
         rt.alloc(),
         asked,
         &mut files,
         &mut input,
         &mut output,
-        &mut noted,
-    );
-    Ending::of(status, noted.is_written())
+        reasons,
+    )
 }
 
 /// Writes why the words are refused, with status 2.
@@ -156,10 +152,22 @@ fn run_over<'w, C: Commands>(
 ) -> ExitCode {
     let state = SessionState::new();
     let mut given = input_of(rt, commands, asked, devices, case, &state);
+    let mut reasons = Gathered::new(rt.alloc());
     let ended = match &*asked {
         Ok(Plan::Serve(plan)) => commands.serve(rt, plan, gathered),
         Ok(Plan::Against(plan)) => commands.against(rt, plan, gathered),
-        _ => carry_out_over(rt, commands, asked, devices, &mut given, gathered),
+        asked => {
+            let status = carry_out_over(
+                rt,
+                commands,
+                asked,
+                devices,
+                &mut given,
+                gathered,
+                &mut reasons,
+            );
+            Ending::of(status, !reasons.octets.is_empty())
+        }
     };
     let status = match gathered.flush() {
         Ok(()) => ended.status,
@@ -171,7 +179,7 @@ fn run_over<'w, C: Commands>(
         ..ended
     };
     if !devices.quiet {
-        end(rt, words, asked, &given, ending);
+        end(rt, words, asked, &given, ending, reasons.octets.as_slice());
     }
     ExitCode::from(status)
 }
@@ -225,7 +233,7 @@ fn run_asked<'w, C: Commands>(
     mut asked: Result<Plan<'w>, Refusal>,
     devices: Devices<'w>,
 ) -> ExitCode {
-    if version::is_asked(&asked) {
+    if version::is_asked(words, &asked) {
         return version::print(rt);
     }
     let output = WaitingOutput::new(rt, rt.stdout());
@@ -253,15 +261,12 @@ fn run_asked<'w, C: Commands>(
 
 /// Does what the words of the command line ask for. A FILE among them that is the input is the value of `--in`.
 fn run_words<C: Commands>(rt: &HostRuntime, commands: &C) -> io::Result<ExitCode> {
-    let words = words_of(rt)?;
-    let (asked, devices) = asked_of(rt, &words);
-    match with_file(rt, &words, &asked)? {
-        None => Ok(run_asked(rt, commands, &words, asked, devices)),
-        Some(named) => {
-            let (asked, devices) = asked_of(rt, &named);
-            Ok(run_asked(rt, commands, &named, asked, devices))
-        }
+    let mut words = words_of(rt)?;
+    if let Some(named) = with_file(rt, &words)? {
+        words = named;
     }
+    let (asked, devices) = asked_of(rt, &words);
+    Ok(run_asked(rt, commands, &words, asked, devices))
 }
 
 /// Does what the words of the command line ask for, by these commands.

@@ -1,6 +1,6 @@
 //! What `--version` prints.
 
-use crate::second_look::refused_word;
+use h2_cmd_args::Words;
 use h2_cmd_args::command::{Plan, Refusal};
 use std::io::Write;
 use std::process::ExitCode;
@@ -8,14 +8,10 @@ use std::process::ExitCode;
 /// The version of the project, as CHANGELOG.md has it, and the line of the kit that README.md names.
 const VERSION: &str = "h2_bench 0.9.0\nrattle-kit-13b logic dac8208d650f15bf\n";
 
-/// Whether the words ask for the version: clap, which does not know it, refuses the word, wherever it is.
-pub fn is_asked(asked: &Result<Plan<'_>, Refusal>) -> bool {
-    match asked {
-        Err(Refusal::Words(printed)) => {
-            matches!(refused_word(printed.as_str()), Some("--version" | "-V"))
-        }
-        _ => false,
-    }
+/// Whether words that clap refuses ask for the version, wherever that is: it does not know the word.
+pub fn is_asked(words: &Words, asked: &Result<Plan<'_>, Refusal>) -> bool {
+    let mut texts = words.as_slice().iter();
+    asked.is_err() && texts.any(|word| matches!(word.as_str(), "--version" | "-V"))
 }
 
 /// Prints the version.

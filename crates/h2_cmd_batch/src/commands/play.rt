@@ -19,6 +19,7 @@ use crate::commands::each::{PrintFault, write_places};
 use crate::fault::BenchFault;
 use crate::input::read_hex;
 use h2_cmd_args::command::Play;
+use h2_cmd_messages::{Reasons, say_limits, say_no_hex};
 use h2_conn::play::open_and_feed;
 use h2_conn::{Conn, ConnFault};
 use h2_frame::{Outbox, Outgoing};
@@ -187,20 +188,27 @@ fn write_played<O: Output>(
 }
 
 /// The octets that hex text spells; the text is given back.
-fn octets_of(alloc: Global, input: Vec<u8>) -> Result<Vec<u8>, BenchFault>
+fn octets_of(
+    alloc: Global,
+    input: Vec<u8>,
+    reasons: &mut Reasons<'_>,
+) -> Result<Vec<u8>, BenchFault>
     ensures ok { IfOk result (λ octets. octets_spelled input.items ≡ Some octets.items) }
     ensures err { IfErr result (λ fault. IsNoHex (octets_spelled input.items) fault) }
 {
-    read_hex(alloc, input.as_slice())
+    read_hex(alloc, input.as_slice(), reasons)
 }
 
-/// Why an input is refused whose limits or settings are out of range: it is no hex text, or it is for them. Takes no memory.
-pub fn refused_limits(input: &[u8]) -> BenchFault
+/// Why an input is refused whose limits or settings are out of range: it is no hex text, or it is for them. The reasons say
+/// which.
+pub fn refused_limits(config: Config, input: &[u8], reasons: &mut Reasons<'_>) -> BenchFault
     ensures { result ≡ limits_fault (octets_spelled input.now) }
 {
     if is_hex_text(input) {
+        say_limits(config, &mut reasons.out);
         BenchFault::BadConfig
     } else {
+        say_no_hex(reasons.source, input, &mut reasons.out);
         BenchFault::BadHex
     }
 }
@@ -209,7 +217,7 @@ pub fn refused_limits(input: &[u8]) -> BenchFault
 /// them; or the same of each place.
 ///
 /// `BadHex` where the input is no hex text, then `BadConfig` where a limit or a setting is out of range; nothing is
-/// written then, and no memory is needed. `NoMemory` where memory is refused: nothing was written, or some first
+/// written then, no memory is needed, and the reasons say which. `NoMemory` where memory is refused: nothing was written, or some first
 /// places. `NotWritten` where a write failed.
 pub fn write_play<O: Output>(
     alloc: Global,
@@ -217,6 +225,7 @@ pub fn write_play<O: Output>(
     book: &Book<Global>,
     input: Vec<u8>,
     output: &mut O,
+    reasons: &mut Reasons<'_>,
 ) -> Result<(), PrintFault>
     requires { O.has_failed output.old ≡ false }
     ensures printed { O.has_failed output.new ≡ false → let spelled = octets_spelled input.items in
@@ -227,9 +236,10 @@ pub fn write_play<O: Output>(
     ensures name { O.name output.new ≡ O.name output.old }
 {
     if !play.config.is_allowed() {
-        return Err(PrintFault::Fault(refused_limits(input.as_slice())));
+        let fault = refused_limits(play.config, input.as_slice(), reasons);
+        return Err(PrintFault::Fault(fault));
     }
-    match octets_of(alloc, input) {
+    match octets_of(alloc, input, reasons) {
         Ok(octets) => write_played(alloc, play, book, octets.as_slice(), output),
         Err(fault) => Err(PrintFault::Fault(fault)),
     }

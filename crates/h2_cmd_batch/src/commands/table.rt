@@ -17,6 +17,7 @@ ghost use Rattle.h2_cmd_batch.specs.declared.fault.BenchFault.TheVariants.{NoMem
 
 use crate::commands::each::{PrintFault, write_text};
 use crate::fault::BenchFault;
+use h2_cmd_messages::{Reasons, TableReasons};
 use h2_cmd_play::{place_of, text_before, text_from};
 use h2_conn_view::show::EntriesText;
 use h2_io::{DeviceFault, Number, Output, Text, texts};
@@ -120,8 +121,13 @@ fn add<A: Allocator + Copy>(
     Ok(())
 }
 
-/// Does what a line asks for; `AllocError` where memory is refused.
-fn obey(alloc: Global, table: &mut DynTable<Global>, line: &[u8]) -> Result<TableReply, AllocError>
+/// Does what a line asks for; `AllocError` where memory is refused. The reasons say why a line is refused.
+fn obey(
+    alloc: Global,
+    table: &mut DynTable<Global>,
+    line: &[u8],
+    reasons: &mut TableReasons<'_, '_>,
+) -> Result<TableReply, AllocError>
     ensures table { OnOk result (table.new ≡ obeyed table.old (command_of line.now)) }
     ensures reply { IfOk result (λ reply. reply_text table.new reply ≡ printed_of table.old (command_of line.now)) }
 {
@@ -132,9 +138,15 @@ fn obey(alloc: Global, table: &mut DynTable<Global>, line: &[u8]) -> Result<Tabl
         }
         Some(TableCommand::Max(max)) => match table.set_max(u64::from(max)) {
             Ok(()) => Ok(TableReply::Counts),
-            Err(fault) => Ok(TableReply::Refused(fault.number())),
+            Err(fault) => {
+                reasons.refuse(line, Some(table.limit()));
+                Ok(TableReply::Refused(fault.number()))
+            }
         },
-        None => Ok(TableReply::Refused(BenchFault::BadCommand.number())),
+        None => {
+            reasons.refuse(line, None);
+            Ok(TableReply::Refused(BenchFault::BadCommand.number()))
+        }
     }
 }
 
@@ -146,6 +158,7 @@ fn write_line<O: Output>(
     table: &mut DynTable<Global>,
     line: &[u8],
     output: &mut O,
+    reasons: &mut TableReasons<'_, '_>,
 ) -> Result<(), PrintFault>
     requires { O.has_failed output.old ≡ false }
     ensures table { OnOk result (table.new ≡ obeyed table.old (command_of line.now)) }
@@ -154,7 +167,8 @@ fn write_line<O: Output>(
     ensures flag { O.has_failed output.new ≡ not_written result }
     ensures name { O.name output.new ≡ O.name output.old }
 {
-    match obey(alloc, table, line) {
+    reasons.next();
+    match obey(alloc, table, line, reasons) {
         Ok(reply) => write_text(output, &TableReplyText { reply, table }),
         Err(_) => Err(PrintFault::Fault(BenchFault::NoMemory)),
     }
@@ -179,6 +193,7 @@ fn write_lines<O: Output>(
     table: &mut DynTable<Global>,
     input: &[u8],
     output: &mut O,
+    reasons: &mut Reasons<'_>,
 ) -> Result<(), PrintFault>
     requires { O.has_failed output.old ≡ false }
     ensures printed { O.has_failed output.new ≡ false → let parts = printed_parts table.old (lines_of input.now) in
@@ -186,20 +201,22 @@ fn write_lines<O: Output>(
     ensures flag { O.has_failed output.new ≡ not_written result }
     ensures name { O.name output.new ≡ O.name output.old }
 {
+    let mut reasons = TableReasons::new(reasons);
     let mut rest = input;
     while !rest.is_empty() {
         let (line, more) = first_line(rest);
-        write_line(alloc, table, line, output)?;
+        write_line(alloc, table, line, output, &mut reasons)?;
         rest = more;
     }
+    reasons.end();
     write_text(output, &EntriesText(table))
 }
 
 /// Writes what `table` prints: an empty dynamic table of this limit and maximum is changed by each line of the input.
 ///
 /// A line is `add NAME VALUE`, where NAME has no space, or `max N`; it prints the number of entries, what they count
-/// and the maximum, or the line of its fault: 3 for a maximum above the limit, 27 where it is no command. At the end
-/// the entries are printed.
+/// and the maximum, or the line of its fault, which the reasons explain: 3 for a maximum above the limit, 27 where it is no
+/// command. At the end the entries are printed.
 ///
 /// `Fault` where memory is refused: what is printed for some first lines was written. `NotWritten` where the output
 /// failed.
@@ -208,6 +225,7 @@ pub fn write_table<O: Output>(
     limit: u32,
     input: &[u8],
     output: &mut O,
+    reasons: &mut Reasons<'_>,
 ) -> Result<(), PrintFault>
     requires { O.has_failed output.old ≡ false }
     ensures printed { O.has_failed output.new ≡ false
@@ -217,7 +235,7 @@ pub fn write_table<O: Output>(
     ensures name { O.name output.new ≡ O.name output.old }
 {
     match DynTable::new(alloc, limit) {
-        Ok(mut table) => write_lines(alloc, &mut table, input, output),
+        Ok(mut table) => write_lines(alloc, &mut table, input, output, reasons),
         Err(_) => Err(PrintFault::Fault(BenchFault::NoMemory)),
     }
 }

@@ -1,30 +1,15 @@
 //! A word that is a FILE: in front of the answers of `play` and `debug`, and of `asm`, `dis` and `table` one too many. Where
-//! a file of that name is there, it is the input, as by `--in`; else the words are refused as they were.
+//! a file of that name is there, it is the input, as by `--in`; else the words are taken or refused as they are.
 
-use crate::second_look::refused_word;
 use h2_cmd_args::Words;
-use h2_cmd_args::command::{Batch, BookWords, Plan, Refusal};
 use std::alloc::{AllocError, Global};
 use std::rt::Files;
 
-/// The first answer of a book, where it can't be one: it has no `|`.
-fn no_answer<'b>(book: &'b BookWords<'_>) -> Option<&'b str> {
-    let word = *book.answers.first()?;
-    if word.is_empty() || word == "-" || word.contains('|') {
-        None
-    } else {
-        Some(word)
-    }
-}
-
-/// The word that may be a FILE, by what the words ask for.
-fn file_word<'p>(asked: &'p Result<Plan<'_>, Refusal>, command: &str) -> Option<&'p str> {
-    match asked {
-        Ok(Plan::Batch(Batch::Play(play))) => no_answer(&play.book),
-        Ok(Plan::Debug(debug)) => no_answer(&debug.book),
-        Err(Refusal::Words(printed)) if matches!(command, "asm" | "dis" | "table") => {
-            refused_word(printed.as_str())
-        }
+/// How many words are in front of a FILE that are in their places; `None` where a command takes none, or takes it itself.
+fn count_before(command: &str) -> Option<usize> {
+    match command {
+        "play" | "debug" | "asm" | "dis" => Some(0),
+        "table" => Some(1),
         _ => None,
     }
 }
@@ -36,40 +21,47 @@ fn has_value(option: &str) -> bool {
         && !matches!(option, "--each" | "--why" | "--quiet" | "--raw")
 }
 
-/// The words with `--in=FILE` instead of this one.
-fn with_in(alloc: Global, texts: &[String], file: &str) -> Result<Words, AllocError> {
-    let mut all = Words::new(alloc);
+/// The word that may be a FILE, and its place among the words.
+pub(crate) fn file_word(words: &[String]) -> Option<(usize, &str)> {
+    let mut before = count_before(words.get(1)?.as_str())?;
     let mut is_value = false;
-    let mut is_there = false;
-    for text in texts {
-        let word = text.as_str();
-        if word == file && !is_there && !is_value {
-            is_there = true;
-            let option = format!(in alloc; "--in={file}")?;
-            all.add(option.as_str())?;
-        } else {
-            all.add(word)?;
+    for (place, word) in words.iter().enumerate().skip(2) {
+        let word = word.as_str();
+        if word == "--" {
+            return None;
         }
-        is_value = has_value(word);
+        if !is_value && !word.starts_with("--") {
+            if before == 0 {
+                let is_file = word != "" && word != "-" && !word.contains('|');
+                return is_file.then_some((place, word));
+            }
+            before = before.saturating_sub(1);
+        }
+        is_value = !is_value && has_value(word);
+    }
+    None
+}
+
+/// The words with `--in=FILE` at a place.
+fn with_in(alloc: Global, texts: &[String], file: usize) -> Result<Words, AllocError> {
+    let mut all = Words::new(alloc);
+    for (place, text) in texts.iter().enumerate() {
+        if place == file {
+            all.add(format!(in alloc; "--in={}", text.as_str())?.as_str())?;
+        } else {
+            all.add(text.as_str())?;
+        }
     }
     Ok(all)
 }
 
-/// The words with a FILE as `--in`, where one of those that ask for this is a FILE that is there.
-pub(crate) fn with_file(
-    rt: &HostRuntime,
-    words: &Words,
-    asked: &Result<Plan<'_>, Refusal>,
-) -> Result<Option<Words>, AllocError> {
+/// The words with a FILE as `--in`, where one of them is a FILE that is there.
+pub(crate) fn with_file(rt: &HostRuntime, words: &Words) -> Result<Option<Words>, AllocError> {
     let texts = words.as_slice();
-    let Some(command) = texts.get(1) else {
-        return Ok(None);
-    };
-    if texts.iter().any(|word| word.as_str() == "--") {
-        return Ok(None);
-    }
-    match file_word(asked, command.as_str()) {
-        Some(file) if rt.metadata(file).is_ok() => Ok(Some(with_in(rt.alloc(), texts, file)?)),
+    match file_word(texts) {
+        Some((place, file)) if rt.metadata(file).is_ok() => {
+            Ok(Some(with_in(rt.alloc(), texts, place)?))
+        }
         _ => Ok(None),
     }
 }

@@ -4,14 +4,16 @@
 use crate::commands::Commands;
 use crate::devices::files::{NamedFiles, STANDARD_INPUT};
 use crate::prompt::session_explainer::SessionExplainer;
+use crate::session_end::SessionEnd;
 use crate::{
     Behind, Console, Front, Hexed, Manner, SessionState, TakenInput, WaitingInput, WaitingOutput,
     hex_of,
 };
 use h2_cmd_args::command::{Against, Batch, Check, Devices, Plan, Refusal, ServeReport};
 use h2_cmd_book_file::{Files, FilesFault};
-use h2_cmd_messages::{InputSource, has_offsets, is_capture};
+use h2_cmd_messages::{InputSource, TextBuilder, UNCLEAR, has_offsets, is_capture, say_no_memory};
 use h2_io::MAX_INPUT;
+use h2_spec::connection::Config;
 use std::alloc::AllocError;
 use std::io::{ErrorKind, Stderr, Stdin, Stdout};
 
@@ -45,6 +47,34 @@ impl<C> Given<'_, '_, C> {
             _ if devices.prompt != "" => None,
             InputSource::Input => Some(2),
             InputSource::File(_) => Some(1),
+        }
+    }
+}
+
+impl<C: Commands> Given<'_, '_, C> {
+    /// What could not be read, where that failed.
+    pub fn failed_source(&self) -> InputSource<'_> {
+        if self.taken.is_reader_failure() {
+            InputSource::Input
+        } else {
+            self.source
+        }
+    }
+
+    /// Says why a session with this status did not begin, or what is strange about its octets.
+    pub fn say_session(&self, status: u8, config: Config, out: &mut TextBuilder) {
+        let taken = &self.taken;
+        if !taken.is_cut() {
+            let session = SessionEnd {
+                status,
+                config,
+                source: self.source,
+                seen: taken.seen(),
+                count: taken.count(),
+            };
+            session.say(out);
+        } else if status == 1 {
+            say_no_memory(out);
         }
     }
 }
@@ -307,14 +337,13 @@ fn text_of(rt: &HostRuntime, path: &str, is_raw: bool) -> Result<Vec<u8>, ErrorK
 }
 
 /// What `explain` or a session is given of a text. One with offsets is a dump whose octets are not clear, since a dump that
-/// is read has none any more: what is given then is no hex.
-fn clear_text(rt: &HostRuntime, text: &[u8]) -> Result<Vec<u8>, AllocError> {
-    let given = if has_offsets(text) {
-        b"?".as_slice()
+/// is read has none any more.
+fn clear_text(rt: &HostRuntime, text: Vec<u8>) -> Result<Vec<u8>, AllocError> {
+    if has_offsets(text.as_slice()) {
+        UNCLEAR.to_vec(rt.alloc())
     } else {
-        text
-    };
-    given.to_vec(rt.alloc())
+        Ok(text)
+    }
 }
 
 /// What a session is given of a file: its text; and that once more, where a person or a program may ask what it means.
@@ -323,36 +352,18 @@ fn session_front(
     has_prompt: bool,
     text: Vec<u8>,
 ) -> Result<(Front, Vec<u8>), AllocError> {
-    let line = clear_text(rt, text.as_slice())?;
+    let text = clear_text(rt, text)?;
     let octets = if has_prompt {
         text.as_slice().to_vec(rt.alloc())?
     } else {
         Vec::new(rt.alloc())
     };
     let front = Front {
-        text: line,
-        seen: text,
-        failure: None,
+        seen: text.as_slice().to_vec(rt.alloc())?,
         reads_on: true,
-        keeps: false,
+        ..Front::of(text)
     };
     Ok((front, octets))
-}
-
-/// What a command other than a session is given of a file.
-fn whole_front(
-    rt: &HostRuntime,
-    text: Vec<u8>,
-    seen: Vec<u8>,
-) -> Result<(Front, Vec<u8>), AllocError> {
-    let front = Front {
-        text,
-        seen,
-        failure: None,
-        reads_on: false,
-        keeps: false,
-    };
-    Ok((front, Vec::new(rt.alloc())))
 }
 
 /// What a command is given of the text of a file.
@@ -362,10 +373,11 @@ fn front_over(
     has_prompt: bool,
     text: Vec<u8>,
 ) -> Result<(Front, Vec<u8>), AllocError> {
+    let none = Vec::new(rt.alloc());
     match asked {
         Ok(Plan::Debug(_)) => session_front(rt, has_prompt, text),
-        Ok(Plan::Explain(_)) => whole_front(rt, clear_text(rt, text.as_slice())?, text),
-        _ => whole_front(rt, text.as_slice().to_vec(rt.alloc())?, text),
+        Ok(Plan::Explain(_)) => Ok((Front::of(clear_text(rt, text)?), none)),
+        _ => Ok((Front::of(text), none)),
     }
 }
 
@@ -416,7 +428,7 @@ pub fn input_of<'r, 'c, 'w: 'c, C: Commands>(
     if path == "" && case.is_none() {
         let behind = behind(rt, devices, None, explainer, state);
         return Given {
-            taken: TakenInput::new(Front::empty(rt.alloc()), behind),
+            taken: TakenInput::new(Front::empty(rt.alloc(), is_session(asked)), behind),
             source: InputSource::Input,
             state,
         };

@@ -1,5 +1,5 @@
-//! The input of a command: the text of a file, or what a reader gives. What was given is kept for a second look, since
-//! a reader can't be read again.
+//! The input of a command: the text of a file, or what a reader gives. What a session was given is kept, since h2_debug
+//! does not say why it refuses that.
 
 ghost use Rattle.std.specs.Prelude.{◌≤◌, length, IfOk};
 
@@ -13,7 +13,7 @@ use std::{io, mem};
 pub struct Front {
     /// What is given of it.
     pub text: Vec<u8>,
-    /// What was refused is looked for in this text.
+    /// What a session is given of it.
     pub seen: Vec<u8>,
     /// Why the file was not read, where it was not.
     pub failure: Option<ErrorKind>,
@@ -24,25 +24,31 @@ pub struct Front {
 }
 
 impl Front {
-    /// Nothing: all is what the reader gives.
-    pub fn empty(alloc: Global) -> Front {
+    /// Nothing: all is what the reader gives, which is kept for a session.
+    pub fn empty(alloc: Global, keeps: bool) -> Front {
         Front {
-            text: Vec::new(alloc),
-            seen: Vec::new(alloc),
-            failure: None,
             reads_on: true,
-            keeps: true,
+            keeps,
+            ..Front::of(Vec::new(alloc))
+        }
+    }
+
+    /// A text alone.
+    pub fn of(text: Vec<u8>) -> Front {
+        Front {
+            seen: Vec::new(*text.allocator()),
+            text,
+            failure: None,
+            reads_on: false,
+            keeps: false,
         }
     }
 
     /// A file that can't be read for this reason.
     pub fn unread(alloc: Global, failure: ErrorKind) -> Front {
         Front {
-            text: Vec::new(alloc),
-            seen: Vec::new(alloc),
             failure: Some(failure),
-            reads_on: false,
-            keeps: false,
+            ..Front::of(Vec::new(alloc))
         }
     }
 }
@@ -56,7 +62,7 @@ pub struct TakenInput<R> {
     reader: R,
     /// Whether the reader is read after what is given first.
     reads_on: bool,
-    /// What was refused is looked for in this text: that of the file, or of the reader where there is no file.
+    /// What a session was given: the text of the file, or of the reader where there is no file.
     seen: Vec<u8>,
     /// Whether the reader's text is kept there.
     keeps: bool,
@@ -66,7 +72,9 @@ pub struct TakenInput<R> {
     is_reader_failure: bool,
     /// Whether memory for that text was refused.
     is_cut: bool,
-    /// Why the file or the reader was not read.
+    /// Why the file can't be read.
+    unread: Option<ErrorKind>,
+    /// Why the last read failed.
     failure: Option<ErrorKind>,
 }
 
@@ -83,11 +91,12 @@ impl<R: Read> TakenInput<R> {
             seen: front.seen,
             is_reader_failure: false,
             is_cut: false,
-            failure: front.failure,
+            unread: front.failure,
+            failure: None,
         }
     }
 
-    /// What was refused, if anything was, is in this text.
+    /// What a session was given.
     pub fn seen(&self) -> &[u8] {
         self.seen.as_slice()
     }
@@ -152,7 +161,8 @@ impl<R: Read> TakenInput<R> {
 
 impl<R: Read> Read for TakenInput<R> {
     fn read(&mut self, buffer: &mut [u8]) -> io::Result<usize> {
-        if let Some(kind) = self.failure {
+        if let Some(kind) = self.unread {
+            self.failure = self.unread;
             return Err(io::Error::from(kind));
         }
         let count = self.give_front(buffer);

@@ -58,6 +58,7 @@ fn plan_of<'c>(alloc: Global, words: &Debug<'c>) -> Result<Plan<'c>, AllocError>
         stream: None,
         file: "",
         book,
+        input: "",
     }))
 }
 

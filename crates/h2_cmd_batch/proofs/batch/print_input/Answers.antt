@@ -9,12 +9,12 @@ use Rattle.h2_cmd_batch.proofs.batch.print_input.Goals as goal
 
 pub returns-in-Asm-clause-printed : goal.returns-in-Asm-clause-printed
 returns-in-Asm-clause-printed g c = λ well held is.
-    let such = subst (λ (b : Batch). OrCutShort (places c.args.book.now (batch_asked b) c.args.input.items) (printed c.args.book.now (batch_asked b) c.args.input.items) (seen c.asm_report.result)) (sym c.in-Asm.is)
-    (given c.asm_report.result _ _ (rw c.as_slice.ensures.value at c.asm_report.ensures)) in
-    (seen c.asm_report.result, such, c.print_report.ensures.printed well held is)
+    let such = subst (λ (b : Batch). OrCutShort (places c.args.book.now (batch_asked b) c.args.input.items) (printed c.args.book.now (batch_asked b) c.args.input.items) (seen c.asm_report-report.result)) (sym c.in-Asm.is)
+    (given c.asm_report-report.result _ _ (rw c.as_slice.ensures.value at c.asm_report-report.ensures)) in
+    (seen c.asm_report-report.result, such, c.print_report.ensures.printed well held is)
 
 pub returns-in-Dis-clause-printed : goal.returns-in-Dis-clause-printed
 returns-in-Dis-clause-printed g c = λ well held is.
-    let such = subst (λ (b : Batch). OrCutShort (places c.args.book.now (batch_asked b) c.args.input.items) (printed c.args.book.now (batch_asked b) c.args.input.items) (seen c.whole.result)) (sym c.in-Dis.is)
-    (given c.whole.result _ _ (c.whole.ensures _ (rw c.as_slice-in-Dis.ensures.value at c.dis_text.ensures))) in
-    (seen c.whole.result, such, c.print_report-in-Dis.ensures.printed well held is)
+    let such = subst (λ (b : Batch). OrCutShort (places c.args.book.now (batch_asked b) c.args.input.items) (printed c.args.book.now (batch_asked b) c.args.input.items) (seen c.whole-report.result)) (sym c.in-Dis.is)
+    (given c.whole-report.result _ _ (c.whole-report.ensures _ (rw c.as_slice-in-Dis.ensures.value at c.dis_text.ensures))) in
+    (seen c.whole-report.result, such, c.print_report-in-Dis.ensures.printed well held is)

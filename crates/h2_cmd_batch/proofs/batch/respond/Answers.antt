@@ -1,21 +1,10 @@
-use Rattle.std.proofs.Common.{◌≡◌, ◌∙◌, ◌<◌, ◌≤◌, ℕ, List, Result, ap, inl, inr, le-ltb, length, lt-ltb, refl, subst, sym}
+use Rattle.std.proofs.Common.{ℕ, List, Result, ap, inl, inr, refl, subst, sym}
 use Rattle.h2_spec.specs.Requests.Answer.{Entry}
-use Rattle.h2_cmd_args.specs.Grammar.{BatchAsked}
 use Rattle.h2_cmd_args.specs.Plans.{batch_asked}
 use Rattle.h2_cmd_batch.specs.CommandEnd.{AnswersAs}
-use Rattle.h2_cmd_batch.specs.Input.{most}
-use Rattle.h2_cmd_batch.specs.Printing.{OrCutShort, Printed, failed}
-use Rattle.h2_cmd_batch.specs.Printed.{places, places_read, printed, printed_read}
+use Rattle.h2_cmd_batch.specs.Printing.{failed}
 use Rattle.h2_cmd_batch.specs.declared.fault.BenchFault.{BenchFault}
-use Rattle.h2_cmd_batch.specs.declared.fault.BenchFault.TheVariants.{Read}
 use Rattle.h2_cmd_batch.proofs.batch.respond.Goals as goal
-
-too-long : (book : List Entry) (asked : BatchAsked) (octets : List ℕ) → most < length octets → failed Read ≡ printed_read book asked octets
-too-long book asked octets h = rw (lt-ltb most (length octets) h) refl
-
-read-whole : (book : List Entry) (asked : BatchAsked) (octets known : List ℕ) (t : Printed) → length octets ≤ most → octets ≡ known
-    → OrCutShort (places book asked octets) (printed book asked octets) t → OrCutShort (places_read book asked known) (printed_read book asked known) t
-read-whole book asked octets known t within same x = rw (← same, le-ltb most (length octets) within) x
 
 pub returns-in-Err-clause-printed : goal.returns-in-Err-clause-printed
 returns-in-Err-clause-printed g c = λ files well held is. (
@@ -29,27 +18,11 @@ returns-in-Err-clause-printed g c = λ files well held is. (
 
 pub returns-clause-printed : goal.returns-clause-printed
 returns-clause-printed g c = λ files well held is.
-    let fault = c.in-Err-read_all.fault in (
-      failed fault,
-      elim c.in-Err-read_all.ensures.err [
-        | inl memory ↦ inl (ap (λ (f : BenchFault). failed f) memory.0, memory.1)
-        | inr unread ↦ inr (subst (λ (r : Result (List Entry) ℕ). AnswersAs r (batch_asked c.args.batch.now) (g.I.Input.remaining c.args.input.now) (g.I.Input.has_failed c.read_all.new.input) (failed fault)) (sym (c.in-Ok.ensures.ok files)) (elim unread.1 [
-          | inl broken ↦ inl (broken, ap (λ (f : BenchFault). failed f) unread.0)
-          | inr long ↦ inr (long.0, λ octets known. inl (ap (λ (f : BenchFault). failed f) unread.0 ∙ too-long c.in-Ok.book (batch_asked c.args.batch.now) octets (long.1 octets known)))
-        ]))
-      ],
-      c.print_fault-in-Err-read_all.ensures.printed well held is,
-    )
-
-pub returns-in-Ok-read_all-clause-printed : goal.returns-in-Ok-read_all-clause-printed
-returns-in-Ok-read_all-clause-printed g c = λ files well held is.
-    let x = c.print_input.ensures.printed well held is in (
+    let x = c.answer-status.ensures.printed well held is in (
       x.0,
-      inr (subst (λ (r : Result (List Entry) ℕ). AnswersAs r (batch_asked c.args.batch.now) (g.I.Input.remaining c.args.input.now) (g.I.Input.has_failed c.read_all.new.input) x.0) (sym (c.in-Ok.ensures.ok files))
-          (inr (
-            c.in-Ok-read_all.ensures.well,
-            λ known is_known.
-                read-whole c.in-Ok.book (batch_asked c.args.batch.now) c.in-Ok-read_all.octets.items known x.0 c.in-Ok-read_all.ensures.within (c.in-Ok-read_all.ensures.ok known is_known) x.1,
-          ))),
+      elim x.1 [
+        | inl memory ↦ inl memory
+        | inr found ↦ inr (subst (λ (r : Result (List Entry) ℕ). AnswersAs r (batch_asked c.args.batch.now) (g.I.Input.remaining c.args.input.now) (g.I.Input.has_failed c.answer-status.new.input) x.0) (sym (c.in-Ok.ensures.ok files)) found)
+      ],
       x.2,
     )

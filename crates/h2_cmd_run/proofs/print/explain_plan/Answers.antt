@@ -3,7 +3,7 @@ use Rattle.h2_spec.specs.Requests.Answer.{Entry}
 use Rattle.h2_spec.specs.declared.connection.Config.{Config}
 use Rattle.h2_cmd_book_file.specs.Entries.{Directory}
 use Rattle.h2_cmd_args.specs.Plans.{form_asked}
-use Rattle.h2_cmd_run.specs.ExplainProgram.{ReportsFrom, ReportsText, ReportsWith, form_of}
+use Rattle.h2_cmd_run.specs.ExplainProgram.{ReportsFrom, ReportsWith, form_of}
 use Rattle.h2_explain.specs.declared.run.Form.{Form}
 use Rattle.h2_cmd_batch.specs.Printing.{Printed, failed_as}
 use Rattle.h2_cmd_batch.specs.CommandEnd.{KnowsFile}
@@ -33,23 +33,12 @@ returns-in-Err-clause-printed g c = λ book file well held is. (
 
 pub returns-clause-printed : goal.returns-clause-printed
 returns-clause-printed g c = λ book file well held is.
-    let fault = c.in-Err-read_text.fault in
-    let known = still-known c.args.plan.now.file.now (g.F.Files.is_printed c.args.files.now) (g.F.Files.is_printed c.book_for_words.new.files) c.book_for_words.ensures.same_printed file in (
-      failed_as c.args.plan.now.json fault,
-      elim (c.in-Err-read_text.ensures.err known) [
-        | inl memory ↦ inl (inr (ap (λ (f : BenchFault). failed_as c.args.plan.now.json f) memory.0), memory.1)
-        | inr summary ↦ inr (with-book (form_of (form_asked c.args.plan.now)) _ c.in-Ok.book (g.F.Files.file c.args.files.now) (g.F.Files.file c.book_for_words.new.files) c.args.plan.now.file.now (g.I.Input.remaining c.args.input.now) (g.I.Input.has_failed c.read_text.new.input) c.args.plan.now.config (failed_as c.args.plan.now.json fault) (c.in-Ok.ensures.ok book) c.book_for_words.ensures.same_files (summary (form_of (form_asked c.args.plan.now)) c.in-Ok.book c.args.plan.now.config))
-      ],
-      c.print_fault_as-in-Err-read_text.ensures.printed well held is,
-    )
-
-pub returns-in-Ok-read_text-clause-printed : goal.returns-in-Ok-read_text-clause-printed
-returns-in-Ok-read_text-clause-printed g c = λ book file well held is.
-    let x = c.print_text.ensures.printed well held is in
-    let known = still-known c.args.plan.now.file.now (g.F.Files.is_printed c.args.files.now) (g.F.Files.is_printed c.book_for_words.new.files) c.book_for_words.ensures.same_printed file in (
+    let known = still-known c.args.plan.now.file.now (g.F.Files.is_printed c.args.files.now) (g.F.Files.is_printed c.book_for_words.new.files) c.book_for_words.ensures.same_printed file in
+    let x = c.explain_read-status.ensures.printed known well held is in (
       x.0,
-      inr (with-book (form_of (form_asked c.args.plan.now)) _ c.in-Ok.book (g.F.Files.file c.args.files.now) (g.F.Files.file c.book_for_words.new.files) c.args.plan.now.file.now (g.I.Input.remaining c.args.input.now) (g.I.Input.has_failed c.read_text.new.input) c.args.plan.now.config x.0 (c.in-Ok.ensures.ok book) c.book_for_words.ensures.same_files
-          (c.in-Ok-read_text.ensures.ok known (form_of (form_asked c.args.plan.now)) c.in-Ok.book c.args.plan.now.config x.0
-          (subst (λ (octets : List ℕ). ReportsText (form_of (form_asked c.args.plan.now)) c.in-Ok.book c.args.plan.now.config octets x.0) c.as_slice.ensures.value x.1))),
+      elim x.1 [
+        | inl memory ↦ inl memory
+        | inr found ↦ inr (with-book (form_of (form_asked c.args.plan.now)) _ c.in-Ok.book (g.F.Files.file c.args.files.now) (g.F.Files.file c.book_for_words.new.files) c.args.plan.now.file.now (g.I.Input.remaining c.args.input.now) (g.I.Input.has_failed c.explain_read-status.new.input) c.args.plan.now.config x.0 (c.in-Ok.ensures.ok book) c.book_for_words.ensures.same_files found)
+      ],
       x.2,
     )

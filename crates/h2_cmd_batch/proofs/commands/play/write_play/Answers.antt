@@ -30,6 +30,6 @@ pub returns-then-not-is_allowed-clause-printed : goal.returns-then-not-is_allowe
 returns-then-not-is_allowed-clause-printed g c = λ well held is. (
   [],
   unchanged held _ is,
-  inl (ap (failed_after []) (rw c.as_slice.ensures.value at c.refused_limits.ensures)
+  inl (ap (failed_after []) (rw c.as_slice.ensures.value at c.refused_limits-fault.ensures)
       ∙ limits-reported c.args.play.now.each c.args.book.now c.args.play.now.config (octets_spelled c.args.input.items) (sym c.is_allowed.ensures ∙ c.if-not-is_allowed.true)),
 )
