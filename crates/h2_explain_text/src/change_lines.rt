@@ -163,8 +163,9 @@ impl Text for ChangeWords {
                 let (before, after) = (kind_name(before), kind_name(after));
                 texts!(OnStream(stream), before, " -> ", after).write_to(output)
             }
-            ShownChange::Acknowledged(_, _) =>
-                "the server's settings are acknowledged".write_to(output),
+            ShownChange::Acknowledged(_, _) => "the server's settings are acknowledged".write_to(
+                output,
+            ),
             ShownChange::Stops(stream, remaining, own, connection) => {
                 let (own, connection) = (OwnSpent(own), ConnectionSpent(own, connection));
                 texts!(OnStream(stream), Remains(remaining), own, connection).write_to(output)
@@ -243,8 +244,10 @@ impl Text for MovedWords {
                 let moving = Moving(before, after);
                 texts!(OnStream(stream), what.name(), " ", moving).write_to(output)
             }
-            UnshownChange::BodySent(stream) =>
-                texts!(OnStream(stream), "its body is sent").write_to(output),
+            UnshownChange::BodySent(stream) => texts!(
+                OnStream(stream),
+                "its body is sent"
+            ).write_to(output),
             UnshownChange::Block(block) => texts!(
                 "the block of stream ",
                 Number(u64::from(block.stream)),

@@ -366,7 +366,7 @@ fn gather<A: Allocator, T: Text>(text: &T, out: &mut Gathered<A>) -> Result<(), 
     }
 }
 
-/// What is left out where a text is brief: fields, and what changed.
+/// What a brief text omits: fields, and what changed.
 fn detail<T>(is_brief: bool, list: &[T]) -> &[T]
     ensures { result.now ≡ detail is_brief list.now }
 {

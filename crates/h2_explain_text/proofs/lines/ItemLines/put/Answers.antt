@@ -20,6 +20,9 @@ returns g c =
     let main = c.in_ok-put_main.ensures.text in
     let w : Words = record main.0 { entries = c.part-entries.result.0.now } in
     on_ok_weaker c.put_changed.result
-    (λ h. (w, loud_lines _ color a.is_brief c.args.item.now (with_changes a.changes.items a.unshown.items w) loud
-        (h ∙ ap (λ (t : List ℕ). t ++ flat_map (change_line color) (detail a.is_brief a.changes.items) ++ flat_map (moved_line color) (detail a.is_brief a.unshown.items) ++ detail a.is_brief w.entries) main.1)))
+    (λ h. (
+      w,
+      loud_lines _ color a.is_brief c.args.item.now (with_changes a.changes.items a.unshown.items w) loud
+          (h ∙ ap (λ (t : List ℕ). t ++ flat_map (change_line color) (detail a.is_brief a.changes.items) ++ flat_map (moved_line color) (detail a.is_brief a.unshown.items) ++ detail a.is_brief w.entries) main.1),
+    ))
     c.put_changed.ensures
