@@ -62,9 +62,13 @@ abbrev pub declared_words : Option ℕ → List ℕ
 declared_words None = []
 declared_words (Some declared) = joined (codes ", content-length " ∷ decimal declared ∷ [])
 
+-- what a receive window is called where a stream opens
+unfoldable pub receive_name : List ℕ
+receive_name = codes "begins with a receive window of "
+
 -- its windows, and that
 unfoldable pub receive_begins : ℤ → List ℕ
-receive_begins recv = joined (codes "begins with a receive window of " ∷ signed_decimal recv ∷ [])
+receive_begins recv = joined (receive_name ∷ signed_decimal recv ∷ [])
 
 unfoldable pub send_begins : ℤ → List ℕ
 send_begins send = joined (codes " and a send window of " ∷ signed_decimal send ∷ [])

@@ -3,7 +3,7 @@
 
 ghost use Rattle.std.specs.Prelude.{◌≡◌, ◌++◌, false, flat_map, OnOk, is_err};
 ghost use Rattle.std.specs.Fmt.{signed_decimal};
-ghost use Rattle.h2_explain_text.specs.ChangeWords.{begins, change_words, connection_spent, counted, declared_words, moved_words, moving, octet_count, on_stream, on_stream_if, own_spent, receive_begins, remains, send_begins};
+ghost use Rattle.h2_explain_text.specs.ChangeWords.{begins, change_words, connection_spent, counted, declared_words, moved_words, moving, octet_count, on_stream, on_stream_if, own_spent, receive_begins, receive_name, remains, send_begins};
 ghost use Rattle.h2_explain_text.specs.Lines.{change_line, moved_line};
 
 use crate::lines::INDENT;
@@ -189,6 +189,14 @@ impl Text for DeclaredWords {
     }
 }
 
+/// What a receive window is called where a stream opens.
+#[tactic(auto, unfolding(crate::specs::ChangeWords::receive_name))]
+fn receive_name() -> &'static str
+    ensures { result.now ≡ receive_name }
+{
+    "begins with a receive window of "
+}
+
 /// With which receive window a stream opens.
 #[derive(Clone, Copy)]
 struct ReceiveBegins(i64);
@@ -198,7 +206,7 @@ impl Text for ReceiveBegins {
     ghost text = { λ b. receive_begins b.0 };
 
     fn write_to<O: Output>(&self, output: &mut O) -> Result<(), DeviceFault> {
-        texts!("begins with a receive window of ", Signed(self.0)).write_to(output)
+        texts!(receive_name(), Signed(self.0)).write_to(output)
     }
 }
 
