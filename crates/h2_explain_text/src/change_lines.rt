@@ -190,27 +190,27 @@ impl Text for DeclaredWords {
 
 /// With which receive window a stream opens.
 #[derive(Clone, Copy)]
-struct ReceiveBegins(i64);
+struct ReceiveBegins(Signed);
 
 #[tactic(auto, unfolding(crate::specs::ChangeWords::receive_begins))]
 impl Text for ReceiveBegins {
-    ghost text = { λ b. receive_begins b.0 };
+    ghost text = { λ b. receive_begins b.0.0 };
 
     fn write_to<O: Output>(&self, output: &mut O) -> Result<(), DeviceFault> {
-        texts!("begins with a receive window of ", Signed(self.0)).write_to(output)
+        texts!("begins with a receive window of ", self.0).write_to(output)
     }
 }
 
 /// With which send window a stream opens.
 #[derive(Clone, Copy)]
-struct SendBegins(i64);
+struct SendBegins(Signed);
 
 #[tactic(auto, unfolding(crate::specs::ChangeWords::send_begins))]
 impl Text for SendBegins {
-    ghost text = { λ b. send_begins b.0 };
+    ghost text = { λ b. send_begins b.0.0 };
 
     fn write_to<O: Output>(&self, output: &mut O) -> Result<(), DeviceFault> {
-        texts!(" and a send window of ", Signed(self.0)).write_to(output)
+        texts!(" and a send window of ", self.0).write_to(output)
     }
 }
 
@@ -222,7 +222,7 @@ impl Text for Begins {
     ghost text = { λ b. begins b.0 b.1 b.2 };
 
     fn write_to<O: Output>(&self, output: &mut O) -> Result<(), DeviceFault> {
-        let (recv, send) = (ReceiveBegins(self.0), SendBegins(self.1));
+        let (recv, send) = (ReceiveBegins(Signed(self.0)), SendBegins(Signed(self.1)));
         texts!(recv, send, DeclaredWords(self.2)).write_to(output)
     }
 }
