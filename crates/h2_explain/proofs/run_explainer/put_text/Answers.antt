@@ -1,0 +1,17 @@
+use Rattle.std.proofs.Common.{◌∙◌, Bool, ap, subst, sym}
+use Rattle.std.proofs.lemmas.Result.{on_ok_weaker}
+use Rattle.h2_explain.specs.Explains.{IsShownText}
+use Rattle.h2_explain_text.specs.Lines.{lines_of, shown_words, with_changes}
+use Rattle.h2_explain.proofs.run_explainer.put_text.Goals as goal
+
+pub returns-else-form : goal.returns-else-form
+returns-else-form g c =
+    let x = c.args.item.now in
+    let changes = c.fit.new.account.changes.items in
+    let moved = c.fit.new.account.unshown.items in
+    on_ok_weaker c.put.result
+    (λ h. subst (λ (b : Bool). IsShownText b c.args.form.color c.args.form.brief x c.put.new.self) (sym c.if-form.false) (
+      with_changes changes moved h.0,
+      h.1 ∙ ap (λ (b : Bool). lines_of c.args.form.color x (shown_words b (with_changes changes moved h.0))) c.fit.ensures,
+    ))
+    c.put.ensures
