@@ -68,9 +68,12 @@ fn inject_over<W: Write>(rt: &HostRuntime, plan: &Serve<'_>, output: &mut W) -> 
         &mut written,
         &mut noted,
     );
+    let unbound = guests.failure();
+    // `not ok` has the status of a fault, and needs no sentence.
+    let is_said = noted.is_written() || (unbound.is_none() && plan.config.is_allowed());
     Ending {
-        unbound: guests.failure(),
-        ..Ending::of(status, noted.is_written())
+        unbound,
+        ..Ending::of(status, is_said)
     }
 }
 
