@@ -500,14 +500,14 @@ def test_view():
         path, port = f"{folder}/view.h2", free_port()
         with open(path, "w", encoding="utf-8") as file:
             file.write(VIEWED)
-        words = ["h2_bench", "serve", "--quiet", "--inject", path, "--explain", "--brief", str(port), "2", "GET|/|200|6869"]
-        with subprocess.Popen(words, executable=PROGRAM, stdout=subprocess.PIPE, text=True) as ran:
+        words = ["h2_bench", "serve", "--inject", path, "--explain", "--brief", str(port), "2", "GET|/|200|6869"]
+        with subprocess.Popen(words, executable=PROGRAM, stdout=subprocess.PIPE, stderr=subprocess.PIPE, text=True) as ran:
             ran.stdout.readline()
             view_client(port, START + octets_of(Frame(HEADERS, END_HEADERS | END_STREAM, 1, GET + b"A\1a")), PROBE, octets_of(Frame(PING, ACK, 0, PROBE)) + idle)
             view_client(port, START, b"\4\1\0\0\0\0", idle)
-            text = ran.stdout.read()
+            text, said = ran.stdout.read(), ran.stderr.read()
         found = f'not ok 1 - {path}: DATA on stream 0 (RFC 9113, 6.1)\n  ---\n  - line: 1\n    wanted: "a client that the server goes on with"\n    found: "ended by the server: data-on-idle"\n  ...\n'
-        expect(text == VIEW + found + LATER, f"a view: {text}")
+        expect((text, said) == (VIEW + found + LATER, ""), f"a view: {text}, {said}")
 
 
 # ---- lines
