@@ -27,7 +27,9 @@ use h2_explain_words::sent::next_frame;
 use h2_frame::FrameRef;
 use h2_io::say::TextBuilder;
 use h2_io::{say_all, string_of};
+use h2_spec::causes::Cause;
 use h2_spec::frames::ItemHead;
+use h2_spec::ignored::Ignored;
 use h2_spec::octets::first_octets;
 use std::alloc::{AllocError, Global};
 
@@ -54,30 +56,14 @@ fn since_with(since: Option<u64>, number: u64, parts: &Parts) -> Option<u64>
     }
 }
 
-/// An item as it is shown: with what went out for it, and, once the script has spoken, without its error and its reason.
-fn shown_as<'o>(since: Option<u64>, item: Explained<'o>, sent: &'o [u8]) -> Explained<'o>
-    ensures cause { result.cause ≡ judged since item.entry.cause }
-    ensures reason { result.ignored ≡ judged since item.entry.ignored }
-    ensures sent { result.sent.now ≡ sent.entry.now }
-    ensures item { (result.number ≡ item.entry.number) × (result.offset ≡ item.entry.offset) × (result.what ≡ item.entry.what) }
+/// The error of an item and its reason, or none once the script has spoken.
+fn judged(since: Option<u64>, item: &Explained<'_>) -> (Option<Cause>, Option<Ignored>)
+    ensures cause { result.0 ≡ judged since item.now.cause }
+    ensures reason { result.1 ≡ judged since item.now.ignored }
 {
-    let (cause, ignored) = match since {
+    match since {
         None => (item.cause, item.ignored),
         Some(_) => (None, None),
-    };
-    Explained {
-        number: item.number,
-        offset: item.offset,
-        octets: item.octets,
-        ahead: item.ahead,
-        used: item.used,
-        what: item.what,
-        part: item.part,
-        cause,
-        ignored,
-        sent,
-        before: item.before,
-        after: item.after,
     }
 }
 
@@ -240,7 +226,22 @@ impl<'b> View<'b> {
             .account(alloc, &self.conn, item, &mut self.account)?;
         self.fit(watch)?;
         let (parts, _is_step) = self.weaver.weave(alloc, steps, incoming(item), item.sent)?;
-        let shown = shown_as(self.since, *item, parts.sent.as_slice());
+        let (cause, ignored) = judged(self.since, item);
+        let (octets, ahead) = (item.octets, item.ahead);
+        let shown = Explained {
+            number: item.number,
+            offset: item.offset,
+            octets,
+            ahead,
+            used: item.used,
+            what: item.what,
+            part: part_in(item.what, octets),
+            cause,
+            ignored,
+            sent: parts.sent.as_slice(),
+            before: item.before,
+            after: item.after,
+        };
         let block = self.explainer.block(&self.conn);
         self.lines.put(&shown, &self.account, block, paint)?;
         out.extend_from_slice(self.lines.octets())?;
