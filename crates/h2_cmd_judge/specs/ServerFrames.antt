@@ -1,6 +1,6 @@
 -- The events of the octets that a server sends: its frames one after another, with the fields of its answers (RFC 9113, 4,
 -- 6 and 8.1).
-use Rattle.std.specs.Prelude.{ℕ, zero, suc, ◌+◌, ◌*◌, ◌-◌, ◌&&◌, Bool, false, List, [], ◌∷◌, ◌++◌, codes, length, nat_le, not, ◌==◌, if◌then◌else◌, Option, Some, None, Result, Ok, Err}
+use Rattle.std.specs.Prelude.{ℕ, zero, suc, ◌+◌, ◌*◌, ◌-◌, ◌&&◌, Bool, false, List, [], ◌∷◌, ◌++◌, codes, length, nat_le, nat_lt, not, ◌==◌, if◌then◌else◌, Option, Some, None, Result, Ok, Err}
 use Rattle.std.specs.Bool.{then_some}
 use Rattle.std.specs.Str.{bytes_eq}
 use Rattle.h2_spec.specs.Frames.FrameType.{ACK, END_HEADERS, END_STREAM, has}
@@ -8,7 +8,7 @@ use Rattle.h2_spec.specs.Frames.Payload.{Part, part_of, OfData, OfHeaders, OfPri
 use Rattle.h2_spec.specs.declared.causes.Cause.{Cause}
 use Rattle.h2_spec.specs.declared.frames.Head.{Head}
 use Rattle.h2_explain_words.specs.Sent.{FirstFrame, first_frame}
-use Rattle.h2_spec.specs.Hpack.Block.{Decoded, FieldsSoFar, Integer, Outcome, Unfinished, Faulty, carried_on, progress_with, start}
+use Rattle.h2_spec.specs.Hpack.Block.{Decoded, FieldsSoFar, Integer, Outcome, Unfinished, Faulty, carried_on, list_size, progress_with, start}
 use Rattle.h2_spec.specs.Hpack.DynamicTable.{Table}
 use Rattle.h2_spec.specs.Hpack.Field.{Field}
 use Rattle.h2_fields.specs.Blocks.{outcome_of}
@@ -84,10 +84,18 @@ is_whole d = elim d.outcome [ Unfinished rest ↦ length rest == 0 && not d.prog
 abbrev pub block_event : OpenBlock → Decoded → Option Event
 block_event block d = if is_whole d then answer_event block (status_of d.progress.fields) else Some (Unreadable block.stream)
 
+-- the most octets of a list of fields behind which a block is read on
+abbrev pub max_list : ℕ
+max_list = 65536
+
+-- a fragment more of a block; one whose list is larger is not read any further
+abbrev pub carried_more : (limit : ℕ) → Decoded → List ℕ → Decoded
+carried_more limit block fragment = if nat_lt max_list (list_size block.progress.fields) then record block { outcome = Faulty Integer } else carried_on limit block fragment
+
 -- a fragment is read; with the last one the block ends
 abbrev pub with_fragment : ServerFrames → OpenBlock → (flags : ℕ) → List ℕ → Taken
 with_fragment s block flags fragment =
-    let decoded = carried_on s.limit s.block fragment in
+    let decoded = carried_more s.limit s.block fragment in
     if has flags END_HEADERS then record { after = record s { block = decoded; opened = None }; event = block_event block decoded }
     else record { after = record s { block = decoded; opened = Some block }; event = None }
 

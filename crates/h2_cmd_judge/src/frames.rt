@@ -4,7 +4,7 @@ ghost use Rattle.std.specs.Prelude.{◌≡◌, ◌++◌, ℕ, List, IfErr, IfOk,
 ghost use Rattle.h2_fields.specs.Applied.{IsStopped};
 ghost use Rattle.h2_frame.specs.Parts.{part_seen};
 ghost use Rattle.h2_spec.specs.Hpack.Block.{Unfinished, carried_on, decoded, progress_with};
-ghost use Rattle.h2_cmd_judge.specs.ServerFrames.{answer_event, begin, block_event, block_of, continued, is_digit, is_whole, opened_by, read_on, stamped, status_number, status_of, unread_frames, with_fragment, with_frame, with_part, with_taken};
+ghost use Rattle.h2_cmd_judge.specs.ServerFrames.{answer_event, begin, block_event, block_of, carried_more, continued, is_digit, is_whole, opened_by, read_on, stamped, status_number, status_of, unread_frames, with_fragment, with_frame, with_part, with_taken};
 
 use crate::event::{Event, Seen};
 use h2_explain_words::sent::next_frame;
@@ -18,6 +18,9 @@ use h2_table::{DynTable, Edit};
 use std::alloc::{AllocError, Global};
 use std::marker::Model;
 use std::mem;
+
+/// The most octets of a list of fields, 32 for each beside its own (RFC 9113, 6.5.2), behind which a block is read on.
+const MAX_LIST: u64 = 65_536;
 
 /// A field block that is open.
 #[derive(Clone, Copy)]
@@ -171,6 +174,18 @@ impl ServerFrames {
         Ok(())
     }
 
+    /// The same of a block whose list is not above 65,536 octets so far. A larger one is not read any further, so a block without
+    /// end takes no more memory.
+    fn carry_more(&mut self, fragment: &[u8]) -> Result<(), AllocError>
+        ensures { OnOk result (self.new ≡ record self.old { block = carried_more self.old.limit self.old.block fragment.now }) }
+    {
+        if self.fields.list_size() > MAX_LIST {
+            self.fault = Some(BlockFault::Integer);
+            return Ok(());
+        }
+        self.carry_on(fragment)
+    }
+
     /// Whether the last block can end so: after a whole instruction, without a fault, and no size update is due.
     fn is_whole(&self) -> bool
         ensures { result ≡ is_whole self.now.block }
@@ -201,7 +216,7 @@ impl ServerFrames {
     ) -> Result<Option<Event>, AllocError>
         ensures { IfOk result (λ event. with_fragment self.old block head.flags fragment.now ≡ record { after = self.new; event = event }) }
     {
-        self.carry_on(fragment)?;
+        self.carry_more(fragment)?;
         if head.has(END_HEADERS) {
             self.opened = None;
             Ok(self.block_event(block))
