@@ -242,16 +242,25 @@ def recorded(program, folder, case):
         expect(f"a recorded server {title}", f"# same {same}," in output and status == 1 - same, (status, output, errors))
 
 
+def frame_of(kind, flags, payload):
+    """A frame on stream 3."""
+    return len(payload).to_bytes(3, "big") + bytes([kind, flags, 0, 0, 0, 3]) + payload
+
+
+# 60 frames of one block, each of 16,000 references to that field.
+ENDLESS = b"".join(frame_of(9 if number else 1, 4 * (number == 59), b"\xbe" * 16_000) for number in range(60))
+
 # A field of 60,000 octets that is put into the header table, then a block that refers to it 400 times.
 REPEATED = script.octets(f'HEADERS 04 1 hu65536,a"x"="{"a" * 60_000}"') + script.octets(f"HEADERS 04 1 h{','.join(['i62'] * 400)}")
 
 
 def repeated_field(program, folder, case):
-    """A field that a server repeats is held once: it takes 24 MB more else. Nothing that takes more runs before this."""
+    """A field that a server repeats is held once: it takes 24 MB more else; a block without end is not read on: it takes 96 MB more else. Nothing that takes more runs
+    before this."""
     with open(f"{folder}/client", "wb") as file:
         file.write(script.PREFACE + SETTINGS + script.octets("PING 00 0 x0102030405060708"))
     with open(f"{folder}/server", "wb") as file:
-        file.write(SETTINGS + ACK + REPEATED)
+        file.write(SETTINGS + ACK + REPEATED + ENDLESS)
     output, errors, status = check(program, "--judge", f"{folder}/client", f"{folder}/server", case)
     expect("a server that repeats a field", "unreadable-block" in output and status == 1, (status, output, errors))
     most = resource.getrusage(resource.RUSAGE_CHILDREN).ru_maxrss // 1024
