@@ -476,7 +476,6 @@ class Connection:
         self._taken = self._lines = self._items = 0  # octets that it took, lines that it printed for them, items that were given
         self._end: Optional[End] = None
         weakref.finalize(self, _library.h2_bench_kept_close, self._kept)
-        self._open()
 
     @property
     def octets(self) -> bytes:
