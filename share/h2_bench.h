@@ -42,6 +42,9 @@ struct h2_bench_kept {
 void h2_bench_kept_open(const char *words, size_t words_length, const char *name, size_t name_length, const char *file, size_t file_length, struct h2_bench_kept *kept,
     struct h2_bench_end *end);
 
+/* Begins anew: another connection with the same answers and limits in place of the one that is there. */
+void h2_bench_kept_again(struct h2_bench_kept *kept, struct h2_bench_end *end);
+
 /* Takes octets of the client, in any cut, and puts what `explain` prints of the items that are whole now. With fault 2 nothing is lost: call it again with more space
  * and no octets. With fault 1 the connection is closed. */
 size_t h2_bench_kept_feed(struct h2_bench_kept *kept, const uint8_t *octets, size_t count, uint8_t *out, size_t room, struct h2_bench_end *end);
@@ -232,8 +235,8 @@ static inline int h2_bench_fail(h2_bench *bench, int fault, const char *sentence
     return 0;
 }
 
-/* Opens the kept connection anew, before all octets. */
-static inline int h2_bench_again(h2_bench *bench) {
+/* Opens the kept connection, before all octets. */
+static inline int h2_bench_begin(h2_bench *bench) {
     static const char how[] = "explain\n--json\n--full\n--strict";
     struct h2_bench_end end;
     char *words = h2_bench_words(bench, how);
@@ -256,7 +259,7 @@ static inline int h2_bench_play(h2_bench *bench) {
     struct h2_bench_end end;
     size_t from, count;
     char *line, *after;
-    if (!bench->kept.is_open && !h2_bench_again(bench)) return 0;
+    if (!bench->kept.is_open && !h2_bench_begin(bench)) return 0;
     if (bench->next >= items->length) bench->next = items->length = 0;
     from = items->length;
     if (!h2_bench_grow(items, from + 65536)) return h2_bench_fail(bench, 0, "out of memory");
@@ -296,6 +299,13 @@ static inline int h2_bench_feed(h2_bench *bench, const uint8_t *octets, size_t c
     if (h2_bench_play(bench)) return 1;
     bench->length -= count;
     return 0;
+}
+
+/* Begins anew, with the same limits and answers, which a connection that is opened takes memory for until the process ends. */
+static inline void h2_bench_again(h2_bench *bench) {
+    struct h2_bench_end end;
+    h2_bench_kept_again(&bench->kept, &end);
+    bench->length = bench->taken = bench->lines = bench->given = bench->next = bench->items.length = 0;
 }
 
 /* What is after the last item, in bench->rest; before the first one, after the line of the server's opening. */

@@ -402,6 +402,7 @@ def _load() -> Any:
     library.h2_bench_kept_open.argtypes, library.h2_bench_kept_open.restype = [*text * 3, kept, end], None
     library.h2_bench_kept_feed.argtypes = [kept, *text, *place, end]
     library.h2_bench_kept_end.argtypes = library.h2_bench_kept_state.argtypes = [kept, *place, end]
+    library.h2_bench_kept_again.argtypes, library.h2_bench_kept_again.restype = [kept, end], None
     library.h2_bench_kept_close.argtypes, library.h2_bench_kept_close.restype = [kept], None
     for call in (library.h2_bench_run, library.h2_bench_kept_feed, library.h2_bench_kept_end, library.h2_bench_kept_state):
         call.restype = ctypes.c_size_t
@@ -457,6 +458,16 @@ def _printed(words: Sequence[str], input: bytes, name: str = "", file: bytes = b
 # ---- what it offers
 
 
+_spare: dict[Any, list[_Kept]] = {}  # by words and book: connections without octets. The library never frees a book, so the next one with the same takes them
+
+
+def _spare_again(kept: _Kept, spare: list[_Kept]) -> None:
+    """Begins a connection anew that nothing uses any more."""
+    _library.h2_bench_kept_again(kept, _End())
+    if kept.is_open:
+        spare.append(kept)
+
+
 class Connection:
     """A connection of a server with these answers, each METHOD|PATH|STATUS|BODYHEX, and these limits: `streams`, `credit`, `table`, `window`, `frame`.
     `book` is the text of a TOML file with further answers (docs/BOOKS.md), none with `body-file`.
@@ -472,10 +483,15 @@ class Connection:
         self._words = [*(f"--{name}={value}" for name, value in limits.items()), *named, "--", *answers]
         self._how = ["--json", "--strict", *(["--full"] if full else [])]
         self._octets = bytearray()
-        self._kept, self._lock = _Kept(), threading.Lock()
+        spare = _spare.setdefault((*self._how, *self._words, self._book), [])
+        try:
+            self._kept = spare.pop()
+        except IndexError:
+            self._kept = _Kept()
+        self._lock = threading.Lock()
         self._taken = self._lines = self._items = 0  # octets that it took, lines that it printed for them, items that were given
         self._end: Optional[End] = None
-        weakref.finalize(self, _library.h2_bench_kept_close, self._kept)
+        weakref.finalize(self, _spare_again, self._kept, spare).atexit = False
 
     @property
     def octets(self) -> bytes:

@@ -1,6 +1,7 @@
 -- The text about a connection that is kept goes on from call to call.
 use Rattle.std.proofs.Common.{◌≡◌, ℕ, ◌+◌, ◌<◌, ◌≤◌, ◌^◌, ◌++◌, List, [], length, Option, Some, IfSome, false, refl, sym, ap, subst, ◌∙◌, append_assoc, arith, inl}
-use Rattle.h2_spec.specs.State.{State}
+use Rattle.h2_spec.specs.Requests.Answer.{Entry}
+use Rattle.h2_spec.specs.State.{State, opening}
 use Rattle.h2_conn.specs.Connection.{Connection, going}
 use Rattle.h2_explain.specs.Explaining as explaining
 use Rattle.h2_explain.specs.Explaining.{EndsAs, HasGained, IsBeginning, IsExplaining, IsNew, SaysOf, total}
@@ -9,9 +10,10 @@ use Rattle.h2_explain.specs.declared.run.Form.{Form}
 use Rattle.h2_explain.specs.declared.run_explainer.RunExplainer.{RunExplainer}
 use Rattle.h2_explain.proofs.Steps.{new-begins, new-explains}
 use Rattle.h2_embed.specs.Embed.{PutsText}
-use Rattle.h2_embed.specs.Kept.{Feeds, FeedsTo, GoesOn, Hands, IsReady}
+use Rattle.h2_embed.specs.Kept.{Begins, Feeds, FeedsTo, GoesOn, Hands, IsReady, Stands}
 use Rattle.h2_embed.specs.declared.fault.RunEnd.{RunEnd}
 use Rattle.h2_embed.specs.declared.kept.KeptConnection.{KeptConnection}
+use Rattle.h2_embed.specs.declared.kept.Server.{Server}
 
 -- ---- a new one
 
@@ -31,6 +33,15 @@ ready-new form s c e is new = (
   omega (arith, new.items_are, new.offset_is),
   omega (arith, new.offset_is, ap (λ (xs : List ℕ). length xs) new.held_is, new.late_is),
   omega arith,
+)
+
+pub opens-with : (server : Server) (k : KeptConnection) (entries : List Entry) → server.book.now ≡ entries → Begins server k
+    → Begins k.server k × (k.server.form ≡ server.form) × (k.server.config ≡ server.config) × (k.server.book.now ≡ entries)
+opens-with server k entries is begins = (
+  (refl, subst (λ (v : Server). Stands v.form (opening v.book.now v.config) [] [] k) (sym begins.0) begins.1),
+  ap (λ (v : Server). v.form) begins.0,
+  ap (λ (v : Server). v.config) begins.0,
+  ap (λ (v : Server). v.book.now) begins.0 ∙ is,
 )
 
 -- ---- octets
@@ -70,14 +81,14 @@ pub feeds-to : (k fed k' : KeptConnection) (octets put : List ℕ) (room : ℕ) 
 feeds-to k fed k' octets put room end goes hands = inl (
   k',
   refl,
-  (λ form s b given x.
-    let y = moved form s (b ++ octets) (given ++ fed.pending.items) fed.conn k'.conn fed.explanation k'.explanation hands.0 hands.1 (goes form s b given x) in (
+  (hands.0 ∙ goes.0, λ form s b given x.
+    let y = moved form s (b ++ octets) (given ++ fed.pending.items) fed.conn k'.conn fed.explanation k'.explanation hands.1 hands.2 (goes.1 form s b given x) in (
       y.0,
       y.1,
       subst (λ (t : List ℕ). IsBeginning s (b ++ octets) k'.explanation t)
-          (ap (λ (t : List ℕ). given ++ t) hands.2 ∙ sym (append_assoc given put k'.pending.items)) y.2,
+          (ap (λ (t : List ℕ). given ++ t) hands.3 ∙ sym (append_assoc given put k'.pending.items)) y.2,
     )),
-  subst (λ (t : List ℕ). PutsText t room put end) hands.2 hands.3,
+  subst (λ (t : List ℕ). PutsText t room put end) hands.3 hands.4,
 )
 
 -- ---- the end

@@ -17,21 +17,26 @@ use Rattle.h2_embed.specs.declared.fault.RunEnd.{RunEnd}
 use Rattle.h2_embed.specs.declared.fault.RunFault.{RunFault}
 use Rattle.h2_embed.specs.declared.fault.RunFault.TheVariants.{NoConnection, NoMemory, NoRoom, NoText}
 use Rattle.h2_embed.specs.declared.kept.KeptConnection.{KeptConnection}
+use Rattle.h2_embed.specs.declared.kept.Server.{Server}
 
 -- ---- over all calls
 
 -- it can go on: the connection holds no octets itself, was refused no memory, and this many octets came
 abbrev pub IsReady : KeptConnection → Type 0
-IsReady k = (k.conn.rest ≡ []) × (k.conn.failed ≡ false) × (k.explanation.items ≤ k.explanation.offset) × (total k.explanation ≡ k.came) × (k.came < 2 ^ 63)
+IsReady k = (is_allowed k.server.config ≡ true) × (k.conn.rest ≡ []) × (k.conn.failed ≡ false) × (k.explanation.items ≤ k.explanation.offset) × (total k.explanation ≡ k.came) × (k.came < 2 ^ 63)
 
 -- a connection that began in this state took these octets, in any cut: it is that of the definition after them, and what
 -- was given so far, with the text that is not given yet, begins their explanation
 abbrev pub Stands : Form → State → (octets given : List ℕ) → KeptConnection → Type 0
 Stands form s octets given k = (k.explanation.form ≡ form) × IsExplaining s octets k.conn k.explanation × IsBeginning s octets k.explanation (given ++ k.pending.items)
 
+-- a connection of this server, to which no octets came
+abbrev pub Begins : Server → KeptConnection → Type 0
+Begins server k = (k.server ≡ server) × Stands server.form (opening server.book.now server.config) [] [] k
+
 -- it took octets more
 abbrev pub GoesOn : KeptConnection → List ℕ → KeptConnection → Type 0
-GoesOn k octets k' = (form : Form) (s : State) (before given : List ℕ) → Stands form s before given k → Stands form s (before ++ octets) given k'
+GoesOn k octets k' = (k'.server ≡ k.server) × ((form : Form) (s : State) (before given : List ℕ) → Stands form s before given k → Stands form s (before ++ octets) given k')
 
 -- the text about the end: with all before it, the explanation of all octets that came
 abbrev pub IsEnd : KeptConnection → List ℕ → Type 0
@@ -47,12 +52,13 @@ IsState k text = text ≡ show (view k.conn.state)
 -- no space
 abbrev pub Hands : KeptConnection → (room : ℕ) → (put : List ℕ) → KeptConnection → RunEnd → Type 0
 Hands k room put k' end =
-    (k'.conn ≡ k.conn) × (k'.explanation ≡ k.explanation) × (k.pending.items ≡ put ++ k'.pending.items)
+    (k'.server ≡ k.server) × (k'.conn ≡ k.conn) × (k'.explanation ≡ k.explanation) × (k.pending.items ≡ put ++ k'.pending.items)
     × PutsText k.pending.items room put end
 
 -- it took octets more, and this was given
 abbrev pub GoesTo : KeptConnection → (octets put : List ℕ) → KeptConnection → Type 0
-GoesTo k octets put k' = (form : Form) (s : State) (before given : List ℕ) → Stands form s before given k → Stands form s (before ++ octets) (given ++ put) k'
+GoesTo k octets put k' =
+    (k'.server ≡ k.server) × ((form : Form) (s : State) (before given : List ℕ) → Stands form s before given k → Stands form s (before ++ octets) (given ++ put) k')
 
 -- the connection took the octets, and the text that is new was put, or is kept for the next call; or memory was refused, and
 -- there is no connection any more
@@ -75,11 +81,18 @@ abbrev pub Says : (KeptConnection → List ℕ → Type 0) → Option KeptConnec
 Says P None room put kept' end = (kept' ≡ None) × (put ≡ []) × (end ≡ refused NoConnection)
 Says P (Some k) room put kept' end = (kept' ≡ Some k) × SaysOf P k room put end
 
+-- another connection of the same server begins in its place; or memory was refused, and there is none any more
+abbrev pub BeginsAgain : Option KeptConnection → Option KeptConnection → RunEnd → Type 0
+BeginsAgain None kept' end = (kept' ≡ None) × (end ≡ refused NoConnection)
+BeginsAgain (Some k) kept' end =
+    ((k' : KeptConnection) × (kept' ≡ Some k') × Begins k.server k' × (end ≡ given 0 0))
+    ⊎ ((kept' ≡ None) × (end ≡ refused NoMemory))
+
 -- ---- how a connection is opened
 
--- a connection with this book, to which no octets came
+-- a connection of the server with this book, to which no octets came
 abbrev pub OpensWith : Form → Config → Result (List Entry) ℕ → KeptConnection → Type 0
-OpensWith form config (Ok entries) k = Stands form (opening entries config) [] [] k
+OpensWith form config (Ok entries) k = Begins k.server k × (k.server.form ≡ form) × (k.server.config ≡ config) × (k.server.book.now ≡ entries)
 OpensWith form config (Err fault) k = ⊥
 
 -- that of the words of `explain`

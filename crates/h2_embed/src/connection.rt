@@ -1,10 +1,10 @@
 //! The calls of a connection that stays between them. Definitions: `specs/Kept.antt`.
 
 ghost use Rattle.std.specs.Prelude.{◌≡◌, ◌≤◌, None, length, take, drop};
-ghost use Rattle.h2_embed.specs.Kept.{Feeds, IsEnd, IsState, Opens, Says};
+ghost use Rattle.h2_embed.specs.Kept.{BeginsAgain, Feeds, IsEnd, IsState, Opens, Says};
 
 use crate::fault::{RunEnd, RunFault, given, refused};
-use crate::open::open_lines;
+use crate::open::{open_for, open_lines};
 use crate::put::put_text;
 use crate::slot::{Slot, put, take};
 use std::alloc::Global;
@@ -69,6 +69,28 @@ pub extern "C" fn h2_bench_kept_feed(
             *end = refused(RunFault::NoMemory);
             0
         }
+    }
+}
+
+/// Begins anew: closes the connection of a slot, and opens one of the same server, with the same answers.
+///
+/// With fault 1 the memory did not suffice, and the slot has none. With 3 it had none.
+#[unsafe(no_mangle)]
+pub extern "C" fn h2_bench_kept_again(alloc: Global, slot: &mut Slot, end: &mut RunEnd)
+    ensures { BeginsAgain slot.old.hold.kept slot.new.hold.kept end.new }
+{
+    let Some(kept) = take(alloc, slot) else {
+        *end = refused(RunFault::NoConnection);
+        return;
+    };
+    let server = kept.server;
+    drop(kept);
+    match open_for(alloc, server) {
+        Ok(kept) => {
+            put(slot, kept);
+            *end = given(0, 0);
+        }
+        Err(fault) => *end = refused(fault),
     }
 }
 

@@ -1,9 +1,9 @@
 //! A connection that stays between calls, with its explanation. Definitions: `specs/Kept.antt`.
 
-ghost use Rattle.std.specs.Prelude.{◌≡◌, ◌≤◌, [], true, length, take, drop, IfOk, OnOk};
+ghost use Rattle.std.specs.Prelude.{◌≡◌, ◌≤◌, true, length, take, drop, IfOk, OnOk};
 ghost use Rattle.std.specs.String.{string_bytes};
-ghost use Rattle.h2_spec.specs.State.{is_allowed, opening};
-ghost use Rattle.h2_embed.specs.Kept.{GoesOn, Hands, IsEnd, IsReady, IsState, Stands};
+ghost use Rattle.h2_spec.specs.State.{is_allowed};
+ghost use Rattle.h2_embed.specs.Kept.{Begins, GoesOn, Hands, IsEnd, IsReady, IsState};
 
 use crate::fault::{RunEnd, RunFault, given};
 use crate::put::put;
@@ -18,8 +18,19 @@ use std::mem;
 /// More octets than a connection ever has.
 const MOST: usize = 1 << 63;
 
+/// The server of a connection, and the form of the explanation.
+#[derive(Clone, Copy)]
+pub struct Server {
+    /// The answers.
+    pub(crate) book: &'static Book<Global>,
+    /// The limits and the settings.
+    pub(crate) config: Config,
+    pub(crate) form: Form,
+}
+
 /// A connection over the octets that came so far, its explanation, and the text about them that is not given yet.
 pub struct KeptConnection {
+    pub(crate) server: Server,
     pub(crate) conn: Conn<'static, Global>,
     pub(crate) explanation: RunExplainer,
     /// The text about the items so far that is not given yet.
@@ -32,6 +43,7 @@ pub struct KeptConnection {
 impl Drop for KeptConnection {
     fn drop(self) {
         let Self {
+            server: _,
             conn: _,
             explanation: _,
             pending: _,
@@ -44,23 +56,19 @@ impl KeptConnection {
     /// A connection to which no octets came.
     ///
     /// `AllocError` where memory is refused.
-    pub(crate) fn new(
-        alloc: Global,
-        book: &'static Book<Global>,
-        config: Config,
-        form: Form,
-    ) -> Result<KeptConnection, AllocError>
-        requires allowed { is_allowed config ≡ true }
+    pub(crate) fn new(alloc: Global, server: Server) -> Result<KeptConnection, AllocError>
+        requires allowed { is_allowed server.config ≡ true }
         ensures ready { IfOk result (λ kept. IsReady kept) }
-        ensures stands { IfOk result (λ kept. Stands form (opening book.now config) [] [] kept) }
+        ensures begins { IfOk result (λ kept. Begins server kept) }
     {
         let mut sent = Vec::new(alloc);
-        let conn = match Conn::new(book, config, &mut sent) {
+        let conn = match Conn::new(server.book, server.config, &mut sent) {
             Ok(conn) => conn,
             Err(_) => return Err(AllocError),
         };
-        match RunExplainer::new(alloc, form) {
+        match RunExplainer::new(alloc, server.form) {
             Ok(explanation) => Ok(KeptConnection {
+                server,
                 conn,
                 explanation,
                 pending: Vec::new(alloc),

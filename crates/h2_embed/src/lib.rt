@@ -17,7 +17,7 @@ mod slot;
 mod words;
 
 pub use connection::{
-    h2_bench_kept_close, h2_bench_kept_end, h2_bench_kept_feed, h2_bench_kept_open,
-    h2_bench_kept_state,
+    h2_bench_kept_again, h2_bench_kept_close, h2_bench_kept_end, h2_bench_kept_feed,
+    h2_bench_kept_open, h2_bench_kept_state,
 };
 pub use run::h2_bench_run;

@@ -8,11 +8,11 @@ ghost use Rattle.h2_cmd_run.specs.ExplainProgram.{form_of};
 ghost use Rattle.h2_spec.specs.Requests.Answer.{Entry};
 ghost use Rattle.h2_spec.specs.State.{is_allowed};
 ghost use Rattle.h2_embed.specs.Embed.{IsRefusedFor, one_file, words_said};
-ghost use Rattle.h2_embed.specs.Kept.{IsReady, IsUnopened, IsUnopenedBy, OpensBy, OpensNone, OpensSaid, OpensWith};
+ghost use Rattle.h2_embed.specs.Kept.{Begins, IsReady, IsUnopened, IsUnopenedBy, OpensBy, OpensNone, OpensSaid, OpensWith};
 ghost use Rattle.h2_embed.specs.declared.fault.RunFault.TheVariants.{NoConnection, NoMemory};
 
 use crate::fault::RunFault;
-use crate::kept::KeptConnection;
+use crate::kept::{KeptConnection, Server};
 use crate::words::{WordsFault, words_in};
 use h2_cmd_args::Words;
 use h2_cmd_args::command::{BookWords, Explain, Plan, Refusal, parse};
@@ -77,6 +77,21 @@ fn book_of_words(
     }
 }
 
+/// A new connection of a server; `NoMemory` where memory is refused.
+pub(crate) fn open_for(alloc: Global, server: Server) -> Result<Box<KeptConnection>, RunFault>
+    requires allowed { is_allowed server.config ≡ true }
+    ensures ok { IfOk result (λ kept. IsReady kept.value × Begins server kept.value) }
+    ensures err { IfErr result (λ fault. fault ≡ NoMemory) }
+{
+    let Ok(kept) = KeptConnection::new(alloc, server) else {
+        return Err(RunFault::NoMemory);
+    };
+    match Box::new(alloc, kept) {
+        Ok(kept) => Ok(kept),
+        Err(_) => Err(RunFault::NoMemory),
+    }
+}
+
 /// A connection with this book.
 fn open_with(
     alloc: Global,
@@ -88,14 +103,8 @@ fn open_with(
     ensures ok { IfOk result (λ kept. IsReady kept.value × OpensWith form config (Ok book) kept.value) }
     ensures err { IfErr result (λ fault. fault ≡ NoMemory) }
 {
-    let Ok(book) = keep_book(alloc, book) else {
-        return Err(RunFault::NoMemory);
-    };
-    let Ok(kept) = KeptConnection::new(alloc, book, config, form) else {
-        return Err(RunFault::NoMemory);
-    };
-    match Box::new(alloc, kept) {
-        Ok(kept) => Ok(kept),
+    match keep_book(alloc, book) {
+        Ok(book) => open_for(alloc, Server { book, config, form }),
         Err(_) => Err(RunFault::NoMemory),
     }
 }
