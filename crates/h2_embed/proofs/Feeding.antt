@@ -1,7 +1,6 @@
 -- The text about a connection that is kept goes on from call to call.
 use Rattle.std.proofs.Common.{◌≡◌, ℕ, ◌+◌, ◌<◌, ◌≤◌, ◌^◌, ◌++◌, List, [], length, Option, Some, IfSome, false, refl, sym, ap, subst, ◌∙◌, append_assoc, arith, inl}
-use Rattle.h2_spec.specs.Requests.Answer.{Entry}
-use Rattle.h2_spec.specs.State.{State, opening}
+use Rattle.h2_spec.specs.State.{State}
 use Rattle.h2_conn.specs.Connection.{Connection, going}
 use Rattle.h2_explain.specs.Explaining as explaining
 use Rattle.h2_explain.specs.Explaining.{EndsAs, HasGained, IsBeginning, IsExplaining, IsNew, SaysOf, total}
@@ -10,10 +9,9 @@ use Rattle.h2_explain.specs.declared.run.Form.{Form}
 use Rattle.h2_explain.specs.declared.run_explainer.RunExplainer.{RunExplainer}
 use Rattle.h2_explain.proofs.Steps.{new-begins, new-explains}
 use Rattle.h2_embed.specs.Embed.{PutsText}
-use Rattle.h2_embed.specs.Kept.{Begins, Feeds, FeedsTo, GoesOn, Hands, IsReady, Stands}
+use Rattle.h2_embed.specs.Kept.{Feeds, FeedsTo, GoesOn, Hands, IsReady}
 use Rattle.h2_embed.specs.declared.fault.RunEnd.{RunEnd}
 use Rattle.h2_embed.specs.declared.kept.KeptConnection.{KeptConnection}
-use Rattle.h2_embed.specs.declared.kept.Server.{Server}
 
 -- ---- a new one
 
@@ -33,15 +31,6 @@ ready-new form s c e is new = (
   omega (arith, new.items_are, new.offset_is),
   omega (arith, new.offset_is, ap (λ (xs : List ℕ). length xs) new.held_is, new.late_is),
   omega arith,
-)
-
-pub opens-with : (server : Server) (k : KeptConnection) (entries : List Entry) → server.book.now ≡ entries → Begins server k
-    → Begins k.server k × (k.server.form ≡ server.form) × (k.server.config ≡ server.config) × (k.server.book.now ≡ entries)
-opens-with server k entries is begins = (
-  (refl, subst (λ (v : Server). Stands v.form (opening v.book.now v.config) [] [] k) (sym begins.0) begins.1),
-  ap (λ (v : Server). v.form) begins.0,
-  ap (λ (v : Server). v.config) begins.0,
-  ap (λ (v : Server). v.book.now) begins.0 ∙ is,
 )
 
 -- ---- octets

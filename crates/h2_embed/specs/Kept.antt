@@ -30,9 +30,12 @@ IsReady k = (is_allowed k.server.config ≡ true) × (k.conn.rest ≡ []) × (k.
 abbrev pub Stands : Form → State → (octets given : List ℕ) → KeptConnection → Type 0
 Stands form s octets given k = (k.explanation.form ≡ form) × IsExplaining s octets k.conn k.explanation × IsBeginning s octets k.explanation (given ++ k.pending.items)
 
--- a connection of this server, to which no octets came
+-- a connection of a server with these limits and answers, to which no octets came
+abbrev pub Opened : Form → Config → List Entry → KeptConnection → Type 0
+Opened form config entries k = Stands form (opening entries config) [] [] k × (k.server.form ≡ form) × (k.server.config ≡ config) × (k.server.book.now ≡ entries)
+
 abbrev pub Begins : Server → KeptConnection → Type 0
-Begins server k = (k.server ≡ server) × Stands server.form (opening server.book.now server.config) [] [] k
+Begins server k = Opened server.form server.config server.book.now k
 
 -- it took octets more
 abbrev pub GoesOn : KeptConnection → List ℕ → KeptConnection → Type 0
@@ -90,9 +93,9 @@ BeginsAgain (Some k) kept' end =
 
 -- ---- how a connection is opened
 
--- a connection of the server with this book, to which no octets came
+-- a connection with this book
 abbrev pub OpensWith : Form → Config → Result (List Entry) ℕ → KeptConnection → Type 0
-OpensWith form config (Ok entries) k = Begins k.server k × (k.server.form ≡ form) × (k.server.config ≡ config) × (k.server.book.now ≡ entries)
+OpensWith form config (Ok entries) k = Opened form config entries k
 OpensWith form config (Err fault) k = ⊥
 
 -- that of the words of `explain`

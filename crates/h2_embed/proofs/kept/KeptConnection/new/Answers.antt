@@ -6,4 +6,4 @@ pub returns-in-Ok-new-clause-ready : goal.returns-in-Ok-new-clause-ready
 returns-in-Ok-new-clause-ready c = (c.requires.allowed, ready-new _ _ _ _ c.in-Ok.ensures.opened c.in-Ok-new.ensures)
 
 pub returns-in-Ok-new-clause-begins : goal.returns-in-Ok-new-clause-begins
-returns-in-Ok-new-clause-begins c = (refl, stands-new _ _ _ _ _ c.in-Ok.ensures.opened c.in-Ok-new.ensures (search rules))
+returns-in-Ok-new-clause-begins c = (stands-new _ _ _ _ _ c.in-Ok.ensures.opened c.in-Ok-new.ensures (search rules), refl, refl, refl)

@@ -1,0 +1,5 @@
+use Rattle.h2_embed.proofs.Feeding.{feeds-held}
+use Rattle.h2_embed.proofs.connection.h2_bench_kept_feed.Goals as goal
+
+pub returns-in-Ok-clause-fed : goal.returns-in-Ok-clause-fed
+returns-in-Ok-clause-fed c = ?
