@@ -153,7 +153,10 @@ impl<'b, A: Allocator + Copy> Place<'b, A> {
     {
         let octets = source.octets_from(self.used);
         self.spare.clear();
-        let Some(taken) = self.conn.take_and_lend(octets, &mut self.memory, &mut self.spare)? else {
+        let Some(taken) = self
+            .conn
+            .take_and_lend(octets, &mut self.memory, &mut self.spare)?
+        else {
             return Ok(false);
         };
         swap(&mut self.sent, &mut self.spare);
