@@ -172,7 +172,7 @@ def memory():
             return ran.returncode, ran.stdout.splitlines(), os.path.getsize(f"{room}/refused")
 
         number, wanted = 1, run(0)[1]
-        check("calls with ample memory", [line.split()[0] for line in wanted if "fault" not in line.split()[1]].count("item") == 6, wanted)
+        check("calls with ample memory", [line.split()[0] for line in wanted if "fault" not in line.split()[1]].count("item") == 9, wanted)
         while True:
             status, lines, refused = run(number)
             lines = [line for line in lines if line not in wanted]

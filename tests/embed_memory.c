@@ -35,6 +35,9 @@ int main(void) {
     }
     say("state", h2_bench_state(bench), &bench->said);
     say("explain", h2_bench_explain(bench, "--brief\n--errors"), &bench->said);
+    h2_bench_again(bench);
+    while (!h2_bench_feed(bench, octets, 33)) say("feed", NULL, &bench->items);
+    say_items(bench);
     h2_bench_close(bench);
     h2_bench_free(&text);
     return 0;
