@@ -35,9 +35,6 @@ ready-new form s c e is new = (
 
 -- ---- octets
 
-pub at-rest : (c : Connection) → c.rest ≡ [] → c.failed ≡ false → c ≡ going c.state []
-at-rest c rest sound = λ i. record { state = c.state; rest = rest i; failed = sound i }
-
 pub ready-on : {A : Type 0} (c : Connection) (e e' : RunExplainer A) (came came' more : ℕ) → c ≡ going c.state [] → total e ≡ came → HasGained e more e'
     → came' ≡ came + more → came' < 2 ^ 63
     → (c.rest ≡ []) × (c.failed ≡ false) × (e'.items ≤ e'.offset) × (total e' ≡ came') × (came' < 2 ^ 63)
