@@ -84,7 +84,7 @@ is_whole d = elim d.outcome [ Unfinished rest ↦ length rest == 0 && not d.prog
 abbrev pub block_event : OpenBlock → Decoded → Option Event
 block_event block d = if is_whole d then answer_event block (status_of d.progress.fields) else Some (Unreadable block.stream)
 
--- the most octets of a list of fields behind which a block is read on
+-- the most octets of a list of fields after which a block is read on
 abbrev pub max_list : ℕ
 max_list = 65536
 

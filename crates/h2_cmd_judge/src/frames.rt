@@ -19,7 +19,7 @@ use std::alloc::{AllocError, Global};
 use std::marker::Model;
 use std::mem;
 
-/// The most octets of a list of fields, 32 for each beside its own (RFC 9113, 6.5.2), behind which a block is read on.
+/// The most octets of a list of fields, 32 for each beside its own (RFC 9113, 6.5.2), after which a block is read on.
 const MAX_LIST: u64 = 65_536;
 
 /// A field block that is open.
