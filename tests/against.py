@@ -142,7 +142,10 @@ def scripted_servers(program, case):
             expect(f"a server that is {play.__name__}", counted in output and said in output and status == ("broken 1" in counted), (status, output, errors))
             expect(f"a server that is {play.__name__} is judged in 30 s", seconds < 30, seconds)
     most = resource.getrusage(resource.RUSAGE_CHILDREN).ru_maxrss // 1024
-    expect("servers are judged in 128 MiB", most < 128, f"{most} MiB")
+    # One that is built without proof keeps what it has given back for a while, to find bad accesses.
+    with open(program, "rb") as file:
+        bound = 256 if b"__asan_init" in file.read() else 128
+    expect(f"servers are judged in {bound} MiB", most < bound, f"{most} MiB")
 
 
 def framed(react):
