@@ -6,7 +6,7 @@ use std::io::Write;
 use std::process::ExitCode;
 
 /// The version of the project, as CHANGELOG.md has it, and the line of the kit that README.md names.
-const VERSION: &str = "h2_bench 0.9.0\nrattle-kit-13b logic dac8208d650f15bf\n";
+const VERSION: &str = "h2_bench 0.10.0\nrattle-kit-13f logic dac8208d650f15bf\n";
 
 /// Whether words that clap refuses ask for the version, wherever that is: it does not know the word.
 pub fn is_asked(words: &Words, asked: &Result<Plan<'_>, Refusal>) -> bool {
