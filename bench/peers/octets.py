@@ -129,6 +129,9 @@ FRAMES = {
     "priority": lambda place: frame(PRIORITY, 0, 1, b"\0\0\0\0\x10"),
     "stream-window-update": lambda place: window_update(1, 1),
     "data": lambda place: frame(DATA, 0, 1, b"a"),
+    # On 100 streams in turn, which are open.
+    "stream-window-update-in-turn": lambda place: window_update(2 * (place % 100) + 1, 1),
+    "data-in-turn": lambda place: frame(DATA, 0, 2 * (place % 100) + 1, b"a"),
     "full-data": lambda place: frame(DATA, 0, 1, b"a" * 16384),
     # Of as many streams as are open.
     "reset": lambda place: frame(RST_STREAM, 0, 2 * place + 1, b"\0\0\0\x08"),

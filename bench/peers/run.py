@@ -30,7 +30,7 @@ PARTS = {
     "text in": r"h2_cmd_batch::input::read_all\b",
     "hex in": r"h2_cmd_batch::input::read_hex\b",
     "hex out": r"h2_io::hex_text::HexTextText::write_to\b",
-    "sentences": r"h2_host::second_look::say_outcome\b",
+    "warnings": r"h2_cmd_messages::hex::say_warnings\b",
 }
 
 # Name, kind of octets.py, items (or fields of each of 200 requests) of the first and of the second run, streams that are open or wait, entries of the book in
@@ -40,7 +40,9 @@ ROWS = [
     ("PING with ACK", "ping-ack", 1000, 6000, 0, []),
     ("WINDOW_UPDATE on the connection", "window-update", 1000, 6000, 0, []),
     ("WINDOW_UPDATE on a stream", "stream-window-update", 1000, 6000, 0, []),
+    ("the same, on 100 streams in turn", "stream-window-update-in-turn", 1000, 6000, 100, []),
     ("DATA of one octet", "data", 1000, 6000, 0, []),
+    ("DATA of one octet, on 100 streams in turn", "data-in-turn", 1000, 6000, 100, []),
     ("DATA of 16,384 octets", "full-data", 50, 450, 0, []),
     ("SETTINGS of no value", "settings", 1000, 6000, 0, []),
     ("SETTINGS of six values", "six-settings", 1000, 6000, 0, []),

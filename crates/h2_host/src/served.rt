@@ -86,7 +86,7 @@ impl Seen {
         self.line.clear();
     }
 
-    /// Looks at the next octets of a line, which has a line feed only at its end.
+    /// Looks at the next octets of a line, whose line feed is at its end, or at lines about items, of which nothing is said.
     fn look(&mut self, octets: &[u8]) {
         let space = LOOKED_AT.saturating_sub(self.line.len());
         // Without memory for them nothing is said.
@@ -150,6 +150,19 @@ impl<'w, 't, 'c, W: Write, E: Write, C: Clock> ServerOutput<'w, 't, 'c, W, E, C>
         self.is_open = !self.is_open;
     }
 
+    /// The octets that are written at once: a line, where it may be a connection's first or last one, or gets its time;
+    /// else all.
+    fn looked_at<'l>(&self, octets: &'l [u8]) -> &'l [u8]
+        ensures within { length result.now ≤ length octets.now }
+    {
+        let begins_other = self.seen.is_fresh && octets.first().copied() != Some(b'c');
+        if begins_other && self.times.is_none() {
+            octets
+        } else {
+            first_line(octets)
+        }
+    }
+
     /// Writes the time of a line that begins; in JSON it is the first member. Gives what is still to be written of it.
     fn write_time<'l>(&mut self, line: &'l [u8]) -> io::Result<&'l [u8]> {
         self.note_connection(line);
@@ -170,7 +183,7 @@ impl<W: Write, E: Write, C: Clock> Write for ServerOutput<'_, '_, '_, W, E, C> {
         if octets.is_empty() {
             return Ok(0);
         }
-        let line = first_line(octets);
+        let line = self.looked_at(octets);
         let rest = if self.seen.is_fresh {
             self.write_time(line)?
         } else {
