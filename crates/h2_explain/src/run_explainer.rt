@@ -23,17 +23,17 @@ use crate::run::{ExplainFault, Form, Summary};
 use crate::shown::{shows_item, shows_opening};
 use crate::verdict::{Tally, verdict_at};
 use h2_conn::{Conn, is_ended};
-use h2_explain_item::item::{Explained, part_in};
+use h2_explain_item::item::Explained;
 use h2_explain_item::shown_block::ShownBlock;
 use h2_explain_json::json::json_of;
 use h2_explain_step::explainer::ItemExplainer;
-use h2_explain_step::taking::{moment_at, stream_of_next};
+use h2_explain_step::taking::take_item;
 use h2_explain_text::account::Account;
 use h2_explain_text::lines::ItemLines;
 use h2_explain_text::paint::Paint;
 use h2_frame::Outgoing;
 use h2_io::Output;
-use h2_spec::octets::{first_octets, octets_from};
+use h2_spec::octets::octets_from;
 use std::alloc::{AllocError, Allocator, Global};
 use std::mem;
 
@@ -283,33 +283,16 @@ impl<A: Allocator + Copy> RunExplainer<A> {
         ensures name { O.name output.new ≡ O.name output.old }
     {
         let start = start_of(out, keeps);
-        let stream = stream_of_next(conn, octets);
-        let before = moment_at(conn, stream);
         let memory = &mut self.explainer.memory;
-        let taken = match conn.take_and_lend(octets, memory, out) {
-            Ok(Some(taken)) => taken,
+        let observed = match take_item(conn, octets, memory, out) {
+            Ok(Some(observed)) => observed,
             Ok(None) => return Ok(None),
             Err(_) => return Err(ExplainFault::NoMemory),
         };
         let Some(sent) = out.since(start) else {
             return Err(ExplainFault::NoMemory);
         };
-        let used = taken.used;
-        let own = first_octets(octets, used);
-        let item = Explained {
-            number: self.items + 1,
-            offset: self.offset,
-            octets: own,
-            ahead: octets,
-            used,
-            what: taken.item,
-            part: part_in(taken.item, own),
-            cause: taken.cause,
-            ignored: taken.ignored,
-            sent,
-            before,
-            after: moment_at(conn, stream),
-        };
+        let item = observed.item(self.items + 1, self.offset, octets, sent);
         recorder.record(&item);
         match write_item(
             alloc,
@@ -325,8 +308,8 @@ impl<A: Allocator + Copy> RunExplainer<A> {
             Err(fault) => return Err(fault),
         }
         self.items += 1;
-        self.offset += used;
-        Ok(Some(used))
+        self.offset += item.used;
+        Ok(Some(item.used))
     }
 
     /// Takes and explains each item that octets begin with; says how many of the octets they have. What is sent for them
