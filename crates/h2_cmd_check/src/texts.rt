@@ -109,10 +109,11 @@ fn text_of(
     conn: &Conn<'_, Global>,
     item: &Explained<'_>,
 ) -> Result<String, AllocError>
-    ensures { IfOk result (λ text. IsTextOf false false item.now (string_bytes text)) }
+    ensures { IfOk result (λ text. IsTextOf false false false conn.now.state item.now (string_bytes text)) }
 {
     let mut account = Account::new(alloc);
     explainer.account(alloc, conn, item, &mut account)?;
+    account.is_brief = false;
     let mut lines = ItemLines::new(alloc)?;
     lines.put(item, &account, explainer.block(conn), Paint(false))?;
     text_with(alloc, lines.octets())

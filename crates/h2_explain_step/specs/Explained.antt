@@ -13,7 +13,10 @@ use Rattle.h2_spec.specs.Texts.View.{shown_block}
 use Rattle.h2_conn.specs.Connection.{Connection, going}
 use Rattle.h2_conn.specs.Reports.{reported}
 use Rattle.h2_conn.specs.declared.report.TakenItem.{TakenItem}
-use Rattle.h2_explain_text.specs.Lines.{EndsLine, Words, lines_of}
+use Rattle.h2_explain_text.specs.Lines.{EndsLine, Words, lines_of, shown_words}
+use Rattle.h2_explain_item.specs.declared.change.changes.ShownChange.{ShownChange}
+use Rattle.h2_explain_item.specs.declared.notes.StreamNote.{StreamNote}
+use Rattle.h2_explain_step.specs.Account.{ListsChanges}
 use Rattle.h2_explain_item.specs.declared.item.Explained.{Explained}
 use Rattle.h2_explain_item.specs.declared.item.Moment.{Moment}
 use Rattle.h2_explain_step.specs.declared.taking.Observed.{Observed}
@@ -81,7 +84,14 @@ abbrev pub Observes : State → List ℕ → (out out' : List ℕ) → Connectio
 Observes s b out out' c o =
     (number offset : ℕ) → (x : Explained) → IsItemOf o number offset b (drop (length out) out') x → ExplainsItem s b number offset c x
 
--- the text of an item: a line of JSON, or its lines
-abbrev pub IsTextOf : (json color : Bool) → Explained → List ℕ → Type 0
-IsTextOf true color x t = EndsLine false t
-IsTextOf false color x t = (w : Words) × (t ≡ lines_of color x w)
+-- the text of an item with the lines of these changes: a line of JSON, or its lines, those of fields and of what changed only
+-- where it is not brief
+abbrev pub IsTextWith : (json color brief : Bool) → Explained → List ShownChange → List ℕ → Type 0
+IsTextWith true color brief x changes t = EndsLine false t
+IsTextWith false color brief x changes t = (w : Words) × (w.changes ≡ changes) × (t ≡ lines_of color x (shown_words brief w))
+
+-- the text of an item after which the connection is in this state, with the lines of what it changed: on the connection, on its
+-- stream, and on the streams that frames were sent on for it, since something was noted of them
+abbrev pub IsTextOf : (json color brief : Bool) → State → Explained → List ℕ → Type 0
+IsTextOf json color brief s x t =
+    (begun : ℕ) × (note : ℕ → Option StreamNote) × (changes : List ShownChange) × ListsChanges x s begun note changes × IsTextWith json color brief x changes t

@@ -23,7 +23,7 @@ returns-clause-ok g c =
       item = c.item-item.result;
       explains = (rw c.in-Ok-Some.field-0-is at c.in-Ok-Some.ensures.item) (e.items + 1) e.offset c.item-item.result (record is { sent_is = is.sent_is ∙ sent });
       used_is = refl;
-      written = subst (λ (r : Result (Unit {0}) ExplainFault). Gains (IsWritten (λ (t : List ℕ). IsItemText e.form c.item-item.result t) r) (g.O.Output.written c.args.output.now) (g.O.Output.written c.write_item.new.output)) c.in-Ok.is (c.write_item.ensures.gains well);
+      written = subst (λ (r : Result (Unit {0}) ExplainFault). Gains (IsWritten (λ (t : List ℕ). IsItemText e.form c.take_item.new.conn.state c.item-item.result t) r) (g.O.Output.written c.args.output.now) (g.O.Output.written c.write_item.new.output)) c.in-Ok.is (c.write_item.ensures.gains well);
       tallied = c.in-Ok.ensures.tally;
       form_is = refl;
       items_are = refl;
