@@ -79,7 +79,7 @@ pub record IsItemOf (o : Observed) (number offset : ℕ) (b sent : List ℕ) (x 
   pub before_is : x.before ≡ o.before
   pub after_is : x.after ≡ o.after
 
--- what is observed of an item that was taken of octets: it is that of the item, with what came to `out` for it
+-- what was observed of an item that was taken of octets: with what `out` gained for it, it is the next item
 abbrev pub Observes : State → List ℕ → (out out' : List ℕ) → Connection → Observed → Type 0
 Observes s b out out' c o =
     (number offset : ℕ) → (x : Explained) → IsItemOf o number offset b (drop (length out) out') x → ExplainsItem s b number offset c x
