@@ -310,8 +310,8 @@ impl<A: Allocator + Copy> RunExplainer<A> {
             Err(fault) => return Err(fault),
         }
         self.items += 1;
-        self.offset += item.used;
-        Ok(Some(item.used))
+        self.offset += observed.taken.used;
+        Ok(Some(observed.taken.used))
     }
 
     /// Takes and explains each item that octets begin with; says how many of the octets they have. What is sent for them

@@ -1,9 +1,11 @@
-use Rattle.std.proofs.Common.{◌≡◌, ◌∙◌, ◌+◌, ℕ, List, [], Result, ap, arith, drop, inl, inr, refl, subst}
+use Rattle.std.proofs.Common.{◌≡◌, ◌∙◌, ◌+◌, ℕ, List, [], Result, ap, arith, drop, inl, inr, refl, subst, sym}
 use Rattle.h2_spec.specs.State.{State}
 use Rattle.h2_conn.specs.Connection.{Connection, going}
+use Rattle.h2_conn.specs.declared.report.TakenItem.{TakenItem}
 use Rattle.h2_explain.proofs.Steps.{gains-none}
 use Rattle.h2_explain.specs.Explains.{Gains, IsItemText, IsWritten, not_written}
 use Rattle.h2_explain.specs.declared.run.ExplainFault.{ExplainFault}
+use Rattle.h2_explain_step.specs.Explained.{IsItemOf}
 use Rattle.h2_explain_step.proofs.Taken.{first-uses}
 use Rattle.h2_explain.proofs.run_explainer.RunExplainer.take_item.Goals as goal
 
@@ -18,11 +20,12 @@ returns-clause-ok g c =
     let e = c.args.self.now in
     let sent = c.in-Some.ensures ∙ ap (λ (n : ℕ). drop n c.take_item.new.out) c.start_of-start.ensures.end in
     let well = c.write_item.ensures.flag ∙ ap (λ (r : Result (Unit {0}) ExplainFault). not_written r) c.in-Ok.is in
-    let is = c.item-item.ensures in
+    let observed = rw c.in-Ok-Some.field-0-is at c.in-Ok-Some.ensures.item in
+    let made = subst (λ (t : List ℕ). IsItemOf c.in-Ok-Some.observed (e.items + 1) e.offset c.args.octets.now t c.item-item.result) sent c.item-item.ensures in
     record {
       item = c.item-item.result;
-      explains = (rw c.in-Ok-Some.field-0-is at c.in-Ok-Some.ensures.item) (e.items + 1) e.offset c.item-item.result (record is { sent_is = is.sent_is ∙ sent });
-      used_is = refl;
+      explains = observed (e.items + 1) e.offset c.item-item.result made;
+      used_is = sym (ap (λ (k : TakenItem). k.used) c.item-item.ensures.taken_is);
       written = subst (λ (r : Result (Unit {0}) ExplainFault). Gains (IsWritten (λ (t : List ℕ). IsItemText e.form c.take_item.new.conn.state c.item-item.result t) r) (g.O.Output.written c.args.output.now) (g.O.Output.written c.write_item.new.output)) c.in-Ok.is (c.write_item.ensures.gains well);
       tallied = c.in-Ok.ensures.tally;
       form_is = refl;
