@@ -94,7 +94,8 @@ impl<A: Allocator + Copy> End<'_, '_, A> {
             (true, false) | (false, true) => 1,
             (false, false) => 0,
         };
-        self.tally.warnings.saturating_add(of_the_end)
+        let tally = self.tally;
+        tally.warnings.saturating_add(of_the_end)
     }
 
     /// Begins a line, after the one before.
@@ -156,14 +157,15 @@ impl<A: Allocator + Copy> End<'_, '_, A> {
     fn with_tally(&self, alloc: A, words: &str) -> Result<String<A>, AllocError>
         ensures { IfOk result (λ text. EndsWithTally self.now.form.color self.now.conn.now.state self.now.rest.items self.now.tally.now (string_bytes text)) }
     {
-        let by_cause = by_cause(alloc, self.tally.errors.as_slice())?;
-        let tally = TallyWords {
+        let tally = self.tally;
+        let by_cause = by_cause(alloc, tally.errors.as_slice())?;
+        let said = TallyWords {
             items: self.rest.items,
-            errors: self.tally.errors.len() as u64,
+            errors: tally.errors.len() as u64,
             warnings: self.warning_count(),
             by_cause: by_cause.as_str(),
         };
-        string_of(alloc, &texts!(words, tally, Paint(self.form.color).ended()))
+        string_of(alloc, &texts!(words, said, Paint(self.form.color).ended()))
     }
 
     /// The lines after that of the octets that are left.

@@ -10,7 +10,10 @@ use Rattle.h2_explain_step.proofs.Taken.{first-uses}
 use Rattle.h2_explain.proofs.run_explainer.RunExplainer.take_item.Goals as goal
 
 pub overflow_add-self-2 : goal.overflow_add-self-2
-overflow_add-self-2 g c =
+overflow_add-self-2 g c = omega (arith, c.requires.few.0, c.requires.few.1)
+
+pub overflow_add-self-3 : goal.overflow_add-self-3
+overflow_add-self-3 g c =
     let first = rw c.in-Ok-Some.field-0-is at c.in-Ok-Some.ensures.takes in
     let uses = first-uses _ _ _ _ _ _ first in
     omega (arith, uses.1, c.requires.few.1)
