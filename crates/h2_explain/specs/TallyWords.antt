@@ -27,4 +27,4 @@ tally_words items errors warnings by_cause =
 -- lines whose last one ends with these words
 abbrev pub EndsWithTally : (color : Bool) → State → (items : ℕ) → Tallied → List ℕ → Type 0
 EndsWithTally color s items tally t =
-    (front by_cause : List ℕ) × (t ≡ front ++ tally_words items (length tally.errors) (all_warnings tally s) by_cause ++ ended color)
+    (front by_cause : List ℕ) × (t ≡ front ++ (tally_words items (length tally.errors) (all_warnings tally s) by_cause ++ ended color))
