@@ -56,10 +56,7 @@ impl Text for NumberOf<'_> {
 /// How many errors each cause has, in the order in which they came first.
 ///
 /// `AllocError` where memory is refused.
-pub(crate) fn by_cause<A: Allocator>(
-    alloc: A,
-    errors: &[Cause],
-) -> Result<String<A>, AllocError> {
+pub(crate) fn by_cause<A: Allocator>(alloc: A, errors: &[Cause]) -> Result<String<A>, AllocError> {
     let mut out = TextBuilder::new(alloc);
     let mut counts = counts_of(errors);
     let mut between = " (";

@@ -15,4 +15,4 @@ returns-clause-item g c =
     let before = c.moment_at-before.ensures ∙ ap (moment_of c.args.conn.now.state) stream in
     let after = c.moment_at.ensures ∙ ap (moment_of c.take_and_lend.new.self.state) stream in
     λ number offset x is. item-explained c.args.conn.now.state c.args.octets.now (g.O.Outgoing.octets c.args.out.now) (g.O.Outgoing.octets c.take_and_lend.new.out) number offset c.take_and_lend.new.self _ x
-        c.take_and_lend.ensures.ready takes taken before after is
+    c.take_and_lend.ensures.ready takes taken before after is
