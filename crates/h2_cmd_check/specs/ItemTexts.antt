@@ -44,7 +44,7 @@ octets_of_lines lines = flat_map (λ l. octets_said (line_said l)) lines
 abbrev pub AreTexts : State → List ℕ → (items offset : ℕ) → List (List ℕ) → Type 0
 AreTexts s b items offset [] = next_event s b ≡ Stop
 AreTexts s b items offset (t ∷ ts) =
-    (c : Connection) × (x : Explained) × ExplainsItem s b (items + 1) offset c x × IsTextOf false false x t
+    (c : Connection) × (x : Explained) × ExplainsItem s b (items + 1) offset c x × IsTextOf false false false c.state x t
     × AreTexts c.state (drop x.used b) (items + 1) (offset + x.used) ts
 
 -- the next item of octets was taken: its text was put last
@@ -53,7 +53,7 @@ pub record TakesOneText (s : State) (b : List ℕ) (offset : ℕ) (texts : List 
   pub explains : ExplainsItem s b (length texts + 1) offset c item
   pub used_is : used ≡ item.used
   pub text : List ℕ
-  pub said : IsTextOf false false item text
+  pub said : IsTextOf false false false c.state item text
   pub texts_are : texts' ≡ texts ++ text ∷ []
 
 -- or there is none

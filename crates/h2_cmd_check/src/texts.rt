@@ -12,16 +12,16 @@ ghost use Rattle.h2_cmd_check.specs.declared.fault.CaseFault.TheVariants.{BadCon
 use crate::fault::CaseFault;
 use h2_cmd_cases::{Line, line_of};
 use h2_conn::{Conn, ConnFault};
-use h2_explain_item::item::{Explained, part_in};
+use h2_explain_item::item::Explained;
 use h2_explain_step::explainer::ItemExplainer;
-use h2_explain_step::taking::{moment_at, stream_of_next};
+use h2_explain_step::taking::take_item;
 use h2_explain_text::account::Account;
 use h2_explain_text::lines::ItemLines;
 use h2_explain_text::paint::Paint;
 use h2_request_book::book::Book;
 use h2_script::{LineFault, add_line};
 use h2_spec::connection::Config;
-use h2_spec::octets::{first_octets, octets_from};
+use h2_spec::octets::octets_from;
 use std::alloc::{AllocError, Global};
 
 /// Whether a line says one of `explain`.
@@ -109,10 +109,11 @@ fn text_of(
     conn: &Conn<'_, Global>,
     item: &Explained<'_>,
 ) -> Result<String, AllocError>
-    ensures { IfOk result (λ text. IsTextOf false false item.now (string_bytes text)) }
+    ensures { IfOk result (λ text. IsTextOf false false false conn.now.state item.now (string_bytes text)) }
 {
     let mut account = Account::new(alloc);
     explainer.account(alloc, conn, item, &mut account)?;
+    account.is_brief = false;
     let mut lines = ItemLines::new(alloc)?;
     lines.put(item, &account, explainer.block(conn), Paint(false))?;
     text_with(alloc, lines.octets())
@@ -146,30 +147,14 @@ fn take_text(
     ensures takes { IfOk result (λ used. TakesText conn.old.state octets.now offset (map string_bytes texts.old.items) conn.new (map string_bytes texts.new.items) used) }
 {
     sent.clear();
-    let stream = stream_of_next(conn, octets);
-    let before = moment_at(conn, stream);
-    let Some(taken) = conn.take_and_lend(octets, &mut explainer.memory, sent)? else {
+    let Some(observed) = take_item(conn, octets, &mut explainer.memory, sent)? else {
         return Ok(None);
     };
-    let used = taken.used;
-    let own = first_octets(octets, used);
-    let item = Explained {
-        number: texts.len() as u64 + 1,
-        offset,
-        octets: own,
-        ahead: octets,
-        used,
-        what: taken.item,
-        part: part_in(taken.item, own),
-        cause: taken.cause,
-        ignored: taken.ignored,
-        sent: sent.as_slice(),
-        before,
-        after: moment_at(conn, stream),
-    };
+    let number = texts.len() as u64 + 1;
+    let item = observed.item(number, offset, octets, sent.as_slice());
     let text = text_of(alloc, explainer, conn, &item)?;
     add_text(text, texts)?;
-    Ok(Some(used))
+    Ok(Some(item.used))
 }
 
 /// The texts of the items of octets, by what an explainer knows that is new.

@@ -12,11 +12,11 @@ use h2_cmd_args::command::ServeReport;
 use h2_cmd_cases::lines_in;
 use h2_cmd_dialogue::step::{Incoming, Step};
 use h2_cmd_dialogue::weave::{Parts, Weaver};
-use h2_conn::{Conn, write_opening};
+use h2_conn::{Conn, TakenItem, write_opening};
 use h2_explain_item::diagnosis::warning::Warnings;
-use h2_explain_item::item::{Explained, part_in};
+use h2_explain_item::item::Explained;
 use h2_explain_step::explainer::ItemExplainer;
-use h2_explain_step::taking::{moment_at, stream_of_next};
+use h2_explain_step::taking::{Observed, take_item};
 use h2_explain_text::account::Account;
 use h2_explain_text::lines::ItemLines;
 use h2_explain_text::paint::{Paint, Role};
@@ -27,10 +27,7 @@ use h2_explain_words::sent::next_frame;
 use h2_frame::FrameRef;
 use h2_io::say::TextBuilder;
 use h2_io::{say_all, string_of};
-use h2_spec::causes::Cause;
 use h2_spec::frames::ItemHead;
-use h2_spec::ignored::Ignored;
-use h2_spec::octets::first_octets;
 use std::alloc::{AllocError, Global};
 
 /// Whether the script has sent something, or kept something back.
@@ -56,14 +53,20 @@ fn since_with(since: Option<u64>, number: u64, parts: &Parts) -> Option<u64>
     }
 }
 
-/// The error of an item and its reason, or none once the script has spoken.
-fn judged(since: Option<u64>, item: &Explained<'_>) -> (Option<Cause>, Option<Ignored>)
-    ensures cause { result.0 ≡ judged since item.now.cause }
-    ensures reason { result.1 ≡ judged since item.now.ignored }
+/// What was observed of an item, without its error and its reason once the script has spoken.
+fn judged(since: Option<u64>, observed: Observed) -> Observed
+    ensures { result ≡ record observed { taken = record observed.taken { cause = judged since observed.taken.cause; ignored = judged since observed.taken.ignored } } }
 {
     match since {
-        None => (item.cause, item.ignored),
-        Some(_) => (None, None),
+        None => observed,
+        Some(_) => Observed {
+            taken: TakenItem {
+                cause: None,
+                ignored: None,
+                ..observed.taken
+            },
+            ..observed
+        },
     }
 }
 
@@ -213,6 +216,7 @@ impl<'b> View<'b> {
         alloc: Global,
         watch: ServeReport<'_>,
         steps: &[Step],
+        observed: Observed,
         item: &Explained<'_>,
         out: &mut Vec<u8>,
     ) -> Result<(), AllocError>
@@ -226,22 +230,8 @@ impl<'b> View<'b> {
             .account(alloc, &self.conn, item, &mut self.account)?;
         self.fit(watch)?;
         let (parts, _is_step) = self.weaver.weave(alloc, steps, incoming(item), item.sent)?;
-        let (cause, ignored) = judged(self.since, item);
-        let (octets, ahead) = (item.octets, item.ahead);
-        let shown = Explained {
-            number: item.number,
-            offset: item.offset,
-            octets,
-            ahead,
-            used: item.used,
-            what: item.what,
-            part: part_in(item.what, octets),
-            cause,
-            ignored,
-            sent: parts.sent.as_slice(),
-            before: item.before,
-            after: item.after,
-        };
+        let sent = parts.sent.as_slice();
+        let shown = judged(self.since, observed).item(item.number, item.offset, item.ahead, sent);
         let block = self.explainer.block(&self.conn);
         self.lines.put(&shown, &self.account, block, paint)?;
         out.extend_from_slice(self.lines.octets())?;
@@ -263,32 +253,17 @@ impl<'b> View<'b> {
         requires { self.old.conn ≡ going self.old.conn.state [] }
         ensures { OnOk result (self.new.conn ≡ going self.new.conn.state []) }
     {
-        let stream = stream_of_next(&self.conn, octets);
-        let before = moment_at(&self.conn, stream);
         let mut sent = Vec::new(alloc);
         let memory = &mut self.explainer.memory;
-        let Some(taken) = self.conn.take_and_lend(octets, memory, &mut sent)? else {
+        let Some(observed) = take_item(&mut self.conn, octets, memory, &mut sent)? else {
             return Ok(0);
         };
-        let own = first_octets(octets, taken.used);
-        let item = Explained {
-            number: self.items.saturating_add(1),
-            offset: self.offset,
-            octets: own,
-            ahead: octets,
-            used: taken.used,
-            what: taken.item,
-            part: part_in(taken.item, own),
-            cause: taken.cause,
-            ignored: taken.ignored,
-            sent: sent.as_slice(),
-            before,
-            after: moment_at(&self.conn, stream),
-        };
-        self.show(alloc, watch, steps, &item, out)?;
-        self.items = self.items.saturating_add(1);
-        self.offset = self.offset.saturating_add(taken.used);
-        Ok(taken.used)
+        let number = self.items.saturating_add(1);
+        let item = observed.item(number, self.offset, octets, sent.as_slice());
+        self.show(alloc, watch, steps, observed, &item, out)?;
+        self.items = number;
+        self.offset = self.offset.saturating_add(item.used);
+        Ok(item.used)
     }
 
     /// Appends the line of octets that are no item, if there are any, and, where no item came, the server's opening.

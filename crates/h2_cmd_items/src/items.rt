@@ -12,14 +12,14 @@ use crate::sent::{Sent, narrow, sent_of};
 use h2_cmd_judge::event::Seen;
 use h2_cmd_judge::frames::ServerFrames;
 use h2_conn::{Conn, ConnFault};
-use h2_explain_item::item::{Explained, part_in};
+use h2_explain_item::item::Explained;
 use h2_explain_item::shown_block::ShownBlock;
 use h2_explain_step::explainer::ItemExplainer;
-use h2_explain_step::taking::{moment_at, stream_of_next};
+use h2_explain_step::taking::take_item;
 use h2_explain_text::account::Account;
 use h2_request_book::book::Book;
 use h2_spec::connection::Config;
-use h2_spec::octets::{first_octets, octets_from};
+use h2_spec::octets::octets_from;
 use std::alloc::{AllocError, Global};
 
 /// Why the items of octets can't be said.
@@ -133,46 +133,19 @@ impl Taking {
         ensures takes { IfOk result (λ used. TakesSent conn.old.state octets.now offset self.old.sent.items (along_of self.old) conn.new self.new.sent.items (along_of self.new) used) }
     {
         let mut out = Vec::new(alloc);
-        let stream = stream_of_next(conn, octets);
-        let before = moment_at(conn, stream);
-        let taken = match conn.take_and_lend(octets, &mut explainer.memory, &mut out) {
-            Ok(Some(taken)) => taken,
-            Ok(None) => return Ok(None),
-            Err(error) => return Err(error),
+        let Some(observed) = take_item(conn, octets, &mut explainer.memory, &mut out)? else {
+            return Ok(None);
         };
-        let used = taken.used;
-        let own = first_octets(octets, used);
-        let answers = out.as_slice();
-        let item = Explained {
-            number: self.sent.len() as u64 + 1,
-            offset,
-            octets: own,
-            ahead: octets,
-            used,
-            what: taken.item,
-            part: part_in(taken.item, own),
-            cause: taken.cause,
-            ignored: taken.ignored,
-            sent: answers,
-            before,
-            after: moment_at(conn, stream),
-        };
-        match self.run.note(&item) {
-            Ok(()) => {}
-            Err(error) => return Err(error),
-        }
+        let number = self.sent.len() as u64 + 1;
+        let item = observed.item(number, offset, octets, out.as_slice());
+        self.run.note(&item)?;
         let mut account = Account::new(alloc);
-        match explainer.account(alloc, conn, &item, &mut account) {
-            Ok(()) => {}
-            Err(error) => return Err(error),
-        }
+        explainer.account(alloc, conn, &item, &mut account)?;
         let block = explainer.block(conn);
         let sent = self.sent_with(&item, &account, block);
         self.is_post = either(self.is_post, is_post(block.fields));
-        match self.add(sent, answers) {
-            Ok(()) => Ok(Some(used)),
-            Err(error) => Err(error),
-        }
+        self.add(sent, item.sent)?;
+        Ok(Some(item.used))
     }
 
     /// Takes the items of octets.

@@ -22,8 +22,8 @@ use Rattle.h2_explain.specs.declared.run.Form.{Form}
 use Rattle.h2_explain.specs.declared.verdict.ClientVerdict.{ClientVerdict}
 use Rattle.h2_explain_step.proofs.Taken.{empty-stop, left-none, item-uses, item-more}
 use Rattle.h2_explain_step.specs.Explained.{ExplainsItem}
-use Rattle.h2_explain.specs.Explaining.{Continues, CountsOn, EndsAs, ExplainsAll, ExplainsOn, Handles, HasGained, IsBeginning, IsCutShort, IsExplaining, IsNew, IsSummed, PassesBy, SaysOf, SaysSome, StopsAt, TakesItem, TakesNone}
-use Rattle.h2_explain.specs.Explains.{AreExplained, Gains, IsExplanation, IsItemText, IsRestText, IsWritten, not_written, summary_over}
+use Rattle.h2_explain.specs.Explaining.{Continues, CountsOn, EndsAs, ExplainsAll, ExplainsOn, Handles, HasGained, IsBeginning, IsCutShort, IsEndText, IsExplaining, IsNew, IsSummed, PassesBy, SaysOf, SaysSome, StopsAt, TakesItem, TakesNone}
+use Rattle.h2_explain.specs.Explains.{AreExplained, Gains, IsExplanation, IsItemText, IsWritten, not_written, summary_over}
 use Rattle.h2_explain.specs.Verdicts.{AreTallied, Tallied, TalliesItem, no_tally, verdict_at}
 
 -- ---- what is written
@@ -59,14 +59,14 @@ gains-written P (Err fault) a b t calm only appends p = λ held is. let e : not_
 
 -- ---- from some octets to those after some first items
 
-continues-next : (form : Form) (s0 s : State) (b0 b : List ℕ) (items0 offset0 items offset : ℕ) (c : Connection) (x : Explained) (t u : List ℕ)
-    → ExplainsItem s b (items + 1) offset c x → IsItemText form x u → Continues form s0 b0 items0 offset0 s b items offset t
-    → Continues form s0 b0 items0 offset0 c.state (drop x.used b) (items + 1) (offset + x.used) (t ++ u)
-continues-next form s0 s b0 b items0 offset0 items offset c x t u i is on = λ later cut xs more are.
+continues-next : (form : Form) (s0 s : State) (b0 b : List ℕ) (items0 offset0 items offset : ℕ) (c : Connection) (x : Explained) (n0 n n' : Tallied) (t u : List ℕ)
+    → ExplainsItem s b (items + 1) offset c x → TalliesItem n x n' → IsItemText form c.state x u → Continues form s0 b0 items0 offset0 n0 s b items offset n t
+    → Continues form s0 b0 items0 offset0 n0 c.state (drop x.used b) (items + 1) (offset + x.used) n' (t ++ u)
+continues-next form s0 s b0 b items0 offset0 items offset c x n0 n n' t u i note is on = λ later cut xs more are.
     let within = item-uses s b (items + 1) offset c x i in
-    let here = subst (λ (d : List ℕ). AreExplained form cut c.state d (items + 1) (offset + x.used) xs more) (sym (drop-append-le x.used b later within.1)) are in
-    let all = on later cut (x ∷ xs) (u ++ more) (c, item-more s b later (items + 1) offset c x i, u, more, is, refl, here) in
-    (all.0, subst (λ (d : List ℕ). AreExplained form cut s0 (b0 ++ later) items0 offset0 all.0 d) (sym (append_assoc t u more)) all.1)
+    let here = subst (λ (d : List ℕ). AreExplained form cut c.state d (items + 1) (offset + x.used) n' xs more) (sym (drop-append-le x.used b later within.1)) are in
+    let all = on later cut (x ∷ xs) (u ++ more) (c, item-more s b later (items + 1) offset c x i, n', note, u, more, is, refl, here) in
+    (all.0, subst (λ (d : List ℕ). AreExplained form cut s0 (b0 ++ later) items0 offset0 n0 all.0 d) (sym (append_assoc t u more)) all.1)
 
 counts-next : (s0 s : State) (b0 b : List ℕ) (items0 offset0 items offset : ℕ) (c : Connection) (x : Explained) (t0 t t' : Tallied)
     → ExplainsItem s b (items + 1) offset c x → TalliesItem t x t' → CountsOn s0 b0 items0 offset0 t0 s b items offset t
@@ -105,8 +105,8 @@ on-next e e1 e2 s s1 b b1 c known known1 known2 used x y =
       state_is = x.state_is ∙ ap (λ (r : Parsed State Event). r.state) one;
       rest_is = x.rest_is ∙ ap (λ (r : Parsed State Event). r.rest) one;
       written = rw (y.items_are, offset)
-          (gains-both (Continues e.form s b e.items e.offset s1 b1 e1.items e1.offset) (IsItemText e1.form y.item) _
-          (λ t w on is. continues-next e.form s s1 b b1 e.items e.offset e1.items e1.offset c y.item t w i (subst (λ (f : Form). IsItemText f y.item w) x.form_is is) on)
+          (gains-both (Continues e.form s b e.items e.offset e.tally s1 b1 e1.items e1.offset e1.tally) (IsItemText e1.form c.state y.item) _
+          (λ t w on is. continues-next e.form s s1 b b1 e.items e.offset e1.items e1.offset c y.item e.tally e1.tally e2.tally t w i y.tallied (subst (λ (f : Form). IsItemText f c.state y.item w) x.form_is is) on)
           known known1 known2 x.written y.written);
       tallied = rw (y.items_are, offset) (counts-next s s1 b b1 e.items e.offset e1.items e1.offset c y.item e.tally e1.tally e2.tally i y.tallied x.tallied);
     }
@@ -127,8 +127,8 @@ takes-uses e e1 s b known known1 c used y =
 -- the explanation of some first items is one that is cut short
 pub on-cut : {A : Type 0} (e e1 : RunExplainer A) (s s1 : State) (b b1 : List ℕ) (known known1 : Option (List ℕ)) → ExplainsOn e s b known e1 s1 b1 known1 → Gains (IsCutShort e s b) known known1
 on-cut e e1 s s1 b b1 known known1 x =
-    gains-map (Continues e.form s b e.items e.offset s1 b1 e1.items e1.offset) (IsCutShort e s b)
-    (λ t on later. let one = on later true [] [] refl in (one.0, subst (λ (d : List ℕ). AreExplained e.form true s (b ++ later) e.items e.offset one.0 d) (append-nil t) one.1))
+    gains-map (Continues e.form s b e.items e.offset e.tally s1 b1 e1.items e1.offset e1.tally) (IsCutShort e s b)
+    (λ t on later. let one = on later true [] [] refl in (one.0, subst (λ (d : List ℕ). AreExplained e.form true s (b ++ later) e.items e.offset e.tally one.0 d) (append-nil t) one.1))
     known known1 x.written
 
 -- and no item was left
@@ -203,7 +203,7 @@ all-same e e1 e2 s s' b rest known known' x form items offset tally =
         counted = omega (arith, on.counted, items, offset);
         state_is = on.state_is;
         rest_is = on.rest_is;
-        written = rw (items, offset) on.written;
+        written = rw (items, offset, tally) on.written;
         tallied = rw (items, offset, tally) on.tallied;
       };
       stops = x.stops;
@@ -222,7 +222,7 @@ all-from e e0 e1 s s' b rest known known' x form items offset tally =
         counted = on.counted;
         state_is = on.state_is;
         rest_is = on.rest_is;
-        written = rw (form, items, offset) on.written;
+        written = rw (form, items, offset, tally) on.written;
         tallied = rw (items, offset, tally) on.tallied;
       };
       stops = x.stops;
@@ -280,14 +280,15 @@ tallies-on s0 b0 piece s s' r r' items offset items' offset' t t' x y = λ later
     let two = x (piece ++ later) one.0 v (subst (λ (b : List ℕ). AreTallied s b (items + 1) offset one.0 t v) (append_assoc r piece later) one.1) in
     (two.0, subst (λ (b : List ℕ). AreTallied s0 b (0 + 1) 0 two.0 no_tally v) (sym (append_assoc b0 piece later)) two.1)
 
-texts-on : (form : Form) (s0 : State) (b0 piece : List ℕ) (s s' : State) (r r' : List ℕ) (items offset items' offset' : ℕ) (text more : List ℕ)
-    → Continues form s0 b0 0 0 s r items offset text → Continues form s (r ++ piece) items offset s' r' items' offset' more → Continues form s0 (b0 ++ piece) 0 0 s' r' items' offset' (text ++ more)
-texts-on form s0 b0 piece s s' r r' items offset items' offset' text more x y = λ later cut xs u are.
+texts-on : (form : Form) (s0 : State) (b0 piece : List ℕ) (s s' : State) (r r' : List ℕ) (items offset items' offset' : ℕ) (t t' : Tallied) (text more : List ℕ)
+    → Continues form s0 b0 0 0 no_tally s r items offset t text → Continues form s (r ++ piece) items offset t s' r' items' offset' t' more
+    → Continues form s0 (b0 ++ piece) 0 0 no_tally s' r' items' offset' t' (text ++ more)
+texts-on form s0 b0 piece s s' r r' items offset items' offset' t t' text more x y = λ later cut xs u are.
     let one = y later cut xs u are in
-    let two = x (piece ++ later) cut one.0 (more ++ u) (subst (λ (b : List ℕ). AreExplained form cut s b items offset one.0 (more ++ u)) (append_assoc r piece later) one.1) in (
+    let two = x (piece ++ later) cut one.0 (more ++ u) (subst (λ (b : List ℕ). AreExplained form cut s b items offset t one.0 (more ++ u)) (append_assoc r piece later) one.1) in (
       two.0,
-      subst (λ (b : List ℕ). AreExplained form cut s0 b 0 0 two.0 ((text ++ more) ++ u)) (sym (append_assoc b0 piece later))
-          (subst (λ (w : List ℕ). AreExplained form cut s0 (b0 ++ (piece ++ later)) 0 0 two.0 w) (sym (append_assoc text more u)) two.1),
+      subst (λ (b : List ℕ). AreExplained form cut s0 b 0 0 no_tally two.0 ((text ++ more) ++ u)) (sym (append_assoc b0 piece later))
+          (subst (λ (w : List ℕ). AreExplained form cut s0 (b0 ++ (piece ++ later)) 0 0 no_tally two.0 w) (sym (append_assoc text more u)) two.1),
     )
 
 pub explaining-goes : {A : Type 0} (s0 : State) (b0 piece : List ℕ) (c c' : Connection) (e e' : RunExplainer A) (known known' : Option (List ℕ)) → c' ≡ going c'.state [] → is_ended c.state.core.phase ≡ false
@@ -316,8 +317,8 @@ explaining-says c c' piece e e' known known' goes given = λ s0 b0 text x begins
     let h = from-left s0 b0 piece c c' e e' known known' x goes given in
     let r : Parsed State Event = whole s0 b0 in
     let after = leads-on s0 b0 piece c'.state e e' known known' h in
-    gains-map (Continues e.form r.state (r.rest ++ piece) e.items e.offset c'.state h.rest e'.items e'.offset) _
-    (λ more on. rw (h.all.on.form_is, after.0, after.1) (texts-on e.form s0 b0 piece r.state c'.state r.rest h.rest e.items e.offset e'.items e'.offset text more begins on))
+    gains-map (Continues e.form r.state (r.rest ++ piece) e.items e.offset e.tally c'.state h.rest e'.items e'.offset e'.tally) _
+    (λ more on. rw (h.all.on.form_is, after.0, after.1) (texts-on e.form s0 b0 piece r.state c'.state r.rest h.rest e.items e.offset e'.items e'.offset e.tally e'.tally text more begins on))
     known known' h.all.on.written
 
 pub explaining-cut : {A : Type 0} (c : Connection) (piece : List ℕ) (e : RunExplainer A) (known known' : Option (List ℕ)) → is_ended c.state.core.phase ≡ false
@@ -328,9 +329,9 @@ explaining-cut c piece e known known' goes given = λ s0 b0 text x begins.
     gains-map (IsCutShort e c.state (e.held.items ++ piece)) _
     (λ more cut later.
     let one = cut later in
-    let here = subst (λ (b : List ℕ). AreExplained e.form true c.state b e.items e.offset one.0 more) (append_assoc e.held.items piece later ∙ ap (λ (b : List ℕ). b ++ (piece ++ later)) (left-held s0 b0 c e x goes)) one.1 in
-    let two = begins (piece ++ later) true one.0 more (subst (λ (s : State). AreExplained e.form true s (r.rest ++ (piece ++ later)) e.items e.offset one.0 more) same here) in
-    (two.0, subst (λ (b : List ℕ). AreExplained e.form true s0 b 0 0 two.0 (text ++ more)) (sym (append_assoc b0 piece later)) two.1))
+    let here = subst (λ (b : List ℕ). AreExplained e.form true c.state b e.items e.offset e.tally one.0 more) (append_assoc e.held.items piece later ∙ ap (λ (b : List ℕ). b ++ (piece ++ later)) (left-held s0 b0 c e x goes)) one.1 in
+    let two = begins (piece ++ later) true one.0 more (subst (λ (s : State). AreExplained e.form true s (r.rest ++ (piece ++ later)) e.items e.offset e.tally one.0 more) same here) in
+    (two.0, subst (λ (b : List ℕ). AreExplained e.form true s0 b 0 0 no_tally two.0 (text ++ more)) (sym (append_assoc b0 piece later)) two.1))
     known known' given
 
 -- ---- after the end of the connection
@@ -366,7 +367,7 @@ late-says c piece e e' known over p = λ s0 b0 text x begins.
     let st : (whole s0 (b0 ++ piece)).state ≡ r.state = ap (λ (p : Parsed State Event). p.state) all in
     let rest : (whole s0 (b0 ++ piece)).rest ≡ r.rest ++ piece = ap (λ (p : Parsed State Event). p.rest) all in
     gains-none (λ (more : List ℕ). IsBeginning s0 (b0 ++ piece) e' (text ++ more))
-    (rw (p.form_is, p.items_are, p.offset_is, st, rest) (texts-on e.form s0 b0 piece r.state r.state r.rest (r.rest ++ piece) e.items e.offset e.items e.offset text [] begins (λ later cut xs more are. (xs, are))))
+    (rw (p.form_is, p.items_are, p.offset_is, p.tally_is, st, rest) (texts-on e.form s0 b0 piece r.state r.state r.rest (r.rest ++ piece) e.items e.offset e.items e.offset e.tally e.tally text [] begins (λ later cut xs more are. (xs, are))))
     known known refl
 
 -- ---- the beginning and the end
@@ -388,22 +389,24 @@ new-explains form s e n =
     }
 
 pub new-begins : {A : Type 0} (form : Form) (s : State) (e : RunExplainer A) → IsNew form e → IsBeginning s [] e []
-new-begins form s e n = rw (new-run s, n.items_are, n.offset_is) (λ later cut xs more are. (xs, are))
+new-begins form s e n = rw (new-run s, n.items_are, n.offset_is, n.tally_is) (λ later cut xs more are. (xs, are))
 
 pub end-says : {A : Type 0} (c : Connection) (e : RunExplainer A) (r : Result (Unit {0}) ExplainFault) (known known' : Option (List ℕ))
-    → Gains (IsWritten (λ (t : List ℕ). IsRestText e.form e.items (length e.held.items + e.late) t) r) known known' → EndsAs (is_err r) c e known known'
+    → Gains (IsWritten (IsEndText e c.state) r) known known' → EndsAs (is_err r) c e known known'
 end-says c e r known known' given = λ s0 b0 text x begins. gains-map _ _ (said s0 b0 text x begins r) known known' given
   where
     said : (s0 : State) (b0 text : List ℕ) → IsExplaining s0 b0 c e → IsBeginning s0 b0 e text → (q : Result (Unit {0}) ExplainFault) (more : List ℕ)
-        → IsWritten (λ (t : List ℕ). IsRestText e.form e.items (length e.held.items + e.late) t) q more → IsExplanation e.form (is_err q) s0 b0 (text ++ more)
+        → IsWritten (IsEndText e c.state) q more → IsExplanation e.form (is_err q) s0 b0 (text ++ more)
     said s0 b0 text x begins (Ok u) more is =
         let rest : List ℕ = (whole s0 b0).rest in
         let all : rest ++ [] ≡ rest = append-nil rest in
-        let one = begins [] false [] more (rw (all, ← x.left_is) (x.stops, is)) in
-        (one.0, subst (λ (b : List ℕ). AreExplained e.form false s0 b 0 0 one.0 (text ++ more)) (append-nil b0) one.1)
+        let same : c.state ≡ (whole s0 b0).state = ap (λ (d : Connection). d.state) x.after in
+        let said : IsEndText e (whole s0 b0).state more = subst (λ (s : State). IsEndText e s more) same is in
+        let one = begins [] false [] more (rw (all, ← x.left_is) (x.stops, said)) in
+        (one.0, subst (λ (b : List ℕ). AreExplained e.form false s0 b 0 0 no_tally one.0 (text ++ more)) (append-nil b0) one.1)
     said s0 b0 text x begins (Err fault) more none =
         let one = begins [] true [] more none in
-        (one.0, subst (λ (b : List ℕ). AreExplained e.form true s0 b 0 0 one.0 (text ++ more)) (append-nil b0) one.1)
+        (one.0, subst (λ (b : List ℕ). AreExplained e.form true s0 b 0 0 no_tally one.0 (text ++ more)) (append-nil b0) one.1)
 
 abbrev summary_with : ClientVerdict → ℕ → Option ℕ → Summary
 summary_with verdict items ended = record { items = items; ended = ended; verdict = verdict }

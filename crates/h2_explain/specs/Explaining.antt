@@ -42,10 +42,10 @@ pub record IsNew {A : Type 0} (form : Form) (e : RunExplainer A) : Type 0 where
 
 -- what an explanation says of some first items: whatever octets come later, with what it says of the items after these
 -- it is an explanation of all
-abbrev pub Continues : Form → State → List ℕ → (items offset : ℕ) → State → List ℕ → (items' offset' : ℕ) → List ℕ → Type 0
-Continues form s b items offset s' b' items' offset' text =
-    (later : List ℕ) (cut : Bool) (xs : List Explained) (more : List ℕ) → AreExplained form cut s' (b' ++ later) items' offset' xs more
-    → (ys : List Explained) × AreExplained form cut s (b ++ later) items offset ys (text ++ more)
+abbrev pub Continues : Form → State → List ℕ → (items offset : ℕ) → Tallied → State → List ℕ → (items' offset' : ℕ) → Tallied → List ℕ → Type 0
+Continues form s b items offset t s' b' items' offset' t' text =
+    (later : List ℕ) (cut : Bool) (xs : List Explained) (more : List ℕ) → AreExplained form cut s' (b' ++ later) items' offset' t' xs more
+    → (ys : List Explained) × AreExplained form cut s (b ++ later) items offset t ys (text ++ more)
 
 -- what is counted of some first items: whatever octets come later, the verdict after the items after these is that on all
 abbrev pub CountsOn : State → List ℕ → (items offset : ℕ) → Tallied → State → List ℕ → (items' offset' : ℕ) → Tallied → Type 0
@@ -61,7 +61,7 @@ pub record ExplainsOn {A : Type 0} (e : RunExplainer A) (s : State) (b : List �
   pub counted : e'.items ≤ e'.offset
   pub state_is : (parse_all next_event s b).state ≡ (parse_all next_event s' b').state
   pub rest_is : (parse_all next_event s b).rest ≡ (parse_all next_event s' b').rest
-  pub written : Gains (Continues e.form s b e.items e.offset s' b' e'.items e'.offset) known known'
+  pub written : Gains (Continues e.form s b e.items e.offset e.tally s' b' e'.items e'.offset e'.tally) known known'
   pub tallied : CountsOn s b e.items e.offset e.tally s' b' e'.items e'.offset e'.tally
 
 -- all items of these octets were
@@ -82,15 +82,15 @@ pub record Handles {A : Type 0} (e : RunExplainer A) (s : State) (b : List ℕ) 
 
 -- the explanation of some first items of these octets, and of any octets after them
 abbrev pub IsCutShort : {A : Type 0} → RunExplainer A → State → List ℕ → List ℕ → Type 0
-IsCutShort e s b text = (later : List ℕ) → (xs : List Explained) × AreExplained e.form true s (b ++ later) e.items e.offset xs text
+IsCutShort e s b text = (later : List ℕ) → (xs : List Explained) × AreExplained e.form true s (b ++ later) e.items e.offset e.tally xs text
 
 -- the same of the octets that are held and a piece more
 abbrev pub IsPieceCutShort : {A : Type 0} → RunExplainer A → State → List ℕ → List ℕ → Type 0
 IsPieceCutShort e s piece text = IsCutShort e s (e.held.items ++ piece) text
 
--- the text of the end, after the items that were explained
-abbrev pub IsEndText : {A : Type 0} → RunExplainer A → List ℕ → Type 0
-IsEndText e text = IsRestText e.form e.items (length e.held.items + e.late) text
+-- the text of the end in this state, after the items that were explained
+abbrev pub IsEndText : {A : Type 0} → RunExplainer A → State → List ℕ → Type 0
+IsEndText e s text = IsRestText e.form s e.items e.tally (length e.held.items + e.late) text
 
 -- octets after the end are counted, and none are held
 pub record PassesBy {A : Type 0} (e : RunExplainer A) (more : ℕ) (e' : RunExplainer A) : Type 0 where
@@ -108,7 +108,7 @@ pub record TakesItem {A : Type 0} (e : RunExplainer A) (s : State) (b : List ℕ
   pub item : Explained
   pub explains : ExplainsItem s b (e.items + 1) e.offset c item
   pub used_is : used ≡ item.used
-  pub written : Gains (IsItemText e.form item) known known'
+  pub written : Gains (IsItemText e.form c.state item) known known'
   pub tallied : TalliesItem e.tally item e'.tally
   pub form_is : e'.form ≡ e.form
   pub items_are : e'.items ≡ e.items + 1
@@ -147,7 +147,7 @@ pub record IsExplaining {A : Type 0} (s : State) (b : List ℕ) (c : Connection)
 -- what was written so far: whatever octets come later, what is written for them and for the end makes with it an
 -- explanation of all
 abbrev pub IsBeginning : {A : Type 0} → State → List ℕ → RunExplainer A → List ℕ → Type 0
-IsBeginning s b e text = Continues e.form s b 0 0 (parse_all next_event s b).state (parse_all next_event s b).rest e.items e.offset text
+IsBeginning s b e text = Continues e.form s b 0 0 no_tally (parse_all next_event s b).state (parse_all next_event s b).rest e.items e.offset e.tally text
 
 -- it was fed a piece
 abbrev pub GoesOn : {A : Type 0} → Connection → RunExplainer A → List ℕ → Connection → RunExplainer A → Type 0

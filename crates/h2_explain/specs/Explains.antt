@@ -5,8 +5,8 @@ use Rattle.h2_spec.specs.Frames.Parse.{Stop}
 use Rattle.h2_spec.specs.State.{State, ended_code}
 use Rattle.h2_spec.specs.Trace.{Run, next_event, trace}
 use Rattle.h2_conn.specs.Connection.{Connection}
-use Rattle.h2_explain_step.specs.Explained.{ExplainsItem, stream_in}
-use Rattle.h2_explain_text.specs.Lines.{EndsLine, EndsLineIf, Words, lines_of, shown_words}
+use Rattle.h2_explain_step.specs.Explained.{ExplainsItem, IsTextOf, stream_in}
+use Rattle.h2_explain_text.specs.Lines.{EndsLine, EndsLineIf}
 use Rattle.h2_explain_text.specs.Rest.{is_said}
 use Rattle.h2_explain_item.specs.Item.{head_in}
 use Rattle.h2_explain_item.specs.Warnings.{AreWarnings, warning_count}
@@ -14,7 +14,8 @@ use Rattle.h2_explain_item.specs.declared.item.Explained.{Explained}
 use Rattle.h2_explain_item.specs.declared.diagnosis.special.CaseFacts.{CaseFacts}
 use Rattle.h2_explain_item.specs.declared.diagnosis.warning.Warnings.{Warnings}
 use Rattle.h2_explain.specs.declared.verdict.ClientVerdict.{ClientVerdict}
-use Rattle.h2_explain.specs.Verdicts.{IsVerdict}
+use Rattle.h2_explain.specs.TallyWords.{EndsWithTally}
+use Rattle.h2_explain.specs.Verdicts.{IsVerdict, Tallied, TalliesItem, no_tally}
 use Rattle.h2_explain.specs.declared.run.ExplainFault.{ExplainFault}
 use Rattle.h2_explain.specs.declared.run.ExplainFault.TheVariants.{NoMemory, NotWritten}
 use Rattle.h2_explain.specs.declared.run.Form.{Form}
@@ -58,52 +59,52 @@ is_notable x ws = is_some x.cause || (is_some x.ignored || nat_lt 0 (warning_cou
 abbrev pub shows_item : Form → Explained → Warnings → Bool
 shows_item form x ws = shows_stream form.stream (stream_in (head_in x.what)) && (not form.errors || is_notable x ws)
 
--- the text of an item that is shown: a line of JSON, or its lines, those of fields and of what changed only where it is
--- not brief
-abbrev pub IsShownText : (json color brief : Bool) → Explained → List ℕ → Type 0
-IsShownText true color brief x t = EndsLine false t
-IsShownText false color brief x t = (w : Words) × (t ≡ lines_of color x (shown_words brief w))
-
--- the same, where it is shown; else nothing
-abbrev pub IsTextIf : Bool → Form → Explained → List ℕ → Type 0
-IsTextIf false form x t = t ≡ []
-IsTextIf true form x t = IsShownText form.json form.color form.brief x t
+-- the text of an item, after which the connection is in this state, where it is shown; else nothing
+abbrev pub IsTextIf : Bool → Form → State → Explained → List ℕ → Type 0
+IsTextIf false form s x t = t ≡ []
+IsTextIf true form s x t = IsTextOf form.json form.color form.brief s x t
 
 -- the text of an item in a form
-abbrev pub IsItemText : Form → Explained → List ℕ → Type 0
-IsItemText form x t = (f : CaseFacts) × (ws : Warnings) × AreWarnings x f ws × IsTextIf (shows_item form x ws) form x t
+abbrev pub IsItemText : Form → State → Explained → List ℕ → Type 0
+IsItemText form s x t = (f : CaseFacts) × (ws : Warnings) × AreWarnings x f ws × IsTextIf (shows_item form x ws) form s x t
 
 -- lines, or nothing
 abbrev pub EndsLineOrNone : (color : Bool) → List ℕ → Type 0
 EndsLineOrNone color t = (t ≡ []) ⊎ EndsLine color t
 
--- the text after that many items: lines where octets are left or none came, and the lines of warnings, of live streams
--- and of `--strict`, where there are any; in JSON always a line
-abbrev pub IsRestOf : (json color : Bool) → (items left : ℕ) → List ℕ → Type 0
-IsRestOf true color items left t = EndsLine false t
-IsRestOf false color items left t = (rest lines : List ℕ) × (t ≡ rest ++ lines) × EndsLineIf (is_said items left) color rest × EndsLineOrNone color lines
+-- the lines of warnings, of live streams, where there are any, and of `--strict`, which is the last
+abbrev pub AreEndLines : (strict color : Bool) → State → (items : ℕ) → Tallied → List ℕ → Type 0
+AreEndLines false color s items tally t = EndsLineOrNone color t
+AreEndLines true color s items tally t = EndsWithTally color s items tally t
 
-abbrev pub IsRestText : Form → (items left : ℕ) → List ℕ → Type 0
-IsRestText form items left t = IsRestOf form.json form.color items left t
+-- the text after that many items, of which this was counted, in this state: lines where octets are left or none came, and then
+-- those; in JSON always a line
+abbrev pub IsRestOf : (json strict color : Bool) → State → (items : ℕ) → Tallied → (left : ℕ) → List ℕ → Type 0
+IsRestOf true strict color s items tally left t = EndsLine false t
+IsRestOf false strict color s items tally left t =
+    (rest lines : List ℕ) × (t ≡ rest ++ lines) × EndsLineIf (is_said items left) color rest × AreEndLines strict color s items tally lines
 
--- how an explanation ends after that many items where these octets are left: it is cut short, as memory was refused; or
--- there is no item more
-abbrev pub Ends : Form → (cut : Bool) → State → List ℕ → (items : ℕ) → List ℕ → Type 0
-Ends form true s b items t = t ≡ []
-Ends form false s b items t = (next_event s b ≡ Stop) × IsRestText form items (length b) t
+abbrev pub IsRestText : Form → State → (items : ℕ) → Tallied → (left : ℕ) → List ℕ → Type 0
+IsRestText form s items tally left t = IsRestOf form.json form.strict form.color s items tally left t
+
+-- how an explanation ends after that many items, of which this was counted, where these octets are left: it is cut short, as
+-- memory was refused; or there is no item more
+abbrev pub Ends : Form → (cut : Bool) → State → List ℕ → (items : ℕ) → Tallied → List ℕ → Type 0
+Ends form true s b items tally t = t ≡ []
+Ends form false s b items tally t = (next_event s b ≡ Stop) × IsRestText form s items tally (length b) t
 
 -- the texts of these items, one after another, each of which the connection takes after the others; that many items
--- came before them, and that many octets
-abbrev pub AreExplained : Form → (cut : Bool) → State → List ℕ → (items offset : ℕ) → List Explained → List ℕ → Type 0
-AreExplained form cut s b items offset [] t = Ends form cut s b items t
-AreExplained form cut s b items offset (x ∷ xs) t =
-    (c : Connection) × ExplainsItem s b (items + 1) offset c x
-    × (first : List ℕ) × (rest : List ℕ) × IsItemText form x first × (t ≡ first ++ rest)
-    × AreExplained form cut c.state (drop x.used b) (items + 1) (offset + x.used) xs rest
+-- came before them, of which this was counted, and that many octets
+abbrev pub AreExplained : Form → (cut : Bool) → State → List ℕ → (items offset : ℕ) → Tallied → List Explained → List ℕ → Type 0
+AreExplained form cut s b items offset tally [] t = Ends form cut s b items tally t
+AreExplained form cut s b items offset tally (x ∷ xs) t =
+    (c : Connection) × ExplainsItem s b (items + 1) offset c x × (tally' : Tallied) × TalliesItem tally x tally'
+    × (first : List ℕ) × (rest : List ℕ) × IsItemText form c.state x first × (t ≡ first ++ rest)
+    × AreExplained form cut c.state (drop x.used b) (items + 1) (offset + x.used) tally' xs rest
 
 -- the explanation of a connection over octets: of each of its items and of the rest, or of some first items
 abbrev pub IsExplanation : Form → (cut : Bool) → State → List ℕ → List ℕ → Type 0
-IsExplanation form cut s b t = (xs : List Explained) × AreExplained form cut s b 0 0 xs t
+IsExplanation form cut s b t = (xs : List Explained) × AreExplained form cut s b 0 0 no_tally xs t
 
 -- what was written of an item, or of the rest: nothing where memory was refused
 abbrev pub IsWritten : {A : Type 0} → (List ℕ → Type 0) → Result A ExplainFault → List ℕ → Type 0

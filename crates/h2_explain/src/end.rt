@@ -3,14 +3,15 @@
 
 ghost use Rattle.std.specs.Prelude.{◌≡◌, false, IfOk};
 ghost use Rattle.std.specs.String.{string_bytes};
-ghost use Rattle.h2_explain.specs.Explains.{EndsLineOrNone, IsRestOf, IsRestText};
+ghost use Rattle.h2_explain.specs.Explains.{AreEndLines, EndsLineOrNone, IsRestOf, IsRestText};
+ghost use Rattle.h2_explain.specs.TallyWords.{EndsWithTally, all_warnings};
 ghost use Rattle.h2_explain_text.specs.Lines.{EndsLine};
 ghost use Rattle.h2_explain_text.specs.Rest.{rest_of};
 
 use crate::run::Form;
 use crate::shown::{shows_opening, shows_stream};
 use crate::verdict::{Tally, is_answer_unfinished, verdict_at};
-use crate::verdict_words::{put_verdict, say_tally};
+use crate::verdict_words::{TallyWords, by_cause, put_verdict};
 use h2_conn::{Conn, is_ended};
 use h2_explain_item::diagnosis::warning::{Warning, Warnings, all_warnings, is_unacknowledged};
 use h2_explain_json::end::{put_end, put_wait};
@@ -82,9 +83,19 @@ impl<A: Allocator + Copy> End<'_, '_, A> {
     }
 
     /// How many warnings there were in all.
-    fn warning_count(&self) -> u64 {
+    fn warning_count(&self) -> u64
+        ensures { result ≡ all_warnings self.now.tally.now self.now.conn.now.state }
+    {
+        let of_the_end = match (
+            is_unacknowledged(&self.conn.counts()),
+            is_answer_unfinished(self.conn),
+        ) {
+            (true, true) => 2,
+            (true, false) | (false, true) => 1,
+            (false, false) => 0,
+        };
         let tally = self.tally;
-        tally.warnings.saturating_add(self.warnings().count())
+        tally.warnings.saturating_add(of_the_end)
     }
 
     /// Begins a line, after the one before.
@@ -131,29 +142,40 @@ impl<A: Allocator + Copy> End<'_, '_, A> {
         }
     }
 
-    /// Puts the line of the tally last.
-    fn say_verdict(&self, out: &mut TextBuilder<A>) {
-        if self.form.strict {
-            self.begin(out);
-            let warnings = self.warning_count();
-            say_tally(self.rest.items, self.tally, warnings, out);
-        }
-    }
-
-    /// The lines after that of the octets that are left, without the end of the last.
+    /// The lines after that of the octets that are left, without the end of the last, and without the words of the tally.
     fn words(&self, alloc: A) -> Result<String<A>, AllocError> {
         let mut words = TextBuilder::new(alloc);
         self.say_warnings(&mut words);
         self.say_waits(&mut words);
-        self.say_verdict(&mut words);
+        if self.form.strict {
+            self.begin(&mut words);
+        }
         words.finish()
+    }
+
+    /// These words and those of the tally, as lines.
+    fn with_tally(&self, alloc: A, words: &str) -> Result<String<A>, AllocError>
+        ensures { IfOk result (λ text. EndsWithTally self.now.form.color self.now.conn.now.state self.now.rest.items self.now.tally.now (string_bytes text)) }
+    {
+        let tally = self.tally;
+        let by_cause = by_cause(alloc, tally.errors.as_slice())?;
+        let said = TallyWords {
+            items: self.rest.items,
+            errors: tally.errors.len() as u64,
+            warnings: self.warning_count(),
+            by_cause: by_cause.as_str(),
+        };
+        string_of(alloc, &texts!(words, said, Paint(self.form.color).ended()))
     }
 
     /// The lines after that of the octets that are left.
     fn lines(&self, alloc: A) -> Result<String<A>, AllocError>
-        ensures { IfOk result (λ text. EndsLineOrNone self.now.form.color (string_bytes text)) }
+        ensures { IfOk result (λ text. AreEndLines self.now.form.strict self.now.form.color self.now.conn.now.state self.now.rest.items self.now.tally.now (string_bytes text)) }
     {
         let words = self.words(alloc)?;
+        if self.form.strict {
+            return self.with_tally(alloc, words.as_str());
+        }
         if words.is_empty() {
             return Ok(String::new(alloc));
         }
@@ -163,7 +185,7 @@ impl<A: Allocator + Copy> End<'_, '_, A> {
 
     /// The text, with the line of the octets that are left; before it, where no item came, the server's opening.
     fn text(&self, alloc: A, opening: &[u8]) -> Result<String<A>, AllocError>
-        ensures { IfOk result (λ text. IsRestOf false self.now.form.color self.now.rest.items self.now.rest.octets (string_bytes text)) }
+        ensures { IfOk result (λ text. IsRestOf false self.now.form.strict self.now.form.color self.now.conn.now.state self.now.rest.items self.now.tally.now self.now.rest.octets (string_bytes text)) }
     {
         let rest = rest_line(alloc, self.rest, opening, Paint(self.form.color))?;
         let lines = self.lines(alloc)?;
@@ -213,7 +235,7 @@ impl<A: Allocator + Copy> End<'_, '_, A> {
 
     /// The end in the form that is asked for.
     pub(crate) fn said(&self, alloc: A) -> Result<String<A>, AllocError>
-        ensures { IfOk result (λ text. IsRestText self.now.form self.now.rest.items self.now.rest.octets (string_bytes text)) }
+        ensures { IfOk result (λ text. IsRestText self.now.form self.now.conn.now.state self.now.rest.items self.now.tally.now self.now.rest.octets (string_bytes text)) }
     {
         let is_asked = self.rest.items == 0 && shows_opening(self.form);
         let opening = opening_of(alloc, self.conn, is_asked)?;

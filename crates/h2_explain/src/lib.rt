@@ -22,7 +22,7 @@ pub use h2_explain_item::diagnosis::warning::{Warning, Warnings};
 pub use h2_explain_item::item::{Explained, Moment};
 pub use h2_explain_item::notes::{Notes, StreamNote};
 pub use h2_explain_step::explainer::ItemExplainer;
-pub use h2_explain_step::taking::{moment_at, stream_of_next};
+pub use h2_explain_step::taking::{Observed, take_item};
 pub use h2_explain_text::account::Account;
 pub use h2_explain_text::waits::{AnswerWait, RequestWait, Wait};
 pub use item_outbox::ItemOutbox;

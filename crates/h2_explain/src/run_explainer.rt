@@ -11,7 +11,8 @@ ghost use Rattle.h2_conn.specs.Connection.{going, halted};
 ghost use Rattle.h2_conn.specs.First.{TakesIfAny};
 ghost use Rattle.h2_conn.specs.Runs.{Fed, Halted, Halts, Ran};
 ghost use Rattle.h2_explain.specs.Explaining.{BeginsRead, EndsAs, ExplainsAll, GoesOn, Handles, HasGained, HasRoom, IsCutShort, IsEndText, IsNew, IsPieceCutShort, IsSummed, PassesBy, SaysOf, SaysSome, StopsAt, TakesIfThere};
-ghost use Rattle.h2_explain.specs.Explains.{Gains, IsItemText, IsShownText, IsWritten, not_written};
+ghost use Rattle.h2_explain.specs.Explains.{Gains, IsItemText, IsWritten, not_written};
+ghost use Rattle.h2_explain_step.specs.Explained.{IsTextWith};
 ghost use Rattle.h2_explain.specs.Verdicts.{TalliesItem, verdict_at};
 ghost use Rattle.h2_explain.specs.declared.run.ExplainFault.TheVariants as faults;
 
@@ -23,17 +24,17 @@ use crate::run::{ExplainFault, Form, Summary};
 use crate::shown::{shows_item, shows_opening};
 use crate::verdict::{Tally, verdict_at};
 use h2_conn::{Conn, is_ended};
-use h2_explain_item::item::{Explained, part_in};
+use h2_explain_item::item::Explained;
 use h2_explain_item::shown_block::ShownBlock;
 use h2_explain_json::json::json_of;
 use h2_explain_step::explainer::ItemExplainer;
-use h2_explain_step::taking::{moment_at, stream_of_next};
+use h2_explain_step::taking::take_item;
 use h2_explain_text::account::Account;
 use h2_explain_text::lines::ItemLines;
 use h2_explain_text::paint::Paint;
 use h2_frame::Outgoing;
 use h2_io::Output;
-use h2_spec::octets::{first_octets, octets_from};
+use h2_spec::octets::octets_from;
 use std::alloc::{AllocError, Allocator, Global};
 use std::mem;
 
@@ -87,7 +88,8 @@ fn put_json<A: Allocator + Copy>(
 
 /// Fits an account to a form: whether it is brief, and without the opening where that is not shown.
 fn fit<A: Allocator>(form: Form, account: &mut Account<A>)
-    ensures { account.new.is_brief ≡ form.brief }
+    ensures brief { account.new.is_brief ≡ form.brief }
+    ensures changes { account.new.changes ≡ account.old.changes }
 {
     if !shows_opening(form) {
         account.opening.clear();
@@ -105,7 +107,7 @@ fn put_text<A: Allocator + Copy>(
     block: ShownBlock<'_, A>,
     lines: &mut ItemLines<A>,
 ) -> Result<(), AllocError>
-    ensures { OnOk result (IsShownText form.json form.color form.brief item.now lines.new) }
+    ensures { OnOk result (IsTextWith form.json form.color form.brief item.now account.old.changes.items lines.new) }
 {
     fit(form, account);
     if form.json {
@@ -126,7 +128,7 @@ fn make_text<A: Allocator + Copy>(
     item: &Explained<'_>,
     text: &mut ItemText<A>,
 ) -> Result<(), AllocError>
-    ensures text { OnOk result (IsItemText form item.now text.new.lines) }
+    ensures text { OnOk result (IsItemText form conn.now.state item.now text.new.lines) }
     ensures tally { OnOk result (TalliesItem tally.old item.now tally.new) }
 {
     let ItemText { account, lines } = text;
@@ -152,7 +154,7 @@ fn write_item<A: Allocator + Copy, O: Output>(
     output: &mut O,
 ) -> Result<(), ExplainFault>
     requires writer { O.has_failed output.old ≡ false }
-    ensures gains { O.has_failed output.new ≡ false → Gains (IsWritten (λ text. IsItemText form item.now text) result) (O.written output.old) (O.written output.new) }
+    ensures gains { O.has_failed output.new ≡ false → Gains (IsWritten (λ text. IsItemText form conn.now.state item.now text) result) (O.written output.old) (O.written output.new) }
     ensures tally { OnOk result (TalliesItem tally.old item.now tally.new) }
     ensures flag { O.has_failed output.new ≡ not_written result }
     ensures name { O.name output.new ≡ O.name output.old }
@@ -283,33 +285,16 @@ impl<A: Allocator + Copy> RunExplainer<A> {
         ensures name { O.name output.new ≡ O.name output.old }
     {
         let start = start_of(out, keeps);
-        let stream = stream_of_next(conn, octets);
-        let before = moment_at(conn, stream);
         let memory = &mut self.explainer.memory;
-        let taken = match conn.take_and_lend(octets, memory, out) {
-            Ok(Some(taken)) => taken,
+        let observed = match take_item(conn, octets, memory, out) {
+            Ok(Some(observed)) => observed,
             Ok(None) => return Ok(None),
             Err(_) => return Err(ExplainFault::NoMemory),
         };
         let Some(sent) = out.since(start) else {
             return Err(ExplainFault::NoMemory);
         };
-        let used = taken.used;
-        let own = first_octets(octets, used);
-        let item = Explained {
-            number: self.items + 1,
-            offset: self.offset,
-            octets: own,
-            ahead: octets,
-            used,
-            what: taken.item,
-            part: part_in(taken.item, own),
-            cause: taken.cause,
-            ignored: taken.ignored,
-            sent,
-            before,
-            after: moment_at(conn, stream),
-        };
+        let item = observed.item(self.items + 1, self.offset, octets, sent);
         recorder.record(&item);
         match write_item(
             alloc,
@@ -325,8 +310,8 @@ impl<A: Allocator + Copy> RunExplainer<A> {
             Err(fault) => return Err(fault),
         }
         self.items += 1;
-        self.offset += used;
-        Ok(Some(used))
+        self.offset += observed.taken.used;
+        Ok(Some(observed.taken.used))
     }
 
     /// Takes and explains each item that octets begin with; says how many of the octets they have. What is sent for them
@@ -553,7 +538,7 @@ impl<A: Allocator + Copy> RunExplainer<A> {
     /// The text of the octets after the last item, and of the end.
     fn end_text(&self, alloc: A, conn: &Conn<'_, A>) -> Result<String<A>, AllocError>
         requires room { HasRoom self.now 0 }
-        ensures { IfOk result (λ text. IsEndText self.now (string_bytes text)) }
+        ensures { IfOk result (λ text. IsEndText self.now conn.now.state (string_bytes text)) }
     {
         let mut rest = rest_of(conn, self.items, self.offset, self.held.as_slice());
         rest.octets += self.late;
@@ -576,7 +561,7 @@ impl<A: Allocator + Copy> RunExplainer<A> {
     ) -> Result<(), ExplainFault>
         requires room { HasRoom self.now 0 }
         requires writer { O.has_failed output.old ≡ false }
-        ensures gains { O.has_failed output.new ≡ false → Gains (IsWritten (IsEndText self.now) result) (O.written output.old) (O.written output.new) }
+        ensures gains { O.has_failed output.new ≡ false → Gains (IsWritten (IsEndText self.now conn.now.state) result) (O.written output.old) (O.written output.new) }
         ensures flag { O.has_failed output.new ≡ not_written result }
         ensures name { O.name output.new ≡ O.name output.old }
     {

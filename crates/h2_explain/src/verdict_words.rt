@@ -1,13 +1,15 @@
 //! What `--strict` says at the end, as a line of text and as JSON: how many items there were, the errors by cause, and
-//! how many warnings. The form: docs/EXPLAIN.md.
+//! how many warnings. Definitions of the line: `specs/TallyWords.antt`, the form: docs/EXPLAIN.md.
+
+ghost use Rattle.h2_explain.specs.TallyWords.{number_of, tally_words};
 
 use crate::verdict::{ClientVerdict, Tally};
 use h2_explain_json::json_words::JsonWords;
 use h2_explain_json::member;
 use h2_io::say::TextBuilder;
-use h2_io::say_all;
+use h2_io::{DeviceFault, Number, Output, Text, say_all, texts};
 use h2_spec::causes::Cause;
-use std::alloc::Allocator;
+use std::alloc::{AllocError, Allocator};
 
 /// How many places there are for counts; there are fewer causes.
 const PLACES: usize = 256;
@@ -35,44 +37,64 @@ fn take_count(counts: &mut [u64], cause: Cause) -> u64 {
     }
 }
 
-/// Puts a number of things last: `no error`, `1 error`, `2 errors`.
-fn say_number<A: Allocator>(number: u64, thing: &str, out: &mut TextBuilder<A>) {
-    match number {
-        0 => say_all!(out; "no ", thing),
-        1 => say_all!(out; "1 ", thing),
-        _ => say_all!(out; number, " ", thing, "s"),
+/// A number of things: `no error`, `1 error`, `2 errors`.
+#[derive(Clone, Copy)]
+struct NumberOf<'w>(u64, &'w str);
+
+impl Text for NumberOf<'_> {
+    ghost text = { λ n. number_of n.0 n.1.now };
+
+    fn write_to<O: Output>(&self, output: &mut O) -> Result<(), DeviceFault> {
+        match self.0 {
+            0 => texts!("no ", self.1).write_to(output),
+            1 => texts!("1 ", self.1).write_to(output),
+            _ => texts!(Number(self.0), " ", self.1, "s").write_to(output),
+        }
     }
 }
 
-/// Puts last how many errors each cause has, in the order in which they came first.
-fn say_errors<A: Allocator>(errors: &[Cause], out: &mut TextBuilder<A>) {
+/// How many errors each cause has, in the order in which they came first.
+///
+/// `AllocError` where memory is refused.
+pub(crate) fn by_cause<A: Allocator>(alloc: A, errors: &[Cause]) -> Result<String<A>, AllocError> {
+    let mut out = TextBuilder::new(alloc);
     let mut counts = counts_of(errors);
     let mut between = " (";
     for cause in errors {
         let count = take_count(&mut counts, *cause);
         if count > 0 {
-            say_all!(out; between, cause.name(), " ", count);
+            say_all!(&mut out; between, cause.name(), " ", count);
             between = ", ";
         }
     }
     if !errors.is_empty() {
-        say_all!(out; ")");
+        say_all!(&mut out; ")");
     }
+    out.finish()
 }
 
-/// Puts last how many items there were, their errors by cause, and how many warnings; `warnings` has those of the end too.
-pub(crate) fn say_tally<A: Allocator>(
-    items: u64,
-    tally: &Tally<A>,
-    warnings: u64,
-    out: &mut TextBuilder<A>,
-) {
-    say_number(items, "item", out);
-    say_all!(out; ", ");
-    say_number(tally.errors.len() as u64, "error", out);
-    say_errors(tally.errors.as_slice(), out);
-    say_all!(out; ", ");
-    say_number(warnings, "warning", out);
+/// How many items there were, their errors, and how many warnings, with those of the end.
+#[derive(Clone, Copy)]
+pub(crate) struct TallyWords<'w> {
+    /// How many items there were.
+    pub(crate) items: u64,
+    /// How many errors.
+    pub(crate) errors: u64,
+    /// How many warnings.
+    pub(crate) warnings: u64,
+    /// How many errors each cause has, in words.
+    pub(crate) by_cause: &'w str,
+}
+
+#[tactic(auto, unfolding(crate::specs::TallyWords::tally_words))]
+impl Text for TallyWords<'_> {
+    ghost text = { λ t. tally_words t.items t.errors t.warnings t.by_cause.now };
+
+    fn write_to<O: Output>(&self, output: &mut O) -> Result<(), DeviceFault> {
+        let (items, errors) = (NumberOf(self.items, "item"), NumberOf(self.errors, "error"));
+        let warnings = NumberOf(self.warnings, "warning");
+        texts!(items, ", ", errors, self.by_cause, ", ", warnings).write_to(output)
+    }
 }
 
 /// Puts how many errors a cause has, as an element.

@@ -13,8 +13,10 @@ use Rattle.h2_frame.proofs.MissingLaws.{head_of-append}
 use Rattle.h2_conn.specs.Connection.{Connection, going}
 use Rattle.h2_conn.specs.First.{TakesFirst}
 use Rattle.h2_conn.specs.Reports.{reported}
+use Rattle.h2_conn.specs.declared.report.TakenItem.{TakenItem}
 use Rattle.h2_explain_item.specs.declared.item.Explained.{Explained}
-use Rattle.h2_explain_step.specs.Explained.{ExplainsItem, IsAhead, moment_of, report_in, stream_ahead, stream_in}
+use Rattle.h2_explain_step.specs.Explained.{ExplainsItem, IsAhead, IsItemOf, moment_of, stream_ahead, stream_in}
+use Rattle.h2_explain_step.specs.declared.taking.Observed.{Observed}
 
 -- of no octets nothing is an item
 none-uses : (x : Front State Event) → Uses [] x → x ≡ Stop
@@ -109,23 +111,24 @@ item-more s b more number offset c x i =
       after_is = i.after_is ∙ ap (moment_of c.state) stream;
     }
 
--- what is known of an item that was taken, with its octets and those that were sent for it
-pub item-explained : (s : State) (b out out' : List ℕ) (number offset : ℕ) (c : Connection) (x : Explained) → c ≡ going c.state [] → TakesFirst s b out c.state out' x.used → Some (report_in x) ≡ reported s (next_item s b)
-    → x.number ≡ number → x.offset ≡ offset → x.octets.now ≡ take x.used b → x.ahead.now ≡ b → x.sent.now ≡ drop (length out) out'
-    → x.before ≡ moment_of s (stream_ahead s.core.phase b) → x.after ≡ moment_of c.state (stream_ahead s.core.phase b)
-    → ExplainsItem s b number offset c x
-item-explained s b out out' number offset c x ready first taken number_is offset_is octets ahead sent before after =
+-- what was observed of an item, with its octets and those that were sent for it, is the item
+pub item-explained : (s : State) (b out out' : List ℕ) (number offset : ℕ) (c : Connection) (o : Observed) (x : Explained) → c ≡ going c.state [] → TakesFirst s b out c.state out' o.taken.used
+    → Some o.taken ≡ reported s (next_item s b) → o.before ≡ moment_of s (stream_ahead s.core.phase b) → o.after ≡ moment_of c.state (stream_ahead s.core.phase b)
+    → IsItemOf o number offset b (drop (length out) out') x → ExplainsItem s b number offset c x
+item-explained s b out out' number offset c o x ready takes taken before after is =
+    let used = ap (λ (k : TakenItem). k.used) is.taken_is in
+    let first : TakesFirst s b out c.state out' x.used = subst (λ (n : ℕ). TakesFirst s b out c.state out' n) (sym used) takes in
     let uses : Uses b (One first.event c.state x.used) = subst (λ (n : Front State Event). Uses b n) first.comes (event-uses s b) in
     record {
       event = first.event;
       comes = first.comes;
       ready = ready;
-      number_is = number_is;
-      offset_is = offset_is;
-      octets_is = octets;
-      ahead_is = subst (λ (a : List ℕ). IsAhead b x.used a) (sym ahead) (record { whole = uses.1; begins = sym (take_all (length b) b (omega arith)) });
-      taken_is = taken;
-      sent_is = sent ∙ ap (drop (length out)) first.sent ∙ drop_at out (frames_octets first.event.sent) (length out) refl;
-      before_is = before;
-      after_is = after;
+      number_is = is.number_is;
+      offset_is = is.offset_is;
+      octets_is = is.octets_is;
+      ahead_is = subst (λ (a : List ℕ). IsAhead b x.used a) (sym is.ahead_is) (record { whole = uses.1; begins = sym (take_all (length b) b (omega arith)) });
+      taken_is = ap Some is.taken_is ∙ taken;
+      sent_is = is.sent_is ∙ ap (drop (length out)) first.sent ∙ drop_at out (frames_octets first.event.sent) (length out) refl;
+      before_is = is.before_is ∙ before;
+      after_is = is.after_is ∙ after;
     }

@@ -1,5 +1,5 @@
 -- An item that was taken, with what was before it and what is after it.
-use Rattle.std.specs.Prelude.{◌≡◌, ℕ, ◌≤◌, Bool, true, false, List, [], length, take, Option, Some, None}
+use Rattle.std.specs.Prelude.{◌≡◌, ℕ, ◌≤◌, Bool, true, false, List, [], length, take, drop, Option, Some, None}
 use Rattle.h2_spec.specs.declared.connection.Phase.{Phase}
 use Rattle.h2_spec.specs.declared.connection.Phase.TheVariants.{Preface, Settings, Running, Ended}
 use Rattle.h2_spec.specs.declared.frames.Head.{Head}
@@ -13,9 +13,13 @@ use Rattle.h2_spec.specs.Texts.View.{shown_block}
 use Rattle.h2_conn.specs.Connection.{Connection, going}
 use Rattle.h2_conn.specs.Reports.{reported}
 use Rattle.h2_conn.specs.declared.report.TakenItem.{TakenItem}
-use Rattle.h2_explain_text.specs.Lines.{EndsLine, Words, lines_of}
+use Rattle.h2_explain_text.specs.Lines.{EndsLine, Words, lines_of, shown_words}
+use Rattle.h2_explain_item.specs.declared.change.changes.ShownChange.{ShownChange}
+use Rattle.h2_explain_item.specs.declared.notes.StreamNote.{StreamNote}
+use Rattle.h2_explain_step.specs.Account.{ListsChanges}
 use Rattle.h2_explain_item.specs.declared.item.Explained.{Explained}
 use Rattle.h2_explain_item.specs.declared.item.Moment.{Moment}
+use Rattle.h2_explain_step.specs.declared.taking.Observed.{Observed}
 
 -- what is looked at of a state, with one of its streams
 abbrev pub moment_of : State → ℕ → Moment
@@ -63,7 +67,31 @@ pub record ExplainsItem (s : State) (b : List ℕ) (number offset : ℕ) (c : Co
   pub before_is : x.before ≡ moment_of s (stream_ahead s.core.phase b)
   pub after_is : x.after ≡ moment_of c.state (stream_ahead s.core.phase b)
 
--- the text of an item: a line of JSON, or its lines
-abbrev pub IsTextOf : (json color : Bool) → Explained → List ℕ → Type 0
-IsTextOf true color x t = EndsLine false t
-IsTextOf false color x t = (w : Words) × (t ≡ lines_of color x w)
+-- an item is what was observed of it: it has this number, this many octets came before it, it begins these octets, and these
+-- were sent for it
+pub record IsItemOf (o : Observed) (number offset : ℕ) (b sent : List ℕ) (x : Explained) : Type 0 where
+  pub number_is : x.number ≡ number
+  pub offset_is : x.offset ≡ offset
+  pub octets_is : x.octets.now ≡ take x.used b
+  pub ahead_is : x.ahead.now ≡ b
+  pub sent_is : x.sent.now ≡ sent
+  pub taken_is : report_in x ≡ o.taken
+  pub before_is : x.before ≡ o.before
+  pub after_is : x.after ≡ o.after
+
+-- what was observed of an item that was taken of octets: with what `out` gained for it, it is the next item
+abbrev pub Observes : State → List ℕ → (out out' : List ℕ) → Connection → Observed → Type 0
+Observes s b out out' c o =
+    (number offset : ℕ) → (x : Explained) → IsItemOf o number offset b (drop (length out) out') x → ExplainsItem s b number offset c x
+
+-- the text of an item with the lines of these changes: a line of JSON, or its lines, those of fields and of what changed only
+-- where it is not brief
+abbrev pub IsTextWith : (json color brief : Bool) → Explained → List ShownChange → List ℕ → Type 0
+IsTextWith true color brief x changes t = EndsLine false t
+IsTextWith false color brief x changes t = (w : Words) × (w.changes ≡ changes) × (t ≡ lines_of color x (shown_words brief w))
+
+-- the text of an item after which the connection is in this state, with the lines of what it changed: on the connection, on its
+-- stream, and on the streams that frames were sent on for it, since something was noted of them
+abbrev pub IsTextOf : (json color brief : Bool) → State → Explained → List ℕ → Type 0
+IsTextOf json color brief s x t =
+    (begun : ℕ) × (note : ℕ → Option StreamNote) × (changes : List ShownChange) × ListsChanges x s begun note changes × IsTextWith json color brief x changes t

@@ -1,6 +1,6 @@
-use Rattle.std.proofs.Common.{◌∙◌, Bool, ap, subst, sym}
+use Rattle.std.proofs.Common.{◌∙◌, Bool, ap, refl, subst, sym}
 use Rattle.std.proofs.lemmas.Result.{on_ok_weaker}
-use Rattle.h2_explain.specs.Explains.{IsShownText}
+use Rattle.h2_explain_step.specs.Explained.{IsTextWith}
 use Rattle.h2_explain_text.specs.Lines.{lines_of, shown_words, with_changes}
 use Rattle.h2_explain.proofs.run_explainer.put_text.Goals as goal
 
@@ -10,8 +10,9 @@ returns-else-form g c =
     let changes = c.fit.new.account.changes.items in
     let moved = c.fit.new.account.unshown.items in
     on_ok_weaker c.put.result
-    (λ h. subst (λ (b : Bool). IsShownText b c.args.form.color c.args.form.brief x c.put.new.self) (sym c.if-form.false) (
+    (λ h. subst (λ (b : Bool). IsTextWith b c.args.form.color c.args.form.brief x c.args.account.now.changes.items c.put.new.self) (sym c.if-form.false) (
       with_changes changes moved h.0,
-      h.1 ∙ ap (λ (b : Bool). lines_of c.args.form.color x (shown_words b (with_changes changes moved h.0))) c.fit.ensures,
+      rw c.fit.ensures.changes refl,
+      h.1 ∙ ap (λ (b : Bool). lines_of c.args.form.color x (shown_words b (with_changes changes moved h.0))) c.fit.ensures.brief,
     ))
     c.put.ensures
