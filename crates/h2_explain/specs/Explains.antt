@@ -14,7 +14,7 @@ use Rattle.h2_explain_item.specs.declared.item.Explained.{Explained}
 use Rattle.h2_explain_item.specs.declared.diagnosis.special.CaseFacts.{CaseFacts}
 use Rattle.h2_explain_item.specs.declared.diagnosis.warning.Warnings.{Warnings}
 use Rattle.h2_explain.specs.declared.verdict.ClientVerdict.{ClientVerdict}
-use Rattle.h2_explain.specs.Verdicts.{IsVerdict}
+use Rattle.h2_explain.specs.Verdicts.{IsVerdict, Tallied, verdict_at}
 use Rattle.h2_explain.specs.declared.run.ExplainFault.{ExplainFault}
 use Rattle.h2_explain.specs.declared.run.ExplainFault.TheVariants.{NoMemory, NotWritten}
 use Rattle.h2_explain.specs.declared.run.Form.{Form}
@@ -32,6 +32,16 @@ summary_over s octets verdict = summary_of (trace s octets) verdict
 -- what is summed up of a run
 abbrev pub IsSummary : State → List ℕ → Summary → Type 0
 IsSummary s octets summary = (summary ≡ summary_over s octets summary.verdict) × IsVerdict s octets summary.verdict
+
+-- what sums up a connection of which this was counted, in this state, after that many items, with that many octets left; where
+-- nobody is blamed since an item, what was counted is all that is said
+abbrev pub summary_since : (since : Option ℕ) → Tallied → State → (items left : ℕ) → Summary
+summary_since None t s items left = record { items = items; ended = option_map code_number (ended_code s.core.phase); verdict = verdict_at t s left }
+summary_since (Some since) t s items left = record {
+  items = items;
+  ended = None;
+  verdict = record { broken = t.broken; limited = t.limited; unfinished = false };
+}
 
 -- whether a write failed
 abbrev pub not_written : {A : Type 0} → Result A ExplainFault → Bool
@@ -57,6 +67,10 @@ is_notable x ws = is_some x.cause || (is_some x.ignored || nat_lt 0 (warning_cou
 -- whether an item with these warnings is shown
 abbrev pub shows_item : Form → Explained → Warnings → Bool
 shows_item form x ws = shows_stream form.stream (stream_in (head_in x.what)) && (not form.errors || is_notable x ws)
+
+-- whether the server's opening is shown: it belongs to the connection, and is no error
+abbrev pub shows_opening : Form → Bool
+shows_opening form = not form.errors && shows_stream form.stream 0
 
 -- the text of an item that is shown: a line of JSON, or its lines, those of fields and of what changed only where it is
 -- not brief

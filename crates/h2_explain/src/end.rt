@@ -9,12 +9,12 @@ ghost use Rattle.h2_explain_text.specs.Rest.{rest_of};
 
 use crate::run::Form;
 use crate::shown::{shows_opening, shows_stream};
-use crate::verdict::{Tally, is_answer_unfinished, verdict_at};
+use crate::verdict::{Tally, is_answer_unfinished, summary_since};
 use crate::verdict_words::{put_verdict, say_tally};
 use h2_conn::{Conn, is_ended};
 use h2_explain_item::diagnosis::warning::{Warning, Warnings, all_warnings, is_unacknowledged};
 use h2_explain_json::end::{put_end, put_wait};
-use h2_explain_json::json::{line_of, put_opening};
+use h2_explain_json::json::{Aside, Unjudged, line_of, put_opening};
 use h2_explain_json::json_words::JsonWords;
 use h2_explain_json::member;
 use h2_explain_json::warnings::put_warnings;
@@ -27,7 +27,7 @@ use h2_io::{say_all, string_of, texts};
 use std::alloc::{AllocError, Allocator};
 
 /// What is after the last item of a connection that had that many items; `offset` is how many octets came before these.
-pub(crate) fn rest_of<A: Allocator + Copy>(
+pub fn rest_of<A: Allocator + Copy>(
     conn: &Conn<'_, A>,
     items: u64,
     offset: usize,
@@ -45,17 +45,19 @@ pub(crate) fn rest_of<A: Allocator + Copy>(
 }
 
 /// What the end of an explanation is made from.
-pub(crate) struct End<'e, 'b, A: Allocator> {
+pub struct End<'e, 'b, A: Allocator> {
     /// Whether it is written as text or as JSON.
-    pub(crate) form: Form,
+    pub form: Form,
     /// The connection after its last item.
-    pub(crate) conn: &'e Conn<'b, A>,
+    pub conn: &'e Conn<'b, A>,
     /// What was known after the last item.
-    pub(crate) explainer: &'e ItemExplainer<A>,
+    pub explainer: &'e ItemExplainer<A>,
     /// The errors and warnings of the items.
-    pub(crate) tally: &'e Tally<A>,
+    pub tally: &'e Tally<A>,
     /// What is after the last item.
-    pub(crate) rest: InputRest,
+    pub rest: InputRest,
+    /// The number of the item since which nobody is blamed, if there is one: a script has spoken there.
+    pub since: Option<u64>,
 }
 
 /// By hand, since a derived `clone` copies field by field.
@@ -72,8 +74,11 @@ impl<A: Allocator> Clone for End<'_, '_, A> {
 impl<A: Allocator> Copy for End<'_, '_, A> {}
 
 impl<A: Allocator + Copy> End<'_, '_, A> {
-    /// The warnings of the end.
+    /// The warnings of the end; none where nobody is blamed.
     fn warnings(&self) -> Warnings {
+        if self.since.is_some() {
+            return Warnings::none();
+        }
         Warnings {
             unacknowledged: is_unacknowledged(&self.conn.counts()),
             answer_unfinished: is_answer_unfinished(self.conn),
@@ -137,6 +142,9 @@ impl<A: Allocator + Copy> End<'_, '_, A> {
             self.begin(out);
             let warnings = self.warning_count();
             say_tally(self.rest.items, self.tally, warnings, out);
+            if let Some(since) = self.since {
+                say_all!(out; "; not judged, the script has spoken since #", since);
+            }
         }
     }
 
@@ -189,8 +197,22 @@ impl<A: Allocator + Copy> End<'_, '_, A> {
     /// Puts what is said about the client.
     fn put_verdict(&self, out: &mut JsonWords<A>) {
         if self.form.strict {
-            let verdict = verdict_at(self.tally, self.conn, self.rest.octets);
-            put_verdict(self.tally, verdict, self.warning_count(), out);
+            let (items, left) = (self.rest.items, self.rest.octets);
+            let summary = summary_since(self.conn, self.tally, items, left, self.since);
+            put_verdict(self.tally, summary.verdict, self.warning_count(), out);
+        }
+    }
+
+    /// That the end is not judged, where it is not.
+    fn unjudged(&self) -> Option<Unjudged> {
+        match self.since {
+            None => None,
+            Some(since) => Some(Unjudged {
+                since,
+                cause: None,
+                is_connection: false,
+                ignored: None,
+            }),
         }
     }
 
@@ -199,10 +221,10 @@ impl<A: Allocator + Copy> End<'_, '_, A> {
         ensures { IfOk result (λ text. EndsLine false (string_bytes text)) }
     {
         let mut out = JsonWords::over(TextBuilder::new(alloc));
-        put_opening(opening, self.form.brief, &mut out);
+        put_opening(opening, Aside::none(), self.form.brief, &mut out);
         out.open_element();
         out.open(member!("end"));
-        put_end(self.rest, &mut out);
+        put_end(self.rest, self.unjudged(), &mut out);
         self.put_verdict(&mut out);
         self.put_waits(&mut out);
         put_warnings(self.warnings(), &mut out);
@@ -211,16 +233,25 @@ impl<A: Allocator + Copy> End<'_, '_, A> {
         line_of(out)
     }
 
-    /// The end in the form that is asked for.
+    /// The end in the form that is asked for; before it, where no item came, the server's opening, if it is given.
+    ///
+    /// `AllocError` where memory is refused.
+    pub fn said_after(&self, alloc: A, opening: &[u8]) -> Result<String<A>, AllocError>
+        ensures { IfOk result (λ text. IsRestText self.now.form self.now.rest.items self.now.rest.octets (string_bytes text)) }
+    {
+        if self.form.json {
+            self.json(alloc, opening)
+        } else {
+            self.text(alloc, opening)
+        }
+    }
+
+    /// The end in the form that is asked for; before it, where no item came, the server's opening, if it is shown.
     pub(crate) fn said(&self, alloc: A) -> Result<String<A>, AllocError>
         ensures { IfOk result (λ text. IsRestText self.now.form self.now.rest.items self.now.rest.octets (string_bytes text)) }
     {
         let is_asked = self.rest.items == 0 && shows_opening(self.form);
         let opening = opening_of(alloc, self.conn, is_asked)?;
-        if self.form.json {
-            self.json(alloc, opening.as_slice())
-        } else {
-            self.text(alloc, opening.as_slice())
-        }
+        self.said_after(alloc, opening.as_slice())
     }
 }
