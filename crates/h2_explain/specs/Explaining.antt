@@ -90,7 +90,7 @@ IsPieceCutShort e s piece text = IsCutShort e s (e.held.items ++ piece) text
 
 -- the text of the end in this state, after the items that were explained
 abbrev pub IsEndText : {A : Type 0} → RunExplainer A → State → List ℕ → Type 0
-IsEndText e s text = IsRestText e.form s e.items e.tally (length e.held.items + e.late) text
+IsEndText e s text = IsRestText None e.form s e.items e.tally (length e.held.items + e.late) text
 
 -- octets after the end are counted, and none are held
 pub record PassesBy {A : Type 0} (e : RunExplainer A) (more : ℕ) (e' : RunExplainer A) : Type 0 where

@@ -15,7 +15,7 @@ use Rattle.h2_explain_item.specs.declared.diagnosis.special.CaseFacts.{CaseFacts
 use Rattle.h2_explain_item.specs.declared.diagnosis.warning.Warnings.{Warnings}
 use Rattle.h2_explain.specs.declared.verdict.ClientVerdict.{ClientVerdict}
 use Rattle.h2_explain.specs.TallyWords.{EndsWithTally}
-use Rattle.h2_explain.specs.Verdicts.{IsVerdict, Tallied, TalliesItem, no_tally}
+use Rattle.h2_explain.specs.Verdicts.{IsVerdict, Tallied, TalliesItem, no_tally, verdict_at}
 use Rattle.h2_explain.specs.declared.run.ExplainFault.{ExplainFault}
 use Rattle.h2_explain.specs.declared.run.ExplainFault.TheVariants.{NoMemory, NotWritten}
 use Rattle.h2_explain.specs.declared.run.Form.{Form}
@@ -33,6 +33,16 @@ summary_over s octets verdict = summary_of (trace s octets) verdict
 -- what is summed up of a run
 abbrev pub IsSummary : State → List ℕ → Summary → Type 0
 IsSummary s octets summary = (summary ≡ summary_over s octets summary.verdict) × IsVerdict s octets summary.verdict
+
+-- what sums up a connection of which this was counted, in this state, after that many items, with that many octets left; where
+-- nobody is blamed since an item, what was counted is all that is said
+abbrev pub summary_since : (since : Option ℕ) → Tallied → State → (items left : ℕ) → Summary
+summary_since None t s items left = record { items = items; ended = option_map code_number (ended_code s.core.phase); verdict = verdict_at t s left }
+summary_since (Some since) t s items left = record {
+  items = items;
+  ended = None;
+  verdict = record { broken = t.broken; limited = t.limited; unfinished = false };
+}
 
 -- whether a write failed
 abbrev pub not_written : {A : Type 0} → Result A ExplainFault → Bool
@@ -59,6 +69,10 @@ is_notable x ws = is_some x.cause || (is_some x.ignored || nat_lt 0 (warning_cou
 abbrev pub shows_item : Form → Explained → Warnings → Bool
 shows_item form x ws = shows_stream form.stream (stream_in (head_in x.what)) && (not form.errors || is_notable x ws)
 
+-- whether the server's opening is shown: it belongs to the connection, and is no error
+abbrev pub shows_opening : Form → Bool
+shows_opening form = not form.errors && shows_stream form.stream 0
+
 -- the text of an item, after which the connection is in this state, where it is shown; else nothing
 abbrev pub IsTextIf : Bool → Form → State → Explained → List ℕ → Type 0
 IsTextIf false form s x t = t ≡ []
@@ -73,25 +87,25 @@ abbrev pub EndsLineOrNone : (color : Bool) → List ℕ → Type 0
 EndsLineOrNone color t = (t ≡ []) ⊎ EndsLine color t
 
 -- the lines of warnings, of live streams, where there are any, and of `--strict`, which is the last
-abbrev pub AreEndLines : (strict color : Bool) → State → (items : ℕ) → Tallied → List ℕ → Type 0
-AreEndLines false color s items tally t = EndsLineOrNone color t
-AreEndLines true color s items tally t = EndsWithTally color s items tally t
+abbrev pub AreEndLines : (since : Option ℕ) → (strict color : Bool) → State → (items : ℕ) → Tallied → List ℕ → Type 0
+AreEndLines since false color s items tally t = EndsLineOrNone color t
+AreEndLines since true color s items tally t = EndsWithTally since color s items tally t
 
 -- the text after that many items, of which this was counted, in this state: lines where octets are left or none came, and then
 -- those; in JSON always a line
-abbrev pub IsRestOf : (json strict color : Bool) → State → (items : ℕ) → Tallied → (left : ℕ) → List ℕ → Type 0
-IsRestOf true strict color s items tally left t = EndsLine false t
-IsRestOf false strict color s items tally left t =
-    (rest lines : List ℕ) × (t ≡ rest ++ lines) × EndsLineIf (is_said items left) color rest × AreEndLines strict color s items tally lines
+abbrev pub IsRestOf : (since : Option ℕ) → (json strict color : Bool) → State → (items : ℕ) → Tallied → (left : ℕ) → List ℕ → Type 0
+IsRestOf since true strict color s items tally left t = EndsLine false t
+IsRestOf since false strict color s items tally left t =
+    (rest lines : List ℕ) × (t ≡ rest ++ lines) × EndsLineIf (is_said items left) color rest × AreEndLines since strict color s items tally lines
 
-abbrev pub IsRestText : Form → State → (items : ℕ) → Tallied → (left : ℕ) → List ℕ → Type 0
-IsRestText form s items tally left t = IsRestOf form.json form.strict form.color s items tally left t
+abbrev pub IsRestText : (since : Option ℕ) → Form → State → (items : ℕ) → Tallied → (left : ℕ) → List ℕ → Type 0
+IsRestText since form s items tally left t = IsRestOf since form.json form.strict form.color s items tally left t
 
 -- how an explanation ends after that many items, of which this was counted, where these octets are left: it is cut short, as
 -- memory was refused; or there is no item more
 abbrev pub Ends : Form → (cut : Bool) → State → List ℕ → (items : ℕ) → Tallied → List ℕ → Type 0
 Ends form true s b items tally t = t ≡ []
-Ends form false s b items tally t = (next_event s b ≡ Stop) × IsRestText form s items tally (length b) t
+Ends form false s b items tally t = (next_event s b ≡ Stop) × IsRestText None form s items tally (length b) t
 
 -- the texts of these items, one after another, each of which the connection takes after the others; that many items
 -- came before them, of which this was counted, and that many octets

@@ -10,12 +10,12 @@ ghost use Rattle.h2_explain_text.specs.Rest.{rest_of};
 
 use crate::run::Form;
 use crate::shown::{shows_opening, shows_stream};
-use crate::verdict::{Tally, is_answer_unfinished, verdict_at};
+use crate::verdict::{Tally, is_answer_unfinished, summary_since};
 use crate::verdict_words::{TallyWords, by_cause, put_verdict};
 use h2_conn::{Conn, is_ended};
 use h2_explain_item::diagnosis::warning::{Warning, Warnings, all_warnings, is_unacknowledged};
 use h2_explain_json::end::{put_end, put_wait};
-use h2_explain_json::json::{line_of, put_opening};
+use h2_explain_json::json::{Aside, Unjudged, line_of, put_opening};
 use h2_explain_json::json_words::JsonWords;
 use h2_explain_json::member;
 use h2_explain_json::warnings::put_warnings;
@@ -28,7 +28,7 @@ use h2_io::{say_all, string_of, texts};
 use std::alloc::{AllocError, Allocator};
 
 /// What is after the last item of a connection that had that many items; `offset` is how many octets came before these.
-pub(crate) fn rest_of<A: Allocator + Copy>(
+pub fn rest_of<A: Allocator + Copy>(
     conn: &Conn<'_, A>,
     items: u64,
     offset: usize,
@@ -46,17 +46,19 @@ pub(crate) fn rest_of<A: Allocator + Copy>(
 }
 
 /// What the end of an explanation is made from.
-pub(crate) struct End<'e, 'b, A: Allocator> {
+pub struct End<'e, 'b, A: Allocator> {
     /// Whether it is written as text or as JSON.
-    pub(crate) form: Form,
+    pub form: Form,
     /// The connection after its last item.
-    pub(crate) conn: &'e Conn<'b, A>,
+    pub conn: &'e Conn<'b, A>,
     /// What was known after the last item.
-    pub(crate) explainer: &'e ItemExplainer<A>,
+    pub explainer: &'e ItemExplainer<A>,
     /// The errors and warnings of the items.
-    pub(crate) tally: &'e Tally<A>,
+    pub tally: &'e Tally<A>,
     /// What is after the last item.
-    pub(crate) rest: InputRest,
+    pub rest: InputRest,
+    /// The number of the item since which nobody is blamed, if there is one: a script has spoken there.
+    pub since: Option<u64>,
 }
 
 /// By hand, since a derived `clone` copies field by field.
@@ -73,8 +75,11 @@ impl<A: Allocator> Clone for End<'_, '_, A> {
 impl<A: Allocator> Copy for End<'_, '_, A> {}
 
 impl<A: Allocator + Copy> End<'_, '_, A> {
-    /// The warnings of the end.
+    /// The warnings of the end; none where nobody is blamed.
     fn warnings(&self) -> Warnings {
+        if self.since.is_some() {
+            return Warnings::none();
+        }
         Warnings {
             unacknowledged: is_unacknowledged(&self.conn.counts()),
             answer_unfinished: is_answer_unfinished(self.conn),
@@ -84,15 +89,16 @@ impl<A: Allocator + Copy> End<'_, '_, A> {
 
     /// How many warnings there were in all.
     fn warning_count(&self) -> u64
-        ensures { result ≡ all_warnings self.now.tally.now self.now.conn.now.state }
+        ensures { result ≡ all_warnings self.now.since self.now.tally.now self.now.conn.now.state }
     {
         let of_the_end = match (
+            self.since,
             is_unacknowledged(&self.conn.counts()),
             is_answer_unfinished(self.conn),
         ) {
-            (true, true) => 2,
-            (true, false) | (false, true) => 1,
-            (false, false) => 0,
+            (Some(_), _, _) | (None, false, false) => 0,
+            (None, true, false) | (None, false, true) => 1,
+            (None, true, true) => 2,
         };
         let tally = self.tally;
         tally.warnings.saturating_add(of_the_end)
@@ -155,7 +161,7 @@ impl<A: Allocator + Copy> End<'_, '_, A> {
 
     /// These words and those of the tally, as lines.
     fn with_tally(&self, alloc: A, words: &str) -> Result<String<A>, AllocError>
-        ensures { IfOk result (λ text. EndsWithTally self.now.form.color self.now.conn.now.state self.now.rest.items self.now.tally.now (string_bytes text)) }
+        ensures { IfOk result (λ text. EndsWithTally self.now.since self.now.form.color self.now.conn.now.state self.now.rest.items self.now.tally.now (string_bytes text)) }
     {
         let tally = self.tally;
         let by_cause = by_cause(alloc, tally.errors.as_slice())?;
@@ -164,13 +170,14 @@ impl<A: Allocator + Copy> End<'_, '_, A> {
             errors: tally.errors.len() as u64,
             warnings: self.warning_count(),
             by_cause: by_cause.as_str(),
+            since: self.since,
         };
         string_of(alloc, &texts!(words, said, Paint(self.form.color).ended()))
     }
 
     /// The lines after that of the octets that are left.
     fn lines(&self, alloc: A) -> Result<String<A>, AllocError>
-        ensures { IfOk result (λ text. AreEndLines self.now.form.strict self.now.form.color self.now.conn.now.state self.now.rest.items self.now.tally.now (string_bytes text)) }
+        ensures { IfOk result (λ text. AreEndLines self.now.since self.now.form.strict self.now.form.color self.now.conn.now.state self.now.rest.items self.now.tally.now (string_bytes text)) }
     {
         let words = self.words(alloc)?;
         if self.form.strict {
@@ -185,7 +192,7 @@ impl<A: Allocator + Copy> End<'_, '_, A> {
 
     /// The text, with the line of the octets that are left; before it, where no item came, the server's opening.
     fn text(&self, alloc: A, opening: &[u8]) -> Result<String<A>, AllocError>
-        ensures { IfOk result (λ text. IsRestOf false self.now.form.strict self.now.form.color self.now.conn.now.state self.now.rest.items self.now.tally.now self.now.rest.octets (string_bytes text)) }
+        ensures { IfOk result (λ text. IsRestOf self.now.since false self.now.form.strict self.now.form.color self.now.conn.now.state self.now.rest.items self.now.tally.now self.now.rest.octets (string_bytes text)) }
     {
         let rest = rest_line(alloc, self.rest, opening, Paint(self.form.color))?;
         let lines = self.lines(alloc)?;
@@ -211,8 +218,22 @@ impl<A: Allocator + Copy> End<'_, '_, A> {
     /// Puts what is said about the client.
     fn put_verdict(&self, out: &mut JsonWords<A>) {
         if self.form.strict {
-            let verdict = verdict_at(self.tally, self.conn, self.rest.octets);
-            put_verdict(self.tally, verdict, self.warning_count(), out);
+            let (items, left) = (self.rest.items, self.rest.octets);
+            let summary = summary_since(self.conn, self.tally, items, left, self.since);
+            put_verdict(self.tally, summary.verdict, self.warning_count(), out);
+        }
+    }
+
+    /// That the end is not judged, where it is not.
+    fn unjudged(&self) -> Option<Unjudged> {
+        match self.since {
+            None => None,
+            Some(since) => Some(Unjudged {
+                since,
+                cause: None,
+                is_connection: false,
+                ignored: None,
+            }),
         }
     }
 
@@ -221,10 +242,10 @@ impl<A: Allocator + Copy> End<'_, '_, A> {
         ensures { IfOk result (λ text. EndsLine false (string_bytes text)) }
     {
         let mut out = JsonWords::over(TextBuilder::new(alloc));
-        put_opening(opening, self.form.brief, &mut out);
+        put_opening(opening, Aside::none(), self.form.brief, &mut out);
         out.open_element();
         out.open(member!("end"));
-        put_end(self.rest, &mut out);
+        put_end(self.rest, self.unjudged(), &mut out);
         self.put_verdict(&mut out);
         self.put_waits(&mut out);
         put_warnings(self.warnings(), &mut out);
@@ -233,16 +254,25 @@ impl<A: Allocator + Copy> End<'_, '_, A> {
         line_of(out)
     }
 
-    /// The end in the form that is asked for.
+    /// The end in the form that is asked for; before it, where no item came, the server's opening, if it is given.
+    ///
+    /// `AllocError` where memory is refused.
+    pub fn said_after(&self, alloc: A, opening: &[u8]) -> Result<String<A>, AllocError>
+        ensures { IfOk result (λ text. IsRestText self.now.since self.now.form self.now.conn.now.state self.now.rest.items self.now.tally.now self.now.rest.octets (string_bytes text)) }
+    {
+        if self.form.json {
+            self.json(alloc, opening)
+        } else {
+            self.text(alloc, opening)
+        }
+    }
+
+    /// The end in the form that is asked for; before it, where no item came, the server's opening, if it is shown.
     pub(crate) fn said(&self, alloc: A) -> Result<String<A>, AllocError>
-        ensures { IfOk result (λ text. IsRestText self.now.form self.now.conn.now.state self.now.rest.items self.now.tally.now self.now.rest.octets (string_bytes text)) }
+        ensures { IfOk result (λ text. IsRestText self.now.since self.now.form self.now.conn.now.state self.now.rest.items self.now.tally.now self.now.rest.octets (string_bytes text)) }
     {
         let is_asked = self.rest.items == 0 && shows_opening(self.form);
         let opening = opening_of(alloc, self.conn, is_asked)?;
-        if self.form.json {
-            self.json(alloc, opening.as_slice())
-        } else {
-            self.text(alloc, opening.as_slice())
-        }
+        self.said_after(alloc, opening.as_slice())
     }
 }

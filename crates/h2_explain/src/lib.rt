@@ -13,6 +13,7 @@ mod shown;
 mod verdict;
 mod verdict_words;
 
+pub use end::{End, rest_of};
 pub use h2_explain_item::change::changes::{ShownChange, UnshownChange};
 pub use h2_explain_item::change::count::Count;
 pub use h2_explain_item::change::header_table::{EntryChange, Followed, ShownEntry};
@@ -28,5 +29,6 @@ pub use h2_explain_text::waits::{AnswerWait, RequestWait, Wait};
 pub use item_outbox::ItemOutbox;
 pub use recorder::{NoRecord, Recorder};
 pub use run::{ExplainFault, Form, Summary, explain};
-pub use run_explainer::RunExplainer;
-pub use verdict::{ClientVerdict, Tally};
+pub use run_explainer::{RunExplainer, put_text};
+pub use shown::{shows_item, shows_opening};
+pub use verdict::{ClientVerdict, Tally, summary_since};

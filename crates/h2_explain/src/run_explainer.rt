@@ -1,19 +1,17 @@
 //! A connection that is explained while its octets come: each item is explained as soon as its last octet is there, and
 //! the octets of an item that is not whole are held (RFC 9113, 3.4). Definitions: `specs/Explaining.antt`.
 
-ghost use Rattle.std.specs.Prelude.{◌≡◌, ◌<◌, ◌≤◌, ◌+◌, ◌^◌, ◌++◌, ℕ, List, [], true, false, drop, length, option_map, IfErr, IfOk, OnErr, OnOk, is_err};
+ghost use Rattle.std.specs.Prelude.{◌≡◌, ◌<◌, ◌≤◌, ◌+◌, ◌^◌, ◌++◌, ℕ, List, [], true, false, drop, length, IfErr, IfOk, OnErr, OnOk, is_err};
 ghost use Rattle.std.specs.String.{string_bytes};
 ghost use Rattle.std.specs.Io.KnownBytes.{Appends};
 ghost use Rattle.h2_explain_text.specs.Lines.{EndsLine};
-ghost use Rattle.h2_spec.specs.Causes.Errors.{code_number};
-ghost use Rattle.h2_spec.specs.State.{ended_code};
 ghost use Rattle.h2_conn.specs.Connection.{going, halted};
 ghost use Rattle.h2_conn.specs.First.{TakesIfAny};
 ghost use Rattle.h2_conn.specs.Runs.{Fed, Halted, Halts, Ran};
 ghost use Rattle.h2_explain.specs.Explaining.{BeginsRead, EndsAs, ExplainsAll, GoesOn, Handles, HasGained, HasRoom, IsCutShort, IsEndText, IsNew, IsPieceCutShort, IsSummed, PassesBy, SaysOf, SaysSome, StopsAt, TakesIfThere};
 ghost use Rattle.h2_explain.specs.Explains.{Gains, IsItemText, IsWritten, not_written};
 ghost use Rattle.h2_explain_step.specs.Explained.{IsTextWith};
-ghost use Rattle.h2_explain.specs.Verdicts.{TalliesItem, verdict_at};
+ghost use Rattle.h2_explain.specs.Verdicts.{TalliesItem};
 ghost use Rattle.h2_explain.specs.declared.run.ExplainFault.TheVariants as faults;
 
 use crate::end::{End, rest_of};
@@ -22,11 +20,11 @@ use crate::portion::portion_of;
 use crate::recorder::Recorder;
 use crate::run::{ExplainFault, Form, Summary};
 use crate::shown::{shows_item, shows_opening};
-use crate::verdict::{Tally, verdict_at};
+use crate::verdict::{Tally, summary_since};
 use h2_conn::{Conn, is_ended};
 use h2_explain_item::item::Explained;
 use h2_explain_item::shown_block::ShownBlock;
-use h2_explain_json::json::json_of;
+use h2_explain_json::json::{Aside, json_of};
 use h2_explain_step::explainer::ItemExplainer;
 use h2_explain_step::taking::take_item;
 use h2_explain_text::account::Account;
@@ -77,12 +75,13 @@ fn put_json<A: Allocator + Copy>(
     item: &Explained<'_>,
     account: &Account<A>,
     block: ShownBlock<'_, A>,
+    aside: Aside<'_>,
     lines: &mut ItemLines<A>,
 ) -> Result<(), AllocError>
     ensures { OnOk result (EndsLine false lines.new) }
 {
     let memory = lines.take(alloc);
-    lines.set(json_of(memory, item, account, block)?);
+    lines.set(json_of(memory, item, account, block, aside)?);
     Ok(())
 }
 
@@ -97,21 +96,25 @@ fn fit<A: Allocator>(form: Form, account: &mut Account<A>)
     account.is_brief = form.brief;
 }
 
-/// Puts the text of an item that is shown in the place of that before.
+/// Puts the text of an item that is shown in the place of that before; `block` has the fields of its block. What a script makes
+/// of it is part of its line of JSON, and of no text.
+///
+/// `AllocError` where memory is refused.
 #[inline(always)]
-fn put_text<A: Allocator + Copy>(
+pub fn put_text<A: Allocator + Copy>(
     alloc: A,
     form: Form,
     item: &Explained<'_>,
     account: &mut Account<A>,
     block: ShownBlock<'_, A>,
+    aside: Aside<'_>,
     lines: &mut ItemLines<A>,
 ) -> Result<(), AllocError>
     ensures { OnOk result (IsTextWith form.json form.color form.brief item.now account.old.changes.items lines.new) }
 {
     fit(form, account);
     if form.json {
-        put_json(alloc, item, account, block, lines)
+        put_json(alloc, item, account, block, aside, lines)
     } else {
         lines.put(item, account, block, Paint(form.color))
     }
@@ -135,7 +138,8 @@ fn make_text<A: Allocator + Copy>(
     explainer.account(alloc, conn, item, account)?;
     tally.note(item, account.facts, account.warnings)?;
     if shows_item(form, item, account.warnings) {
-        put_text(alloc, form, item, account, explainer.block(conn), lines)
+        let block = explainer.block(conn);
+        put_text(alloc, form, item, account, block, Aside::none(), lines)
     } else {
         lines.clear();
         Ok(())
@@ -186,24 +190,6 @@ fn without_front<A: Allocator>(octets: Vec<u8, A>, count: usize) -> Vec<u8, A>
     octets.rotate_left(count);
     octets.truncate(len - count);
     octets
-}
-
-/// What is summed up of a connection that had this many items, with this many octets left.
-fn summary_of<A: Allocator + Copy>(
-    conn: &Conn<'_, A>,
-    tally: &Tally<A>,
-    items: u64,
-    left: usize,
-) -> Summary
-    ensures items { result.items ≡ items }
-    ensures ended { result.ended ≡ option_map code_number (ended_code conn.now.state.core.phase) }
-    ensures verdict { result.verdict ≡ verdict_at tally.now conn.now.state left }
-{
-    Summary {
-        items,
-        ended: conn.ended(),
-        verdict: verdict_at(tally, conn, left),
-    }
 }
 
 /// An explanation of a connection whose octets come piece by piece.
@@ -548,6 +534,7 @@ impl<A: Allocator + Copy> RunExplainer<A> {
             explainer: &self.explainer,
             tally: &self.tally,
             rest,
+            since: None,
         };
         end.said(alloc)
     }
@@ -598,7 +585,7 @@ impl<A: Allocator + Copy> RunExplainer<A> {
         ensures { IsSummed conn.now self.now result }
     {
         let left = self.held.len() + self.late;
-        summary_of(conn, &self.tally, self.items, left)
+        summary_since(conn, &self.tally, self.items, left, None)
     }
 
     /// Explains the end as `end` does, and sums the connection up.

@@ -4,7 +4,7 @@
 ghost use Rattle.std.specs.Prelude.{◌≡◌};
 ghost use Rattle.h2_explain_item.specs.Item.{head_in};
 ghost use Rattle.h2_explain_step.specs.Explained.{stream_in};
-ghost use Rattle.h2_explain.specs.Explains.{is_notable, shows_item, shows_stream};
+ghost use Rattle.h2_explain.specs.Explains.{is_notable, shows_item, shows_opening, shows_stream};
 
 use crate::run::Form;
 use h2_explain_item::diagnosis::warning::Warnings;
@@ -31,7 +31,9 @@ fn stream_of(item: &Explained<'_>) -> u32
 }
 
 /// Whether the server's opening is shown: it belongs to the connection, and is no error.
-pub(crate) fn shows_opening(form: Form) -> bool {
+pub fn shows_opening(form: Form) -> bool
+    ensures { result ≡ shows_opening form }
+{
     !form.errors && shows_stream(form.stream, 0)
 }
 
@@ -43,7 +45,7 @@ fn is_notable(item: &Explained<'_>, warnings: Warnings) -> bool
 }
 
 /// Whether an item with these warnings is shown.
-pub(crate) fn shows_item(form: Form, item: &Explained<'_>, warnings: Warnings) -> bool
+pub fn shows_item(form: Form, item: &Explained<'_>, warnings: Warnings) -> bool
     ensures { result ≡ shows_item form item.now warnings }
 {
     shows_stream(form.stream, stream_of(item)) && (!form.errors || is_notable(item, warnings))

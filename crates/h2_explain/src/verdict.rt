@@ -2,8 +2,10 @@
 //! comes of them. Definitions: `specs/Verdicts.antt`.
 
 ghost use Rattle.std.specs.Prelude.{◌≡◌, ◌==◌, false, OnOk};
+ghost use Rattle.h2_explain.specs.Explains.{summary_since};
 ghost use Rattle.h2_explain.specs.Verdicts.{is_answer_unfinished, is_limit, no_tally, strict_status, tally_with, verdict_at, breaks_rule};
 
+use crate::run::Summary;
 use h2_conn::{Conn, is_ended};
 use h2_explain_item::diagnosis::special::CaseFacts;
 use h2_explain_item::diagnosis::warning::{Warnings, duty_of_error, duty_of_reason, is_breach};
@@ -57,7 +59,7 @@ fn breaks_rule(item: &Explained<'_>, facts: CaseFacts, warnings: Warnings) -> bo
 
 impl<A: Allocator> Tally<A> {
     /// Nothing was counted. Takes no memory.
-    pub(crate) fn new(alloc: A) -> Tally<A>
+    pub fn new(alloc: A) -> Tally<A>
         ensures { result ≡ no_tally }
     {
         Tally {
@@ -71,7 +73,7 @@ impl<A: Allocator> Tally<A> {
     /// Counts an item with its warnings; `facts` decide the special case of its rule.
     ///
     /// `AllocError` where memory is refused.
-    pub(crate) fn note(
+    pub fn note(
         &mut self,
         item: &Explained<'_>,
         facts: CaseFacts,
@@ -143,5 +145,34 @@ pub(crate) fn verdict_at<A: Allocator + Copy>(
         broken: tally.broken,
         limited: tally.limited,
         unfinished: (left > 0 && !is_ended(counts.phase)) || is_answer_unfinished(conn),
+    }
+}
+
+/// What sums up a connection that had this many items, with this many octets left. Where nobody is blamed since an item, what was
+/// counted before is all that is said.
+pub fn summary_since<A: Allocator + Copy>(
+    conn: &Conn<'_, A>,
+    tally: &Tally<A>,
+    items: u64,
+    left: usize,
+    since: Option<u64>,
+) -> Summary
+    ensures { result ≡ summary_since since tally.now conn.now.state items left }
+{
+    match since {
+        None => Summary {
+            items,
+            ended: conn.ended(),
+            verdict: verdict_at(tally, conn, left),
+        },
+        Some(_) => Summary {
+            items,
+            ended: None,
+            verdict: ClientVerdict {
+                broken: tally.broken,
+                limited: tally.limited,
+                unfinished: false,
+            },
+        },
     }
 }

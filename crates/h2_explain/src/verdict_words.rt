@@ -1,7 +1,7 @@
 //! What `--strict` says at the end, as a line of text and as JSON: how many items there were, the errors by cause, and
 //! how many warnings. Definitions of the line: `specs/TallyWords.antt`, the form: docs/EXPLAIN.md.
 
-ghost use Rattle.h2_explain.specs.TallyWords.{number_of, tally_words};
+ghost use Rattle.h2_explain.specs.TallyWords.{number_of, since_words, tally_words};
 
 use crate::verdict::{ClientVerdict, Tally};
 use h2_explain_json::json_words::JsonWords;
@@ -73,6 +73,25 @@ pub(crate) fn by_cause<A: Allocator>(alloc: A, errors: &[Cause]) -> Result<Strin
     out.finish()
 }
 
+/// That nobody is blamed since an item, if it is so.
+#[derive(Clone, Copy)]
+struct SinceWords(Option<u64>);
+
+#[tactic(auto, unfolding(crate::specs::TallyWords::since_words))]
+impl Text for SinceWords {
+    ghost text = { λ s. since_words s.0 };
+
+    fn write_to<O: Output>(&self, output: &mut O) -> Result<(), DeviceFault> {
+        match self.0 {
+            None => texts!("").write_to(output),
+            Some(since) => {
+                let number = Number(since);
+                texts!("; not judged, the script has spoken since #", number).write_to(output)
+            }
+        }
+    }
+}
+
 /// How many items there were, their errors, and how many warnings, with those of the end.
 #[derive(Clone, Copy)]
 pub(crate) struct TallyWords<'w> {
@@ -84,16 +103,18 @@ pub(crate) struct TallyWords<'w> {
     pub(crate) warnings: u64,
     /// How many errors each cause has, in words.
     pub(crate) by_cause: &'w str,
+    /// The item since which nobody is blamed, if there is one.
+    pub(crate) since: Option<u64>,
 }
 
 #[tactic(auto, unfolding(crate::specs::TallyWords::tally_words))]
 impl Text for TallyWords<'_> {
-    ghost text = { λ t. tally_words t.items t.errors t.warnings t.by_cause.now };
+    ghost text = { λ t. tally_words t.since t.items t.errors t.warnings t.by_cause.now };
 
     fn write_to<O: Output>(&self, output: &mut O) -> Result<(), DeviceFault> {
         let (items, errors) = (NumberOf(self.items, "item"), NumberOf(self.errors, "error"));
-        let warnings = NumberOf(self.warnings, "warning");
-        texts!(items, ", ", errors, self.by_cause, ", ", warnings).write_to(output)
+        let (warnings, since) = (NumberOf(self.warnings, "warning"), SinceWords(self.since));
+        texts!(items, ", ", errors, self.by_cause, ", ", warnings, since).write_to(output)
     }
 }
 

@@ -1,7 +1,7 @@
 //! What is after the last item as JSON, and what each live stream waits for there. The members are described in
 //! docs/EXPLAIN.md.
 
-use crate::json::put_head;
+use crate::json::{Unjudged, put_head, put_unjudged};
 use crate::json_words::JsonWords;
 use crate::member;
 use h2_explain_text::rest::{InputRest, Missing};
@@ -16,8 +16,8 @@ fn put_cut_frame<A: Allocator>(missing: Missing, out: &mut JsonWords<A>) {
     }
 }
 
-/// Puts what is after the last item in.
-pub fn put_end<A: Allocator>(rest: InputRest, out: &mut JsonWords<A>) {
+/// Puts what is after the last item in, and that it is not judged, where it is not.
+pub fn put_end<A: Allocator>(rest: InputRest, unjudged: Option<Unjudged>, out: &mut JsonWords<A>) {
     match rest.ended {
         Some(code) => out.number(member!("code"), u64::from(code)),
         None => out.flag(member!("at_least"), rest.missing.at_least),
@@ -30,6 +30,7 @@ pub fn put_end<A: Allocator>(rest: InputRest, out: &mut JsonWords<A>) {
     if rest.ended.is_none() {
         out.number(member!("needs"), rest.missing.needs as u64);
     }
+    put_unjudged(unjudged, out);
     out.number(member!("octets"), rest.octets as u64);
     out.number(member!("offset"), rest.offset as u64);
 }

@@ -268,11 +268,43 @@ fn put_frames<A: Allocator>(octets: &[u8], is_brief: bool, out: &mut JsonWords<A
     }
 }
 
-/// The frames that were sent, in their order.
-fn put_sent<A: Allocator>(octets: &[u8], is_brief: bool, out: &mut JsonWords<A>) {
-    out.open_list(member!("sent"));
+/// The frames of a member, in their order.
+fn put_list<A: Allocator>(member: Member, octets: &[u8], is_brief: bool, out: &mut JsonWords<A>) {
+    out.open_list(member);
     put_frames(octets, is_brief, out);
     out.close_list();
+}
+
+/// The frames of a member, which is left out where there are none.
+fn put_list_if_any<A: Allocator>(
+    member: Member,
+    octets: &[u8],
+    is_brief: bool,
+    out: &mut JsonWords<A>,
+) {
+    if !octets.is_empty() {
+        put_list(member, octets, is_brief, out);
+    }
+}
+
+/// The item since which nobody is blamed, if there is one, and the error or the reason that is not judged.
+pub(crate) fn put_unjudged<A: Allocator>(unjudged: Option<Unjudged>, out: &mut JsonWords<A>) {
+    let Some(unjudged) = unjudged else {
+        return;
+    };
+    out.open(member!("not_judged"));
+    if let Some(cause) = unjudged.cause {
+        out.plain(member!("cause"), cause.name());
+        put_code(cause.code().number(), out);
+    }
+    if let Some(why) = unjudged.ignored {
+        out.plain(member!("reason"), why.name());
+    }
+    if unjudged.cause.is_some() {
+        put_scope(unjudged.is_connection, out);
+    }
+    out.number(member!("since"), unjudged.since);
+    out.close();
 }
 
 /// How a field was spelled.
@@ -348,6 +380,16 @@ fn put_conforming<A: Allocator>(rule: Row, account: &Account<A>, out: &mut JsonW
     }
 }
 
+/// What an error ends.
+fn put_scope<A: Allocator>(is_connection: bool, out: &mut JsonWords<A>) {
+    let scope = if is_connection {
+        "connection"
+    } else {
+        "stream"
+    };
+    out.plain(member!("scope"), scope);
+}
+
 /// An error: its scope, its code, its cause, what the RFC says of both sides, and the sentence.
 fn put_error<A: Allocator + Copy>(
     cause: Cause,
@@ -365,14 +407,7 @@ fn put_error<A: Allocator + Copy>(
     out.plain(member!("client"), rule.duties.client.words());
     out.plain(member!("client_section"), rule.client_section);
     put_code(cause.code().number(), out);
-    out.plain(
-        member!("scope"),
-        if is_connection {
-            "connection"
-        } else {
-            "stream"
-        },
-    );
+    put_scope(is_connection, out);
     out.plain(member!("section"), rule.section);
     out.text(member!("sentence"), account.sentence.as_str());
     out.plain(member!("server"), rule.duties.server.words());
@@ -597,23 +632,71 @@ impl Say for ItemWords<'_> {
     }
 }
 
-/// Puts the item in: its number, its octets, and what was sent for it.
-fn put_item<A: Allocator>(item: &Explained<'_>, is_brief: bool, out: &mut JsonWords<A>) {
+/// What is not judged.
+#[derive(Clone, Copy)]
+pub struct Unjudged {
+    /// The number of the item since which nobody is blamed.
+    pub since: u64,
+    /// The error of an item, if it is one, whether it ends the connection, and why the item is ignored, if it is.
+    pub cause: Option<Cause>,
+    pub is_connection: bool,
+    pub ignored: Option<Ignored>,
+}
+
+/// What a script makes of an item: the frames for it that do not go out, and those that the script sends after them.
+#[derive(Clone, Copy)]
+pub struct Aside<'s> {
+    pub withheld: &'s [u8],
+    pub script: &'s [u8],
+    /// Whether nobody is blamed for it any more.
+    pub unjudged: Option<Unjudged>,
+}
+
+impl Aside<'_> {
+    /// Without a script.
+    pub fn none() -> Aside<'static> {
+        Aside {
+            withheld: &[],
+            script: &[],
+            unjudged: None,
+        }
+    }
+
+    /// Whether a script has sent something, or something did not go out.
+    fn is_any(self) -> bool {
+        !self.withheld.is_empty() || !self.script.is_empty()
+    }
+}
+
+/// Puts the item in: its number, that it is not judged, its octets, and what was sent for it.
+fn put_item<A: Allocator>(
+    item: &Explained<'_>,
+    aside: Aside<'_>,
+    is_brief: bool,
+    out: &mut JsonWords<A>,
+) {
     out.number(member!("item"), item.number);
+    put_unjudged(aside.unjudged, out);
     put_octets(member!("octets", "hex"), item.octets, out);
     out.number(member!("offset"), item.offset as u64);
     if let Some(frame) = item.frame() {
         put_payload(frame, item.part, out);
     }
-    put_sent(item.sent, is_brief, out);
+    put_list_if_any(member!("script"), aside.script, is_brief, out);
+    put_list(member!("sent"), item.sent, is_brief, out);
 }
 
 /// The version of the form of the lines.
 const VERSION: u64 = 1;
 
-/// The line of what the server sent before the first item, if there is anything. It has no changes.
-pub fn put_opening<A: Allocator>(opening: &[u8], is_brief: bool, out: &mut JsonWords<A>) {
-    if opening.is_empty() {
+/// The line of what the server sent before the first item, and of a script, if there is anything. It has no changes.
+pub fn put_opening<A: Allocator>(
+    opening: &[u8],
+    aside: Aside<'_>,
+    is_brief: bool,
+    out: &mut JsonWords<A>,
+) {
+    if opening.is_empty() && !aside.is_any() {
         return;
     }
     out.open_element();
@@ -624,11 +707,26 @@ pub fn put_opening<A: Allocator>(opening: &[u8], is_brief: bool, out: &mut JsonW
     out.number(member!("item"), 0);
     put_octets(member!("octets", "hex"), &[], out);
     out.number(member!("offset"), 0);
-    put_sent(opening, is_brief, out);
+    put_list_if_any(member!("script"), aside.script, is_brief, out);
+    put_list(member!("sent"), opening, is_brief, out);
     out.number(member!("version"), VERSION);
+    put_list_if_any(member!("withheld"), aside.withheld, is_brief, out);
     out.plain(member!("words"), "the server's opening");
     out.close();
     out.end_line();
+}
+
+/// Puts what is accepted by a rule, unless it is left out, or nobody is blamed any more.
+fn put_accepted_of<A: Allocator + Copy>(
+    item: &Explained<'_>,
+    account: &Account<A>,
+    block: ShownBlock<'_, A>,
+    aside: Aside<'_>,
+    out: &mut JsonWords<A>,
+) {
+    if !account.is_brief && aside.unjudged.is_none() {
+        put_accepted(item, account, block.fields, out);
+    }
 }
 
 /// The octets of the line of an item, before it that of the server's opening, if the item is the first; `block` has the
@@ -640,22 +738,28 @@ pub fn json_of<A: Allocator + Copy>(
     item: &Explained<'_>,
     account: &Account<A>,
     block: ShownBlock<'_, A>,
+    aside: Aside<'_>,
 ) -> Result<Vec<u8, A>, AllocError>
     ensures { IfOk result (λ octets. EndsLine false octets.items) }
 {
+    let is_brief = account.is_brief;
     let mut out = JsonWords::over(TextBuilder::over(octets, account.is_full));
-    put_opening(account.opening.as_slice(), account.is_brief, &mut out);
+    put_opening(
+        account.opening.as_slice(),
+        Aside::none(),
+        is_brief,
+        &mut out,
+    );
     out.open_element();
-    if !account.is_brief {
-        put_accepted(item, account, block.fields, &mut out);
-    }
+    put_accepted_of(item, account, block, aside, &mut out);
     put_why(item, account, block, &mut out);
-    put_item(item, account.is_brief, &mut out);
+    put_item(item, aside, is_brief, &mut out);
     put_entries(account, &mut out);
     if shows_fields(account) {
         put_updates(block.updates, &mut out);
     }
     put_warnings(account.warnings, &mut out);
+    put_list_if_any(member!("withheld"), aside.withheld, is_brief, &mut out);
     out.plain(member!("words"), ItemWords(item));
     out.close();
     let mut octets = out.into_octets()?;

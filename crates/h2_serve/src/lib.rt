@@ -19,6 +19,7 @@ pub use driving::wire::{Wire, WireFault};
 pub use explained::explain::{ClientEnd, Clients, explain_on, explain_over, listen_and_explain};
 pub use explained::explained_conn::Conclusion;
 pub use explained::keeper::{Keeper, NoKeeper};
+pub use explained::numbered::numbered;
 pub use fault::ServeFault;
 pub use port::{Listener, Port, PortFault, TcpClients, TcpPort};
 pub use server::{listen_and_serve, serve_on, serve_over};

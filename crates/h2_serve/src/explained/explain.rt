@@ -210,7 +210,7 @@ pub struct Clients {
 
 impl Clients {
     /// The verdict on no clients.
-    fn none() -> Clients
+    pub fn none() -> Clients
         ensures { result ≡ no_clients }
     {
         Clients {
@@ -225,7 +225,7 @@ impl Clients {
     }
 
     /// With one client more; where nothing sums up its connection, the verdict on it is lost.
-    fn with(self, summary: Option<Summary>) -> Clients
+    pub fn with(self, summary: Option<Summary>) -> Clients
         ensures { result ≡ with_client self summary }
     {
         let Some(summary) = summary else {

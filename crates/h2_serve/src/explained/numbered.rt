@@ -94,6 +94,19 @@ fn put_text(
     Ok(())
 }
 
+/// A text of the connection with this number, with the number before each of its lines; in JSON it is the first member.
+///
+/// `AllocError` where memory is refused.
+pub fn numbered(alloc: Global, json: bool, number: u32, text: &[u8]) -> Result<Vec<u8>, AllocError>
+    ensures { IfOk result (λ out. out.items ≡ prefixed (prefix_of json number) json true text.now) }
+{
+    let prefix = prefix_of(alloc, json, number)?;
+    let mut fresh = true;
+    let mut out = Vec::new(alloc);
+    put_text(prefix.as_slice(), json, &mut fresh, text, &mut out)?;
+    Ok(out)
+}
+
 /// Writes octets so that the reader of the output sees them at once; says why not, where that failed.
 fn write_now<O: Output>(output: &mut O, octets: &[u8]) -> Option<TextFault>
     ensures octets { result ≡ None → Appends (O.written output.old) (O.written output.new) octets.now }

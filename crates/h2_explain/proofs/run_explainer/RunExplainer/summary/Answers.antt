@@ -1,7 +1,9 @@
-use Rattle.std.proofs.Common.{arith}
+use Rattle.std.proofs.Common.{ap, arith}
+use Rattle.h2_explain.specs.declared.run.Summary.{Summary}
 use Rattle.h2_explain.proofs.Steps.{end-summed}
 use Rattle.h2_explain.proofs.run_explainer.RunExplainer.summary.Goals as goal
 
 pub returns : goal.returns
 returns g c =
-    end-summed c.args.conn.now c.args.self.now c.summary_of.result _ c.summary_of.ensures.items c.summary_of.ensures.ended (omega (arith, c.len.ensures)) c.summary_of.ensures.verdict
+    let is = c.summary_since.ensures in
+    end-summed c.args.conn.now c.args.self.now c.summary_since.result _ (ap (λ (s : Summary). s.items) is) (ap (λ (s : Summary). s.ended) is) (omega (arith, c.len.ensures)) (ap (λ (s : Summary). s.verdict) is)
