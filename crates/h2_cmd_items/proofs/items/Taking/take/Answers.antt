@@ -1,4 +1,4 @@
-use Rattle.std.proofs.Common.{◌≡◌, ◌∙◌, ◌+◌, ℕ, List, length, refl, ap, subst}
+use Rattle.std.proofs.Common.{◌≡◌, ◌∙◌, ◌+◌, ℕ, List, drop, length, refl, ap, subst}
 use Rattle.h2_explain_step.specs.Explained.{IsItemOf}
 use Rattle.h2_cmd_items.proofs.items.Taking.take.Goals as goal
 
@@ -7,12 +7,13 @@ returns-clause-takes c =
     let b = c.args.octets.now in
     let x = c.item-item.result in
     let number : c.len.result + 1 ≡ length c.args.self.now.sent.items + 1 = ap (λ (n : ℕ). n + 1) (c.len.ensures ∙ c.args.self.now.sent.ok.0) in
-    let sent = c.as_slice.ensures.value ∙ rw c.new-out.ensures.items refl in
+    let out : List ℕ = drop (length c.new-out.result.items) c.take_item.new.out.items in
+    let sent : c.as_slice.result.now ≡ out = c.as_slice.ensures.value ∙ rw c.new-out.ensures.items refl in
     let observed = rw c.in-Some.is at c.in_ok-observed.ensures.item in
     let made = subst (λ (t : List ℕ). IsItemOf c.in-Some.observed (c.len.result + 1) c.args.offset b t x) sent c.item-item.ensures in
     record {
       item = x;
-      explains = observed _ c.args.offset x (subst (λ (n : ℕ). IsItemOf c.in-Some.observed n c.args.offset b _ x) number made);
+      explains = observed (length c.args.self.now.sent.items + 1) c.args.offset x (subst (λ (n : ℕ). IsItemOf c.in-Some.observed n c.args.offset b out x) number made);
       used_is = refl;
       sent = c.sent_with-sent.result;
       is_sent = c.sent_with-sent.ensures;
