@@ -1,4 +1,5 @@
 use Rattle.std.proofs.Common.{◌+◌, ◌∙◌, List, ℕ, length, sym}
+use Rattle.std.specs.Prelude.{None}
 use Rattle.h2_explain.specs.Explains.{IsRestText}
 use Rattle.h2_explain.proofs.Steps.{gains-written}
 use Rattle.h2_explain.proofs.run_explainer.RunExplainer.write_end.Goals as goal
