@@ -154,7 +154,7 @@ fn take_text(
     let item = observed.item(number, offset, octets, sent.as_slice());
     let text = text_of(alloc, explainer, conn, &item)?;
     add_text(text, texts)?;
-    Ok(Some(item.used))
+    Ok(Some(observed.taken.used))
 }
 
 /// The texts of the items of octets, by what an explainer knows that is new.

@@ -318,8 +318,8 @@ impl<'b> View<'b> {
         keeper.record(&item);
         self.show(alloc, form, steps, observed, &item, keeper, out)?;
         self.items = number;
-        self.offset = self.offset.saturating_add(item.used);
-        Ok(item.used)
+        self.offset = self.offset.saturating_add(observed.taken.used);
+        Ok(observed.taken.used)
     }
 
     /// Appends the end, where these octets are left; before it, where no item came, the opening.

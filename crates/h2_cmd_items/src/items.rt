@@ -139,8 +139,8 @@ impl Taking {
         let block = explainer.block(conn);
         let sent = self.sent_with(&item, &account, block);
         self.is_post = either(self.is_post, is_post(block.fields));
-        self.add(sent, item.sent)?;
-        Ok(Some(item.used))
+        self.add(sent, out.as_slice())?;
+        Ok(Some(observed.taken.used))
     }
 
     /// Takes the items of octets.

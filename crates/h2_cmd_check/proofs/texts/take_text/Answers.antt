@@ -1,6 +1,7 @@
-use Rattle.std.proofs.Common.{◌≡◌, ◌∙◌, ◌+◌, ℕ, List, drop, length, map, refl, sym, ap, subst}
+use Rattle.std.proofs.Common.{◌≡◌, ◌∙◌, ◌+◌, ℕ, List, drop, length, map, sym, ap, subst}
 use Rattle.std.proofs.lemmas.List.{length-map}
 use Rattle.std.specs.String.{string_bytes}
+use Rattle.h2_conn.specs.declared.report.TakenItem.{TakenItem}
 use Rattle.h2_explain_step.specs.Explained.{IsItemOf}
 use Rattle.h2_cmd_check.proofs.texts.take_text.Goals as goal
 
@@ -16,7 +17,7 @@ returns-clause-takes c =
     record {
       item = x;
       explains = observed (length (map string_bytes c.args.texts.now.items) + 1) c.args.offset x (subst (λ (n : ℕ). IsItemOf c.in-Some.observed n c.args.offset b out x) number made);
-      used_is = refl;
+      used_is = sym (ap (λ (k : TakenItem). k.used) c.item-item.ensures.taken_is);
       text = string_bytes c.in_ok-text.text;
       said = c.in_ok-text.ensures;
       texts_are = c.in_ok-add_text.ensures;

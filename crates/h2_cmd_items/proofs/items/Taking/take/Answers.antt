@@ -1,4 +1,5 @@
-use Rattle.std.proofs.Common.{◌≡◌, ◌∙◌, ◌+◌, ℕ, List, drop, length, refl, ap, subst}
+use Rattle.std.proofs.Common.{◌≡◌, ◌∙◌, ◌+◌, ℕ, List, drop, length, ap, subst, sym}
+use Rattle.h2_conn.specs.declared.report.TakenItem.{TakenItem}
 use Rattle.h2_explain_step.specs.Explained.{IsItemOf}
 use Rattle.h2_cmd_items.proofs.items.Taking.take.Goals as goal
 
@@ -14,7 +15,7 @@ returns-clause-takes c =
     record {
       item = x;
       explains = observed (length c.args.self.now.sent.items + 1) c.args.offset x (subst (λ (n : ℕ). IsItemOf c.in-Some.observed n c.args.offset b out x) number made);
-      used_is = refl;
+      used_is = sym (ap (λ (k : TakenItem). k.used) c.item-item.ensures.taken_is);
       sent = c.sent_with-sent.result;
       is_sent = c.sent_with-sent.ensures;
       adds = c.in_ok-add.ensures;
