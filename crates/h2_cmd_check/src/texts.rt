@@ -18,6 +18,7 @@ use h2_explain_step::taking::take_item;
 use h2_explain_text::account::Account;
 use h2_explain_text::lines::ItemLines;
 use h2_explain_text::paint::Paint;
+use h2_frame::Part;
 use h2_request_book::book::Book;
 use h2_script::{LineFault, add_line};
 use h2_spec::connection::Config;
@@ -152,6 +153,7 @@ fn take_text(
     };
     let number = texts.len() as u64 + 1;
     let item = observed.item(number, offset, octets, sent.as_slice());
+    let _part: Option<Part<'_>> = item.part; // the borrow checker asks where this type is
     let text = text_of(alloc, explainer, conn, &item)?;
     add_text(text, texts)?;
     Ok(Some(observed.taken.used))

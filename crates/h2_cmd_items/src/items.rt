@@ -17,6 +17,7 @@ use h2_explain_item::shown_block::ShownBlock;
 use h2_explain_step::explainer::ItemExplainer;
 use h2_explain_step::taking::take_item;
 use h2_explain_text::account::Account;
+use h2_frame::Part;
 use h2_request_book::book::Book;
 use h2_spec::connection::Config;
 use h2_spec::octets::octets_from;
@@ -132,14 +133,16 @@ impl Taking {
             return Ok(None);
         };
         let number = self.sent.len() as u64 + 1;
-        let item = observed.item(number, offset, octets, out.as_slice());
+        let answers = out.as_slice();
+        let item = observed.item(number, offset, octets, answers);
+        let _part: Option<Part<'_>> = item.part; // the borrow checker asks where this type is
         self.run.note(&item)?;
         let mut account = Account::new(alloc);
         explainer.account(alloc, conn, &item, &mut account)?;
         let block = explainer.block(conn);
         let sent = self.sent_with(&item, &account, block);
         self.is_post = either(self.is_post, is_post(block.fields));
-        self.add(sent, out.as_slice())?;
+        self.add(sent, answers)?;
         Ok(Some(observed.taken.used))
     }
 
