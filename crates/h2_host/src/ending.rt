@@ -6,7 +6,10 @@ use crate::devices::input::Given;
 use crate::refused_words::say_refused_words;
 use h2_cmd_args::Words;
 use h2_cmd_args::command::{Check, Plan, Refusal, Serve};
-use h2_cmd_messages::{InputSource, TextBuilder, say_limits, say_port, say_unread, say_unwritten};
+use h2_cmd_messages::{
+    InputSource, TextBuilder, say_limits, say_port, say_too_long, say_unread, say_unwritten,
+};
+use h2_io::MAX_INPUT;
 use std::io::{ErrorKind, Write};
 use std::rt::Files;
 
@@ -73,6 +76,9 @@ fn say_of_plan<C: Commands>(
         return;
     }
     match plan {
+        Plan::Debug(_) if given.taken.count() > MAX_INPUT => {
+            say_too_long(InputSource::Input, MAX_INPUT, out);
+        }
         _ if ending.is_said => {}
         Plan::Serve(serve) => say_served(serve, ending, out),
         Plan::Check(check) => say_of_cases(rt, check, out),
