@@ -128,7 +128,7 @@ def explained(program):
         book = write_book(made)
         rows = [(["serve", "--quiet", *options], lambda words, path, octets: serve(program, words[1:], asked(FEW, path), octets))
                 for options in (["--explain"], ["--json", "--full"], ["--strict"], ["--record", made])]
-        rows.append((["check", "-"], lambda words, path, _: measured(program, words, case_of(2 * FEW, path))))
+        rows.append((["check", "-"], lambda words, path, _: measured(program, words, case_of(FEW, path))))
         for words, run in rows:
             small, answers_small = run([*words, "--book", book], SMALL, FEW)
             large, answers_large = run([*words, "--book", book], LARGE, FEW * BODY)

@@ -511,7 +511,8 @@ impl<'t, 'b> Walk<'t, 'b> {
     /// Lets go of the octets that were sent, where lines have spoken about all that are held.
     fn let_go(&mut self)
         ensures octets { (self.new.octets ≡ self.old.octets) × (self.new.at ≡ self.old.at) }
-        ensures place { place_of self.new ≡ place_of self.old }
+        ensures place { ((place_of self.new).spoken ≡ (place_of self.old).spoken) × (self.new.speaks ≡ self.old.speaks) }
+        ensures debugger { self.new.debugger ≡ self.old.debugger }
         ensures items { self.new.seen.items ≡ self.old.seen.items }
         ensures holds { self.new.holds ≡ self.old.holds }
         ensures walks { (start : Start) (c : Connection) → Walks start self.old c → Walks start self.new c }

@@ -63,3 +63,19 @@ returns-in-Sent-clause-goes c =
 pub returns-in-Command-clause-walks : goal.returns-in-Command-clause-walks
 returns-in-Command-clause-walks c =
     on_ok_weaker c.command.result (λ s. λ start is. walks_same start c.args.self.now c.command.new.self c.args.conn.now s.0 s.1.0 s.1.1 is) c.command.ensures.same
+
+pub returns-in-Shown-clause-walks : goal.returns-in-Shown-clause-walks
+returns-in-Shown-clause-walks c =
+    on_ok_weaker c.expect_shown.result (λ f. λ start is. walks_same start c.args.self.now c.expect_shown.new.self c.args.conn.now f.octets f.at f.seen is) c.expect_shown.ensures
+
+pub returns-in-Cause-clause-walks : goal.returns-in-Cause-clause-walks
+returns-in-Cause-clause-walks c =
+    on_ok_weaker c.expect_cause.result (λ f. λ start is. walks_same start c.args.self.now c.expect_cause.new.self c.args.conn.now f.octets f.at f.seen is) c.expect_cause.ensures
+
+pub returns-in-Reason-clause-walks : goal.returns-in-Reason-clause-walks
+returns-in-Reason-clause-walks c =
+    on_ok_weaker c.expect_reason.result (λ f. λ start is. walks_same start c.args.self.now c.expect_reason.new.self c.args.conn.now f.octets f.at f.seen is) c.expect_reason.ensures
+
+pub returns-in-Explained-clause-walks : goal.returns-in-Explained-clause-walks
+returns-in-Explained-clause-walks c =
+    on_ok_weaker c.expect_explained.result (λ f. λ start is. walks_same start c.args.self.now c.expect_explained.new.self c.args.conn.now f.octets f.at f.seen is) c.expect_explained.ensures
