@@ -71,7 +71,7 @@ sight_by (Left d) seen = seen
 
 -- the sight that a value has
 abbrev pub seen_by : ItemsTaken → Sight
-seen_by seen = record { items = seen.items; sent = seen.sent.items; first = seen.first; cause = seen.cause; ignored = seen.ignored }
+seen_by seen = record { items = seen.items; sent = seen.sent; first = seen.first; cause = seen.cause; ignored = seen.ignored }
 
 -- it with octets in front of those that were sent
 abbrev pub with_gone : List ℕ → Sight → Sight

@@ -371,9 +371,10 @@ impl<'t, 'b> Walk<'t, 'b> {
     fn end_some(&mut self, alloc: Global, out: &mut Growing) -> Result<(), AllocError>
         ensures { OnOk result (Tells true (told_lines (left_by self.old)) self.old self.new out.old out.new) }
     {
-        let left = self.left(alloc, usize::MAX)?;
+        let len = self.sent_len()?;
+        let left = self.left(alloc, len)?;
         put_told(alloc, left.as_slice(), out)?;
-        self.spoken = self.sent_len()?;
+        self.spoken = len;
         self.speaks = true;
         Ok(())
     }
@@ -595,9 +596,10 @@ impl<'t, 'b> Walk<'t, 'b> {
         ensures { OnOk result (Tells self.old.speaks (told_lines (left_by self.old) ++ error_text (nat_lt before self.old.at) (sight_here self.old).cause)
             self.old self.new out.old out.new) }
     {
-        let left = self.left(alloc, usize::MAX)?;
+        let len = self.sent_len()?;
+        let left = self.left(alloc, len)?;
         put_told(alloc, left.as_slice(), out)?;
-        self.spoken = self.sent_len()?;
+        self.spoken = len;
         put_error(before < self.at, self.sight().cause, out);
         Ok(())
     }

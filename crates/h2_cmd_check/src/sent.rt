@@ -123,7 +123,7 @@ impl<'b> Sent<'b> {
         ensures value { IfOk result (λ octets. octets.items ≡ take count (drop start self.old)) }
         ensures same { self.new ≡ self.old }
     {
-        bring(&mut self.front, &mut self.rest, start.saturating_add(count))?;
+        bring(&mut self.front, &mut self.rest, longer(start, count)?)?;
         Vec::from_slice(alloc, first_octets(left_from(self.front.as_slice(), start), count))
     }
 }

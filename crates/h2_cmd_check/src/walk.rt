@@ -433,7 +433,8 @@ impl<'t, 'b> Walk<'t, 'b> {
     pub(crate) fn is_none_left(&self) -> Result<bool, AllocError>
         ensures { IfOk result (λ is. is ≡ is_none (left_by self.now)) }
     {
-        Ok(self.sent_len()? <= self.spoken)
+        let len = self.sent_len()?;
+        Ok(len <= self.spoken)
     }
 
     /// A copy of this many of them, the first ones; of all where there are fewer.
