@@ -33,13 +33,28 @@ head_front n (a ∷ b ∷ c ∷ d ∷ e ∷ []) = refl
 head_front n (a ∷ b ∷ c ∷ d ∷ e ∷ f ∷ []) = refl
 head_front n (a ∷ b ∷ c ∷ d ∷ e ∷ f ∷ g ∷ []) = refl
 head_front n (a ∷ b ∷ c ∷ d ∷ e ∷ f ∷ g ∷ h ∷ []) = refl
-head_front n (a ∷ b ∷ c ∷ d ∷ e ∷ f ∷ g ∷ h ∷ i ∷ rest) = rw (nine_there (length (take n rest)), nine_there (length rest)) refl
+head_front n (a ∷ b ∷ c ∷ d ∷ e ∷ f ∷ g ∷ h ∷ i ∷ rest) = refl
+
+-- a frame that is not whole is not whole in its first octets either
+short_front : (n : ℕ) (b : List ℕ) → nat_lt (length (take n b)) n ≡ nat_lt (length b) n
+short_front n b = let few = length-take n b in grind (arith)
+
+payload_front : (n : ℕ) (b : List ℕ) → take n (drop 9 (take (9 + n) b)) ≡ take n (drop 9 b)
+payload_front n b = ap (take n) (drop-take 9 n b) ∙ take-take n (drop 9 b)
+
+with_head : (line b : List ℕ) (h : Head) → head_at b ≡ Some h → summed_by line (first_frame (take (9 + h.length) b)) ≡ summed_by line (first_frame b)
+with_head line b h is = rw (head_front h.length b, is) (rw (short_front (9 + h.length) b, payload_front h.length b) (one_by (nat_lt (length b) (9 + h.length))))
+  where
+    one_by : (short : Bool) → summed_by line (cond short None (Some (record { head = h; payload = take h.length (drop 9 b); rest = drop (9 + h.length) (take (9 + h.length) b) })))
+        ≡ summed_by line (cond short None (Some (record { head = h; payload = take h.length (drop 9 b); rest = drop (9 + h.length) b })))
+    one_by true = refl
+    one_by false = refl
 
 -- a line is the summary of a frame where it is that of as many octets as the frame has
 pub summed_front : (line b : List ℕ) → summed line (take (frame_length (take 9 b)) b) ≡ summed line b
 unfolding summed
-summed_front line b = ap (λ (n : ℕ). summed_by line (first_frame (take n b))) (ap length_by (head_front 0 b)) ∙ at (head_at b) refl
+summed_front line b = ap (λ (x : Option Head). summed_by line (first_frame (take (length_by x) b))) (head_front 0 b) ∙ at (head_at b) refl
   where
     at : (x : Option Head) → head_at b ≡ x → summed_by line (first_frame (take (length_by (head_at b)) b)) ≡ summed_by line (first_frame b)
     at None is = rw (is, head_front 0 b, is) refl
-    at (Some h) is = rw (is) (with_head h is)
+    at (Some h) is = ap (λ (x : Option Head). summed_by line (first_frame (take (length_by x) b))) is ∙ with_head line b h is
