@@ -13,6 +13,7 @@ What is checked:
   - each file, link (with its heading), crate, path, function and type that README.md, CONTRIBUTING.md, CHANGELOG.md or docs/*.md names is there, and is in the file that is
     named with it: `feed` (feeding.rt), `feed` (h2_conn, feeding.rt);
   - each crate and file that a comment of a source names is there;
+  - the ranges of limits and settings that sentences, help and the page have are those of `Config::is_allowed`;
   - docs/PROOFS.md counts the functions without a contract, and their lines, as `tools/calls.py --without` does;
   - README.md has at most 8 KB, and the pages of docs that are written by hand have at most 120 KB.
 
@@ -338,6 +339,26 @@ def faults_of_errors():
             yield f"{row.name}: this server's error is one of the {said[1]}, and is_of_stream says otherwise"
 
 
+# ---- the ranges of the limits
+
+RANGES = {  # where a range is said, and how; what is decided is proved to be what the definition says
+    "crates/h2_spec/src/connection.rt": r"(?P<least>\d+)?(?: <= self\.\w+ && )?self\.(?P<name>\w+) <= (?P<most>\d+)",
+    "crates/h2_cmd_messages/src/limits.rt": r'option: "--(?P<name>\w+)",\s*least: (?P<least>\d+),\s*most: (?P<most>\d+)',
+    "crates/h2_cmd_args/src/usages.rt": r'name: "(?P<name>\w+)",\s*kind: Kind::Number\(4294967295\),\s*help: ".*, (?P<least>\d+) to (?P<most>\d+); \d+ where',
+    "web/page.js": r'\["(?P<name>\w+)", "[\w ]*", \d+, (?P<least>\d+), (?P<most>\d+), "--\w+"\]',
+}
+
+
+def faults_of_ranges():
+    """Ranges of limits and settings that sentences, help and the page have otherwise than `Config::is_allowed`."""
+    said = {path: {it["name"]: (int(it["least"] or 0), int(it["most"])) for it in re.finditer(how, read(path))} for path, how in RANGES.items()}
+    decided = said["crates/h2_spec/src/connection.rt"]
+    for path, ranges in said.items():
+        for name in sorted({*decided, *ranges}):
+            if ranges.get(name) != decided.get(name):
+                yield f"{path}: the range of {name} is {ranges.get(name)}, and that of `is_allowed` is {decided.get(name)}"
+
+
 # ---- what has no contract
 
 COUNT = re.compile(r"(h2_\w+) \((\d+)(?: of its (\d+))? functions, ([\d,]+) lines")
@@ -476,7 +497,7 @@ def check(made, wrong, known):
     """Shows what is wrong, and counts."""
     # The calls of the header begin as the names of crates do.
     crates = {*re.findall(r"^(\w+)[^:\n]*:", read("crates.txt"), re.M), *CRATE.findall(read("share/h2_bench.h"))}
-    wrong += [*faults_of_table(), *faults_of_errors(), *faults_of_counts()]
+    wrong += [*faults_of_table(), *faults_of_errors(), *faults_of_ranges(), *faults_of_counts()]
     if not os.path.exists(MADE) or read(MADE) != made:
         wrong.append(f"{MADE} is not what tools/docs.py writes: run it")
     if os.path.getsize("README.md") > 8192:
