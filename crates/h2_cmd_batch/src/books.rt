@@ -13,7 +13,7 @@ use crate::answer::told;
 use crate::fault::BenchFault;
 use h2_cmd_args::command::BookWords;
 use h2_cmd_book_file::{BookFileFault, BookRefusal, Files, add_book};
-use h2_cmd_messages::{EntryRefusal, TextBuilder, say_answer, say_no_answer, say_no_memory};
+use h2_cmd_messages::{TextBuilder, say_answer, say_no_answer, say_no_memory};
 use h2_cmd_play::add_answer;
 use h2_io::Output;
 use h2_request_book::book::Book;
@@ -132,12 +132,7 @@ fn answer_sentence(alloc: Global, refused: Refused, words: &[&str]) -> Result<St
     let mut out = TextBuilder::new(alloc);
     let word = word_at(words, refused.place);
     match refused.fault {
-        BenchFault::BadEntry(fault) => say_answer(
-            refused.place,
-            word,
-            EntryRefusal::from(fault),
-            &mut out,
-        ),
+        BenchFault::BadEntry(fault) => say_answer(refused.place, word, fault, &mut out),
         BenchFault::NoMemory => say_no_memory(&mut out),
         _ => say_no_answer(refused.place, word, &mut out),
     }

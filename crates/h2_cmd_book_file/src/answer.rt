@@ -55,10 +55,8 @@ pub fn entry_in<F: Files>(
     let Some(table) = value.as_table() else {
         return Err(BookRefusal::NoTable);
     };
-    match said_in(alloc, table) {
-        Ok(said) => entry_from(alloc, files, path, said),
-        Err(cause) => Err(cause),
-    }
+    let said = said_in(alloc, table)?;
+    entry_from(alloc, files, path, said)
 }
 
 /// The entry of what an answer says.
@@ -75,10 +73,7 @@ fn entry_from<F: Files>(
     ensures same_printed { F.is_printed files.new ≡ F.is_printed files.old }
     ensures same_files { F.file files.new ≡ F.file files.old }
 {
-    let body = match read_contents(alloc, files, path, said.body) {
-        Ok(body) => body,
-        Err(cause) => return Err(cause),
-    };
+    let body = read_contents(alloc, files, path, said.body)?;
     let Ok(method) = copy_of(alloc, said.method) else {
         return Err(BookRefusal::NoMemory);
     };
@@ -113,29 +108,14 @@ fn said_in(alloc: Global, table: &Table) -> Result<AnswerTable<'_>, BookRefusal>
     if has_unknown_key(table) {
         return Err(BookRefusal::UnknownKey(unknown_key(alloc, table)));
     }
-    let method = match text_in(value_at(table, "method"), Key::Method) {
-        Ok(method) => method,
-        Err(cause) => return Err(cause),
-    };
-    let path = match text_in(value_at(table, "path"), Key::Path) {
-        Ok(path) => path,
-        Err(cause) => return Err(cause),
-    };
-    let status = match status_in(value_at(table, "status")) {
-        Ok(status) => status,
-        Err(cause) => return Err(cause),
-    };
+    let method = text_in(value_at(table, "method"), Key::Method)?;
+    let path = text_in(value_at(table, "path"), Key::Path)?;
+    let status = status_in(value_at(table, "status"))?;
     let Some(headers) = headers_in(value_at(table, "headers")) else {
         return Err(BookRefusal::Malformed(Key::Headers));
     };
-    let body = match contents_in(table) {
-        Ok(body) => body,
-        Err(cause) => return Err(cause),
-    };
-    let early = match early_in(value_at(table, "early")) {
-        Ok(early) => early,
-        Err(cause) => return Err(cause),
-    };
+    let body = contents_in(table)?;
+    let early = early_in(value_at(table, "early"))?;
     Ok(AnswerTable {
         method,
         path,

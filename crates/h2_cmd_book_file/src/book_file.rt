@@ -203,10 +203,7 @@ fn add_answer<F: Files>(
     ensures same_printed { F.is_printed files.new ≡ F.is_printed files.old }
     ensures same_files { F.file files.new ≡ F.file files.old }
 {
-    let entry = match entry_in(alloc, files, path, answer) {
-        Ok(entry) => entry,
-        Err(cause) => return Err(cause),
-    };
+    let entry = entry_in(alloc, files, path, answer)?;
     match book.add(entry) {
         Ok(()) => Ok(()),
         Err(BookFault::NoMemory) => Err(BookRefusal::NoMemory),

@@ -5,19 +5,15 @@ ghost use Rattle.h2_cmd_book_file.specs.Files.{Reads, Replaces};
 
 use std::alloc::Global;
 use std::io::ErrorKind;
-use thiserror::Error;
 
 /// Why a file was not read.
-#[derive(Clone, Copy, Debug, Error)]
+#[derive(Clone, Copy)]
 pub enum FilesFault {
     /// There is no file at the path, it may not be read, or a read of it failed.
-    #[error("the file can't be read")]
     Failed,
     /// The file has more octets than were asked for at most.
-    #[error("the file is too long")]
     TooLong,
     /// Memory was refused.
-    #[error("out of memory")]
     NoMemory,
 }
 

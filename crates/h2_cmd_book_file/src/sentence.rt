@@ -4,10 +4,10 @@
 use crate::fault::{BookRefusal, Key};
 use crate::header::{header_in, headers_in};
 use crate::line::{line_of_answer, line_of_key};
-use h2_cmd_messages::{Cut, Say, TextBuilder, field_reason, file_reason};
+use h2_cmd_messages::{Cut, Quoted, Say, TextBuilder, field_reason, file_reason, say_entry};
 use h2_io::say_all;
 use h2_request_book::fault::EntryFault;
-use std::alloc::{AllocError, Allocator, Global};
+use std::alloc::{AllocError, Global};
 use toml::Value;
 
 /// Where in a book's file something is wrong, and what is there.
@@ -135,16 +135,6 @@ fn key_of<'c>(cause: &'c BookRefusal, place: Where<'_>) -> &'c str {
     }
 }
 
-/// A key between backquotes.
-#[derive(Clone, Copy)]
-struct QuotedKey<'q>(&'q str);
-
-impl Say for QuotedKey<'_> {
-    fn say<A: Allocator>(self, out: &mut TextBuilder<A>) {
-        say_all!(out; '`', Cut(self.0.as_bytes()), '`');
-    }
-}
-
 /// Says where a fault is: the file, and the line and the answer where these are known.
 fn say_place(place: Where<'_>, line: usize, out: &mut TextBuilder) {
     say_all!(out; Cut(place.path.as_bytes()));
@@ -159,7 +149,7 @@ fn say_place(place: Where<'_>, line: usize, out: &mut TextBuilder) {
 
 fn say_unknown(key: &Option<String>, out: &mut TextBuilder) {
     match key {
-        Some(key) => say_all!(out; "the key ", QuotedKey(key.as_str()), " is unknown"),
+        Some(key) => say_all!(out; "the key ", Quoted(key.as_bytes()), " is unknown"),
         None => "a key is unknown".say(out),
     }
 }
@@ -229,26 +219,14 @@ fn first_bad(headers: &[Value]) -> Option<(&str, &'static str)> {
 }
 
 /// Says why an entry is refused.
-fn say_entry(place: Where<'_>, fault: EntryFault, out: &mut TextBuilder) {
-    match fault {
-        EntryFault::BadStatus =>
-            say_all!(out; "the status is ", place.status(), "; it has to be 200 to 599"),
-        EntryFault::BadField => match bad_header(place) {
-            Some((name, reason)) => say_all!(out; "the field ", QuotedKey(name), " ", reason),
-            None => "a field is not allowed in an answer".say(out),
-        },
-        EntryFault::BodyNotAllowed if place.text_at("method") == "HEAD" => {
-            "an answer to HEAD has no body, and this one has".say(out);
-        }
-        EntryFault::BodyNotAllowed => {
-            say_all!(out; "an answer with status ", place.status(), " has no body, and this one has");
-        }
-        EntryFault::TooLong => {
-            "the body has more than 1048576 octets, the fields take more than 16383, or the book has 1000 answers already".say(
-                out,
-            );
-        }
+fn say_refused(place: Where<'_>, fault: EntryFault, out: &mut TextBuilder) {
+    if let EntryFault::BadField = fault
+        && let Some((name, reason)) = bad_header(place)
+    {
+        say_all!(out; "the field ", Quoted(name.as_bytes()), " ", reason);
+        return;
     }
+    say_entry(fault, place.text_at("method"), place.status(), None, out);
 }
 
 /// Says why a book is refused.
@@ -270,18 +248,18 @@ fn say_cause(place: Where<'_>, cause: &BookRefusal, out: &mut TextBuilder) {
         }
         BookRefusal::UnknownKey(key) => say_unknown(key, out),
         BookRefusal::Missing(key) =>
-            say_all!(out; "the key ", QuotedKey(key.name()), " is missing"),
+            say_all!(out; "the key ", Quoted(key.name().as_bytes()), " is missing"),
         BookRefusal::Malformed(key) =>
-            say_all!(out; "the key ", QuotedKey(key.name()), " has to be ", key.wanted()),
+            say_all!(out; "the key ", Quoted(key.name().as_bytes()), " has to be ", key.wanted()),
         BookRefusal::FileTooLong =>
-            say_all!(out; "the file of `body-file`, ", QuotedKey(place.text_at("body-file")), ", has more than 1048576 octets"),
+            say_all!(out; "the file of `body-file`, ", Quoted(place.text_at("body-file").as_bytes()), ", has more than 1048576 octets"),
         BookRefusal::FileUnread(kind) => {
-            say_all!(out; "the file of `body-file`, ", QuotedKey(place.text_at("body-file")), ", can't be read");
+            say_all!(out; "the file of `body-file`, ", Quoted(place.text_at("body-file").as_bytes()), ", can't be read");
             if let Some(kind) = kind {
                 say_all!(out; ": ", file_reason(*kind));
             }
         }
-        BookRefusal::BadEntry(fault) => say_entry(place, *fault, out),
+        BookRefusal::BadEntry(fault) => say_refused(place, *fault, out),
     }
 }
 

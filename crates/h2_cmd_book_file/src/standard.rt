@@ -68,15 +68,19 @@ fn new_file<R: rt::Files>(runtime: &R, path: &str) -> io::Result<R::File> {
     how.open(runtime, path)
 }
 
-/// Writes all octets to a file, and to the disk.
-fn write_whole<F: Write + OpenFile>(
-    file: &mut F,
+/// Writes all octets to a file, and to the disk, and then moves it from its path to another.
+fn write_and_move<R: rt::Files>(
+    runtime: &R,
+    file: &mut R::File,
     octets: &[u8],
     permissions: Permissions,
+    from: &str,
+    to: &str,
 ) -> io::Result<()> {
     file.write_all(octets)?;
     file.set_permissions(permissions)?;
-    file.sync_all()
+    file.sync_all()?;
+    runtime.rename(from, to)
 }
 
 /// Replaces a file by a new one of these octets; where that fails, the new one is removed.
@@ -88,10 +92,7 @@ fn put_new<R: rt::Files>(
     permissions: Permissions,
 ) -> io::Result<()> {
     let mut file = new_file(runtime, beside)?;
-    let written = match write_whole(&mut file, octets, permissions) {
-        Ok(()) => runtime.rename(beside, path),
-        Err(error) => Err(error),
-    };
+    let written = write_and_move(runtime, &mut file, octets, permissions, beside, path);
     if written.is_err() {
         let _ = runtime.remove_file(beside);
     }

@@ -1,9 +1,10 @@
 //! Which part of an ANSWER is at fault: METHOD|PATH|STATUS|BODYHEX, and further parts NAME=VALUE or early.
 
-use crate::entry::{EntryRefusal, field_reason, say_entry};
+use crate::entry::{field_reason, say_entry};
 use crate::place::{Quoted, are_digits, are_hex_digits};
 use h2_io::say::{Cut, Hex, Say, TextBuilder};
 use h2_io::say_all;
+use h2_request_book::fault::EntryFault;
 use h2_spec::octets::first_octets;
 use std::alloc::Allocator;
 
@@ -153,23 +154,24 @@ fn say_field(word: &str, out: &mut TextBuilder) {
 }
 
 /// Where in a word the reason of a refusal is.
-fn place_of(refusal: EntryRefusal) -> &'static str {
-    match refusal {
-        EntryRefusal::Status => ", part 3, STATUS: ",
-        EntryRefusal::Body => ", part 4, BODYHEX: ",
-        EntryRefusal::Field | EntryRefusal::Length => ": ",
+fn place_of(fault: EntryFault) -> &'static str {
+    match fault {
+        EntryFault::BadStatus => ", part 3, STATUS: ",
+        EntryFault::BodyNotAllowed => ", part 4, BODYHEX: ",
+        EntryFault::BadField | EntryFault::TooLong => ": ",
     }
 }
 
 /// Says why the book refuses the answer that a word says.
-pub fn say_answer(place: usize, word: &str, refusal: EntryRefusal, out: &mut TextBuilder) {
+pub fn say_answer(place: usize, word: &str, fault: EntryFault, out: &mut TextBuilder) {
     AnswerPlace(place).say(out);
-    if let EntryRefusal::Field = refusal {
+    if let EntryFault::BadField = fault {
         say_field(word, out);
         return;
     }
-    place_of(refusal).say(out);
+    place_of(fault).say(out);
     let status = Cut(part_of(word, 3).as_bytes());
     let octets = part_of(word, 4).len() / 2;
-    say_entry(refusal, part_of(word, 1), status, octets, out);
+    say_entry(fault, part_of(word, 1), status, Some(octets), out);
+    ".\n".say(out);
 }

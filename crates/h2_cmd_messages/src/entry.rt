@@ -3,30 +3,10 @@
 use h2_hpack_validity::octets::{
     bad_octet_of_name, bad_octet_of_value, is_bad_value, is_connection_name, is_pseudo_name,
 };
-use h2_io::say::{Cut, OctetCount, Say, TextBuilder};
+use h2_io::say::{OctetCount, Say, TextBuilder};
 use h2_io::say_all;
 use h2_request_book::book::MAX_BODY;
 use h2_request_book::fault::EntryFault;
-
-/// What a book refuses an entry for.
-#[derive(Clone, Copy)]
-pub enum EntryRefusal {
-    Status,
-    Field,
-    Body,
-    Length,
-}
-
-impl From<EntryFault> for EntryRefusal {
-    fn from(fault: EntryFault) -> EntryRefusal {
-        match fault {
-            EntryFault::BadStatus => EntryRefusal::Status,
-            EntryFault::BadField => EntryRefusal::Field,
-            EntryFault::BodyNotAllowed => EntryRefusal::Body,
-            EntryFault::TooLong => EntryRefusal::Length,
-        }
-    }
-}
 
 /// Why a field is not allowed in an answer, after its name: it is one of a connection, one that the server writes itself,
 /// or has an octet that it may not have.
@@ -51,29 +31,51 @@ pub fn field_reason(name: &[u8], value: &[u8]) -> Option<&'static str> {
     }
 }
 
-/// Says what a book refuses an entry for that has this method and this status, and a body of this many octets.
-pub fn say_entry(
-    refusal: EntryRefusal,
+/// Says that an entry with this method and this status has no body, and that this one has, of this many octets where that is
+/// known.
+fn say_no_body<S: Say + Copy>(
     method: &str,
-    status: Cut<'_>,
-    octets: usize,
+    status: S,
+    octets: Option<usize>,
     out: &mut TextBuilder,
 ) {
-    match refusal {
-        EntryRefusal::Status =>
-            say_all!(out; "the status is ", status, "; it has to be 200 to 599.\n"),
-        EntryRefusal::Field => say_all!(out; "a field is not allowed in an answer.\n"),
-        EntryRefusal::Body if method == "HEAD" => {
-            say_all!(out; "an answer to HEAD has no body, and this one has ", OctetCount(octets as u64), ".\n");
-        }
-        EntryRefusal::Body => {
-            say_all!(out; "an answer with status ", status, " has no body, and this one has ", OctetCount(octets as u64), ".\n");
-        }
-        EntryRefusal::Length if octets > MAX_BODY => {
-            say_all!(out; "the body has ", OctetCount(octets as u64), "; at most ", MAX_BODY, " are taken.\n");
-        }
-        EntryRefusal::Length => {
-            say_all!(out; "the fields take more than 16383 octets, or the book has 1000 answers already.\n");
-        }
+    if method == "HEAD" {
+        say_all!(out; "an answer to HEAD");
+    } else {
+        say_all!(out; "an answer with status ", status);
+    }
+    say_all!(out; " has no body, and this one has");
+    if let Some(octets) = octets {
+        say_all!(out; " ", OctetCount(octets as u64));
+    }
+}
+
+/// Says why an entry is too long, whose body has this many octets where that is known.
+fn say_long(octets: Option<usize>, out: &mut TextBuilder) {
+    match octets {
+        None =>
+            say_all!(out; "the body has more than ", MAX_BODY, " octets, the fields take more than 16383, or the book has 1000 answers already"),
+        Some(octets) if octets > MAX_BODY =>
+            say_all!(out; "the body has ", OctetCount(octets as u64), "; at most ", MAX_BODY, " are taken"),
+        Some(_) =>
+            say_all!(out; "the fields take more than 16383 octets, or the book has 1000 answers already"),
+    }
+}
+
+/// Says what a book refuses an entry for that has this method and this status, and a body of this many octets where that is
+/// known. The sentence has no end.
+pub fn say_entry<S: Say + Copy>(
+    fault: EntryFault,
+    method: &str,
+    status: S,
+    octets: Option<usize>,
+    out: &mut TextBuilder,
+) {
+    match fault {
+        EntryFault::BadStatus =>
+            say_all!(out; "the status is ", status, "; it has to be 200 to 599"),
+        EntryFault::BadField => say_all!(out; "a field is not allowed in an answer"),
+        EntryFault::BodyNotAllowed => say_no_body(method, status, octets, out),
+        EntryFault::TooLong => say_long(octets, out),
     }
 }

@@ -107,7 +107,7 @@ pub fn place_at(text: &[u8], before: usize) -> TextPlace {
 
 /// A text between backquotes, cut and escaped.
 #[derive(Clone, Copy)]
-pub(crate) struct Quoted<'a>(pub(crate) &'a [u8]);
+pub struct Quoted<'a>(pub &'a [u8]);
 
 impl Say for Quoted<'_> {
     fn say<A: Allocator>(self, out: &mut TextBuilder<A>) {

@@ -34,11 +34,6 @@ pub fn say_too_long(source: InputSource<'_>, most: usize, out: &mut TextBuilder)
     say_all!(out; source, ": it has more than ", most, " octets, the most that is read.\n");
 }
 
-/// Says that a file is too long with the commands of its session: together they have more octets than this.
-pub fn say_long_session(source: InputSource<'_>, most: usize, out: &mut TextBuilder) {
-    say_all!(out; source, ": its digits, a line feed and the commands have more than ", most, " octets, the most of a session; white space in the file does not count.\n");
-}
-
 /// Says where a text is not UTF-8.
 pub fn say_no_text(source: InputSource<'_>, text: &[u8], out: &mut TextBuilder) {
     let at = match std::str::from_utf8(text) {
