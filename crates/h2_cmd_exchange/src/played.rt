@@ -185,10 +185,9 @@ impl Played {
     {
         let mut buffer = [0u8; READ_SIZE];
         while self.goes_on(asked) {
-            match self.hear(alloc, link, &mut buffer, millis) {
-                Ok(true) => {}
-                Ok(false) => return Ok(()),
-                Err(error) => return Err(error),
+            let is_heard = self.hear(alloc, link, &mut buffer, millis)?;
+            if !is_heard {
+                return Ok(());
             }
         }
         Ok(())
@@ -221,13 +220,9 @@ impl Played {
     {
         self.count();
         let done = link.write_all(piece);
-        match self.listen(alloc, link, asked, millis) {
-            Ok(()) => {
-                self.close_if(done);
-                Ok(())
-            }
-            Err(error) => Err(error),
-        }
+        self.listen(alloc, link, asked, millis)?;
+        self.close_if(done);
+        Ok(())
     }
 
     /// Sends a piece, where the connection is open, and reads what comes after it.
@@ -242,10 +237,7 @@ impl Played {
         ensures { OnOk result (Sends asked piece.now self.old (L.log link.old) self.new (L.log link.new)) }
     {
         if self.is_open() {
-            match self.send_open(alloc, link, piece, asked, millis) {
-                Ok(()) => Ok(()),
-                Err(error) => Err(error),
-            }
+            self.send_open(alloc, link, piece, asked, millis)
         } else {
             Ok(())
         }
