@@ -127,10 +127,7 @@ pub fn case_items(
     ensures items { IfOk result (λ x. IsCase (opening book.now config) octets.items is_tagged x) }
     ensures fault { IfErr result (λ fault. (fault ≡ NoMemory) ⊎ ((fault ≡ BadConfig) × (is_allowed config ≡ false))) }
 {
-    let items = match items_of(alloc, book, config, octets.as_slice()) {
-        Ok(items) => items,
-        Err(fault) => return Err(fault),
-    };
+    let items = items_of(alloc, book, config, octets.as_slice())?;
     match case_of(alloc, octets, items, is_tagged) {
         Ok(found) => Ok(found),
         Err(_) => Err(ItemsFault::NoMemory),

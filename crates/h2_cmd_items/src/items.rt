@@ -78,18 +78,16 @@ impl Taking {
     fn new(alloc: Global) -> Result<Taking, AllocError>
         ensures { IfOk result (λ t. (t.sent.items ≡ []) × (along_of t ≡ no_item)) }
     {
-        match ServerFrames::new(alloc) {
-            Ok(frames) => Ok(Taking {
-                sent: Vec::new(alloc),
-                own: Vec::new(alloc),
-                frames,
-                opens: false,
-                low: 0,
-                is_post: false,
-                run: Run::new(alloc),
-            }),
-            Err(error) => Err(error),
-        }
+        let frames = ServerFrames::new(alloc)?;
+        Ok(Taking {
+            sent: Vec::new(alloc),
+            own: Vec::new(alloc),
+            frames,
+            opens: false,
+            low: 0,
+            is_post: false,
+            run: Run::new(alloc),
+        })
     }
 
     /// What a judge has to know of an item.
@@ -106,10 +104,7 @@ impl Taking {
     fn add(&mut self, sent: Sent, octets: &[u8]) -> Result<(), AllocError>
         ensures { OnOk result (AddsSent self.old.sent.items (along_of self.old) sent octets.now self.new.sent.items (along_of self.new)) }
     {
-        match self.frames.read_on(octets, sent.number, &mut self.own) {
-            Ok(_) => {}
-            Err(error) => return Err(error),
-        }
+        self.frames.read_on(octets, sent.number, &mut self.own)?;
         self.opens = sent.opens;
         self.low = sent.low;
         match self.sent.push(sent) {
@@ -189,10 +184,9 @@ impl Taking {
     {
         let mut at = 0usize;
         loop {
-            match self.take(alloc, explainer, conn, octets_from(octets, at), at) {
-                Ok(Some(used)) => at += used,
-                Ok(None) => return Ok(()),
-                Err(error) => return Err(error),
+            match self.take(alloc, explainer, conn, octets_from(octets, at), at)? {
+                Some(used) => at += used,
+                None => return Ok(()),
             }
         }
     }
