@@ -11,7 +11,9 @@ import contextlib
 import glob
 import io
 import itertools
+import json
 import os
+import pathlib
 import re
 import socket
 import subprocess
@@ -22,6 +24,7 @@ import types
 
 sys.dont_write_bytecode = True
 import dialogues as under_test  # noqa: E402
+import schema  # noqa: E402
 from dialogues import ACK, CODES, DATA, END_HEADERS, END_STREAM, GOAWAY, HEADERS, PING, PROBE, RST_STREAM, SETTINGS, WINDOW_UPDATE, Frame, frames_of, number_at, octets_of  # noqa: E402
 
 TOP = under_test.TOP
@@ -493,21 +496,167 @@ def view_client(port, octets, awaited, then):
             pass
 
 
+def viewed(script, words, clients):
+    """What `serve --inject` prints of clients, each of them octets, others that are awaited, and octets to send then; and its exit status."""
+    port = free_port()
+    command = ["h2_bench", "serve", "--inject", script, *words, str(port), str(len(clients)), "GET|/|200|6869"]
+    with subprocess.Popen(command, executable=PROGRAM, stdout=subprocess.PIPE, stderr=subprocess.PIPE, text=True) as ran:
+        ran.stdout.readline()
+        for client in clients:
+            view_client(port, *client)
+        text, said = ran.stdout.read(), ran.stderr.read()
+    return text + said, ran.returncode
+
+
+def written(name, text):
+    with open(f"{FOLDER}/{name}", "w", encoding="utf-8") as file:
+        file.write(text)
+    return f"{FOLDER}/{name}"
+
+
+REQUEST = START + octets_of(Frame(HEADERS, END_HEADERS | END_STREAM, 1, GET + b"A\1a"))
+ANSWER = octets_of(Frame(PING, ACK, 0, PROBE))
+IDLE = octets_of(Frame(DATA, END_STREAM, 9, b"a"))
+ACKNOWLEDGED = b"\4\1\0\0\0\0"
+FOUND = 'not ok 1 - {}: DATA on stream 0 (RFC 9113, 6.1)\n  ---\n  - line: 1\n    wanted: "a client that the server goes on with"\n    found: "ended by the server: data-on-idle"\n  ...\n'
+
+
 def test_view():
     """With `--explain` each item is shown with what of the server went out for it, what did not, and what the script sent."""
-    idle = octets_of(Frame(DATA, END_STREAM, 9, b"a"))
-    with tempfile.TemporaryDirectory() as folder:
-        path, port = f"{folder}/view.h2", free_port()
-        with open(path, "w", encoding="utf-8") as file:
-            file.write(VIEWED)
-        words = ["h2_bench", "serve", "--inject", path, "--explain", "--brief", str(port), "2", "GET|/|200|6869"]
-        with subprocess.Popen(words, executable=PROGRAM, stdout=subprocess.PIPE, stderr=subprocess.PIPE, text=True) as ran:
-            ran.stdout.readline()
-            view_client(port, START + octets_of(Frame(HEADERS, END_HEADERS | END_STREAM, 1, GET + b"A\1a")), PROBE, octets_of(Frame(PING, ACK, 0, PROBE)) + idle)
-            view_client(port, START, b"\4\1\0\0\0\0", idle)
-            text, said = ran.stdout.read(), ran.stderr.read()
-        found = f'not ok 1 - {path}: DATA on stream 0 (RFC 9113, 6.1)\n  ---\n  - line: 1\n    wanted: "a client that the server goes on with"\n    found: "ended by the server: data-on-idle"\n  ...\n'
-        expect((text, said) == (VIEW + found + LATER, ""), f"a view: {text}, {said}")
+    path = written("view.h2", VIEWED)
+    got = viewed(path, ["--explain", "--brief"], [(REQUEST, PROBE, ANSWER + IDLE), (START, ACKNOWLEDGED, IDLE)])
+    expect(got == (VIEW + FOUND.format(path) + LATER, 1), f"a view: {got}")
+
+
+# Of each object of a connection: its number, the frames that went out, did not, and are the script's, and what is not judged.
+JSON_VIEW = [
+    (0, ["SETTINGS, MAX_CONCURRENT_STREAMS 100, MAX_HEADER_LIST_SIZE 65536"], [], [], None),
+    (1, [], [], [], None),
+    (2, ["SETTINGS ACK"], [], [], None),
+    (3, [], ["HEADERS stream 1 END_HEADERS, 1 octet", "DATA stream 1 END_STREAM, 2 octets"], ["DATA stream 0, 1 octet", "PING 68325f62656e6368"], None),
+    (4, [], [], ["HEADERS stream 1 END_STREAM END_HEADERS, 1 octet"], {"reason": "ping-acknowledgement", "since": 3}),
+    (5, ["GOAWAY last 1 PROTOCOL_ERROR"], [], [], {"cause": "data-on-idle", "code": {"name": "PROTOCOL_ERROR", "number": 1}, "scope": "connection", "since": 3}),
+]
+
+
+def frames_said(line, member):
+    return [frame["words"] for frame in line.get(member, [])]
+
+
+def test_view_as_json():
+    """With `--json` the same are members, as docs/explain.schema.json says, and nothing is an error any more."""
+    path, rules_of_lines = written("view.h2", VIEWED), schema.Schema(f"{TOP}/docs/explain.schema.json")
+    for words in (["--json"], ["--json", "--full", "--strict"], ["--json", "--brief"]):
+        text, status = viewed(path, words, [(REQUEST, PROBE, ANSWER + IDLE), (START, ACKNOWLEDGED, IDLE)])
+        lines = [json.loads(line) for line in text.splitlines() if line.startswith("{")]
+        faults = [fault for line in lines for fault in rules_of_lines.faults(line)]
+        first = [line for line in lines if line["connection"] == 1]
+        got = [(line["item"], *(frames_said(line, name) for name in ("sent", "withheld", "script")), line.get("not_judged")) for line in first[:-1]]
+        blamed = [line["item"] for line in first[:-1] if "error" in line or "ignored" in line or "warnings" in line]
+        expect((faults, got, blamed, status) == ([], JSON_VIEW, [], 1), f"a view as JSON, {words}: {faults}, {got}, {blamed}, {status}")
+        expect(first[-1]["end"]["not_judged"] == {"since": 3}, f"its end, {words}: {first[-1]}")
+        expect(first[-1]["end"].get("verdict", {"broken": False})["broken"] is False, f"the verdict on it, {words}: {first[-1]}")
+        later = [line for line in lines if line["connection"] == 2]
+        expect(later[-2]["error"]["cause"] == "data-on-idle" and "not_judged" not in later[-1]["end"], f"a later connection, {words}: {later}")
+
+
+STARTED = """;# Instead of the opening
+;- start
+SETTINGS 00 0 s3=7
+;+ HEADERS 05 1
+PING 00 0 x0102030405060708
+"""
+
+
+def test_view_of_start():
+    """A script that speaks at the start: its frames are beside the opening, and no item is judged."""
+    path, ping = written("start.h2", STARTED), bytes(range(1, 9))
+    client = (REQUEST, octets_of(Frame(PING, 0, 0, ping)), octets_of(Frame(PING, ACK, 0, ping)))
+    text, _ = viewed(path, ["--json", "--brief"], [client])
+    opening = json.loads(text.splitlines()[0])
+    got = (opening["item"], *(frames_said(opening, name) for name in ("sent", "withheld", "script")))
+    expect(got == (0, [], ["SETTINGS, MAX_CONCURRENT_STREAMS 100, MAX_HEADER_LIST_SIZE 65536"], ["SETTINGS, MAX_CONCURRENT_STREAMS 7"]), f"the opening: {got}")
+    text, _ = viewed(path, ["--explain", "--brief"], [client])
+    wanted = ["1:         withheld SETTINGS, MAX_CONCURRENT_STREAMS 100, MAX_HEADER_LIST_SIZE 65536", "1:         script SETTINGS, MAX_CONCURRENT_STREAMS 7"]
+    expect(text.splitlines()[:2] == wanted, f"the opening as text: {text}")
+
+
+PINGED = """;# A PING
+;+ HEADERS 05 1
+PING 00 0 x0102030405060708
+;! MUST -
+"""
+RESERVED = b"\0\0\10\6\0\x80\0\0\0reserved"
+REPLY = octets_of(Frame(SETTINGS, ACK, 0, b"")) + octets_of(Frame(PING, ACK, 0, bytes(range(1, 9)))) + ANSWER
+
+# Octets of the first client before the script speaks and after that, those of a later client, the status, and the last words of the first client's lines.
+STRICT = [
+    (b"", REPLY, IDLE[:4], 7, "no error, no warning; not judged, the script has spoken since #3"),
+    (b"", REPLY, b"", 0, "no error, no warning; not judged, the script has spoken since #3"),
+    (b"", REPLY + RESERVED, b"", 0, "no error, no warning; not judged, the script has spoken since #3"),
+    (b"", REPLY + IDLE[:4], b"", 0, "no error, no warning; not judged, the script has spoken since #3"),
+    (RESERVED, REPLY, b"", 5, "no error, 1 warning; not judged, the script has spoken since #4"),
+    (RESERVED, REPLY, IDLE[:4], 5, "no error, 1 warning; not judged, the script has spoken since #4"),
+    (RESERVED, ANSWER + IDLE, b"", 1, "no error, 1 warning; not judged, the script has spoken since #4"),
+]
+
+
+def test_strict():
+    """`not ok` is 1; else `--strict` counts what was before the script spoke, and all of later connections."""
+    path = written("ping.h2", PINGED)
+    for before, after, later, status, said in STRICT:
+        octets = START + before + REQUEST[len(START) :]
+        text, got = viewed(path, ["--strict", "--brief"], [(octets, PROBE, after), (START, ACKNOWLEDGED, later)])
+        ends = [line for line in text.splitlines() if line.startswith("1: ") and " items, " in line]
+        expect(got == status and len(ends) == 1 and ends[0].endswith(said), f"--strict, {before}, {after}, {later}: {got}, {text}")
+
+
+RECORDED = """;# connection 1
+;@ --streams 100 --credit 32768 --table 4096 --window 65535 --frame 16384
+;@ 'GET|/|200|6869'
+;< SETTINGS 00 0 s3=100,6=65536
+PREFACE
+SETTINGS 00 0 -
+;< SETTINGS 01 0 -
+HEADERS 05 1 hi2,i6,i4,a1="a"
+;< HEADERS 04 1 hi8
+;< DATA 01 1 x6869
+; withheld HEADERS 04 1 hi8
+; withheld DATA 01 1 x6869
+; script DATA 00 0 x61
+; script PING 00 0 x68325f62656e6368
+PING 01 0 x68325f62656e6368
+; script HEADERS 05 1 hi8
+DATA 01 9 x61
+;< GOAWAY 00 0 x0000000100000001
+"""
+
+# The words of a dialogue, beside its file, and those of its record, whose directory is below that of the file.
+OWN_WORDS = [
+    ("--frame 20000", ";@ '--frame' '20000'\n;@ 'GET|/|200|6869'\n"),
+    ("'GET|/|201|6f6b' --window 70000", ";@ 'GET|/|201|6f6b' '--window' '70000'\n"),
+    ("--book own.toml", ";@ --book '{}/own.toml'\n"),
+]
+
+
+def test_record():
+    """A record of a connection with a script is a case that holds: the script's frames, and those that did not go out, are comments."""
+    path, folder = written("view.h2", VIEWED), f"{FOLDER}/records"
+    os.mkdir(folder)
+    viewed(path, ["--record", folder], [(REQUEST, PROBE, ANSWER + IDLE), (START, ACKNOWLEDGED, IDLE)])
+    texts = {name: pathlib.Path(f"{folder}/{name}").read_text(encoding="utf-8") for name in sorted(os.listdir(folder))}
+    expect(sorted(texts) == [f"connection-{number}.{kind}" for number in (1, 2) for kind in ("h2", "hex")], f"the files: {sorted(texts)}")
+    expect(texts["connection-1.h2"] == RECORDED, f"a record: {texts['connection-1.h2']}")
+    expect(texts["connection-1.hex"] == (REQUEST + ANSWER + IDLE).hex() + "\n", f"its octets: {texts['connection-1.hex']}")
+    written("own.toml", '[[answer]]\nmethod = "GET"\npath = "/"\nstatus = 202\nbody = "own"\n')
+    for number, (words, wanted) in enumerate(OWN_WORDS, 3):
+        path = written("own.h2", VIEWED.replace(")\n", f")\n;@ {words}\n", 1))
+        viewed(path, ["--record", folder], [(REQUEST, PROBE, ANSWER + IDLE)])
+        text = pathlib.Path(f"{folder}/connection-{number}.h2").read_text(encoding="utf-8")
+        expect(text.startswith(";# connection 1\n" + wanted.format(FOLDER) + ";< SETTINGS "), f"{words}: {text}")
+    cases = [f"{folder}/connection-{number}.h2" for number in range(1, 3 + len(OWN_WORDS))]
+    ran = subprocess.run(["h2_bench", "check", *cases], executable=PROGRAM, capture_output=True, text=True, timeout=60, check=False)
+    expect(ran.returncode == 0 and ran.stdout.count("\nok ") == len(cases), f"records as cases: {ran}")
 
 
 # ---- lines
@@ -584,6 +733,10 @@ def test_injected(dialogues):
     INJECTED = True
     test_bad_lines_injected()
     test_view()
+    test_view_as_json()
+    test_view_of_start()
+    test_strict()
+    test_record()
     test_reactions()
     test_raw()
     test_waiting()

@@ -4,3 +4,4 @@ pub mod ScriptLines
 pub mod Dialogues
 pub mod Results
 pub mod Views
+pub mod Founds

@@ -3,15 +3,19 @@
 ghost use Rattle.std.specs.Prelude.{◌≡◌, ◌==◌, ◌-◌, [], IfOk, None, OnErr, Some, drop, false, slice_get, take};
 ghost use Rattle.h2_conn.specs.Connection.{going};
 ghost use Rattle.h2_spec.specs.State.{opening};
+ghost use Rattle.h2_cmd_inject.specs.Founds.{found_status};
 ghost use Rattle.h2_cmd_inject.specs.Results.{cause_by};
 ghost use Rattle.h2_cmd_inject.specs.Stops.{is_unwritten, is_written};
 ghost use Rattle.h2_cmd_inject.specs.declared.serving.Stop.TheVariants.{NoMemory};
 
 use crate::file::{Dialogue, FileRefusal, dialogues_of};
-use crate::view::view_text;
+use crate::keeper::ScriptKeeper;
+use crate::view::view_of;
 use crate::words::{Ending, PATIENCE, has_broken, result_text};
 use h2_cmd_args::command::{Serve, ServeReport};
-use h2_cmd_batch::{BenchFault, Case, CaseSetup, OwnFault, book_for_words, own_of, print_fault};
+use h2_cmd_batch::{
+    BenchFault, Case, CaseSetup, Common, OwnFault, book_for_words, own_of, print_fault,
+};
 use h2_cmd_book_file::{Files, FilesFault};
 use h2_cmd_cases::{have_words, lines_in, title_of};
 use h2_cmd_check::Title;
@@ -21,10 +25,10 @@ use h2_cmd_dialogue::play::{Course, End};
 use h2_cmd_dialogue::step::Step;
 use h2_cmd_exchange::link::Link;
 use h2_conn::{Conn, ConnFault};
+use h2_explain::{Form, Summary};
 use h2_io::{MAX_INPUT, Output};
-use h2_request_book::book::Book;
+use h2_serve::Clients;
 use h2_spec::causes::Cause;
-use h2_spec::connection::Config;
 use std::alloc::{AllocError, Global};
 use std::str;
 
@@ -57,8 +61,8 @@ impl From<AllocError> for Stop {
 /// What a dialogue is played with.
 #[derive(Clone, Copy)]
 struct Play<'p, 't> {
-    /// What is shown of connections.
-    watch: ServeReport<'p>,
+    /// In which form connections are shown, if they are.
+    form: Option<Form>,
     file: &'p str,
     number: u64,
     lines: &'p [&'t [u8]],
@@ -178,11 +182,11 @@ fn print<O: Output>(output: &mut O, text: &[u8]) -> Result<(), Stop>
 }
 
 /// A new connection.
-fn open(alloc: Global, book: &Book<Global>, config: Config) -> Result<Conn<'_, Global>, Stop>
-    ensures new { IfOk result (λ conn. conn ≡ going (opening book.now config) []) }
+fn open<'b>(alloc: Global, common: Common<'b>) -> Result<Conn<'b, Global>, Stop>
+    ensures new { IfOk result (λ conn. conn ≡ going (opening common.entry.book.now common.entry.config) []) }
     ensures flag { is_unwritten result ≡ false }
 {
-    match Conn::new(book, config, &mut Vec::new(alloc)) {
+    match Conn::new(common.book, common.config, &mut Vec::new(alloc)) {
         Ok(conn) => Ok(conn),
         Err(ConnFault::BadConfig) => Err(Stop::Fault(BenchFault::BadConfig)),
         Err(_) => Err(Stop::NoMemory),
@@ -192,15 +196,14 @@ fn open(alloc: Global, book: &Book<Global>, config: Config) -> Result<Conn<'_, G
 /// Plays the connection of a client. Gives what is known of it, and how it ended.
 fn play_one<'b, L: Link>(
     alloc: Global,
-    book: &'b Book<Global>,
-    config: Config,
+    common: Common<'b>,
     steps: &[Step],
     link: &mut L,
 ) -> Result<(Course<'b>, End), Stop>
     ensures { is_unwritten result ≡ false }
 {
     let mut opening = Vec::new(alloc);
-    let conn = match Conn::new(book, config, &mut opening) {
+    let conn = match Conn::new(common.book, common.config, &mut opening) {
         Ok(conn) => conn,
         Err(ConnFault::BadConfig) => return Err(Stop::Fault(BenchFault::BadConfig)),
         Err(_) => return Err(Stop::NoMemory),
@@ -213,71 +216,95 @@ fn play_one<'b, L: Link>(
 /// The cause of the server's error, where that ended a connection.
 fn cause_if(
     alloc: Global,
-    book: &Book<Global>,
-    config: Config,
+    common: Common<'_>,
     end: End,
     course: &Course<'_>,
 ) -> Result<Option<Cause>, AllocError>
-    ensures { IfOk result (λ cause. cause ≡ cause_by end (opening book.now config) course.now.octets) }
+    ensures { IfOk result (λ cause. cause ≡ cause_by end (opening common.entry.book.now common.entry.config) course.now.octets) }
 {
     match end {
-        End::ByServer(_) => last_cause(alloc, book, config, course.octets()),
+        End::ByServer(_) => last_cause(alloc, common.book, common.config, course.octets()),
         End::Closed | End::Silent | End::NoFrames | End::TooMuch | End::Late => Ok(None),
     }
 }
 
-/// Prints what is shown of the connection with this number, where that is asked for.
-fn show<O: Output>(
+/// Prints what is shown of a connection in a form, the one with this number. Gives what sums it up.
+fn show<K: ScriptKeeper, O: Output>(
     alloc: Global,
-    book: &Book<Global>,
-    config: Config,
-    watch: ServeReport<'_>,
+    conn: Conn<'_, Global>,
+    form: Form,
     steps: &[Step],
-    number: u64,
+    number: u32,
     course: &Course<'_>,
+    keeper: &mut K,
     output: &mut O,
-) -> Result<(), Stop>
+) -> Result<Summary, Stop>
+    requires new { conn ≡ going conn.state [] }
     requires writer { O.has_failed output.old ≡ false }
     ensures flag { O.has_failed output.new ≡ is_unwritten result }
 {
-    if !watch.explain {
-        return Ok(());
-    }
-    let conn = open(alloc, book, config)?;
     let mut octets = Vec::from_slice(alloc, course.octets())?;
     octets.extend_from_slice(course.rest())?;
-    let text = view_text(alloc, watch, conn, steps, number, octets.as_slice())?;
-    print(output, text.as_slice())
+    let octets = octets.as_slice();
+    let (text, summary) = view_of(alloc, form, conn, steps, number, octets, keeper)?;
+    print(output, text.as_slice())?;
+    Ok(summary)
 }
 
-/// Plays a dialogue to the first client, and prints its result. Says whether something is broken.
-fn play_first<L: Link, O: Output>(
+/// Shows the connection with this number, where that is asked for. Gives the verdict on its client and those before it.
+fn show_if<K: ScriptKeeper, O: Output>(
     alloc: Global,
-    book: &Book<Global>,
-    config: Config,
+    common: Common<'_>,
+    form: Option<Form>,
+    steps: &[Step],
+    clients: Clients,
+    number: u32,
+    course: &Course<'_>,
+    keeper: &mut K,
+    output: &mut O,
+) -> Result<Clients, Stop>
+    requires writer { O.has_failed output.old ≡ false }
+    ensures flag { O.has_failed output.new ≡ is_unwritten result }
+{
+    let Some(form) = form else {
+        return Ok(clients);
+    };
+    let conn = open(alloc, common)?;
+    let summary = show(alloc, conn, form, steps, number, course, keeper, output)?;
+    Ok(clients.with(Some(summary)))
+}
+
+/// What was found of the clients.
+#[derive(Clone, Copy)]
+struct Found {
+    /// Whether something is broken of the dialogue.
+    is_broken: bool,
+    /// The verdict on them, where connections are shown.
+    clients: Clients,
+}
+
+/// Prints the result of a dialogue that was played. Says whether something is broken.
+fn print_result<O: Output>(
+    alloc: Global,
+    common: Common<'_>,
     play: Play<'_, '_>,
-    link: &mut L,
+    course: &Course<'_>,
+    end: End,
     output: &mut O,
 ) -> Result<bool, Stop>
     requires writer { O.has_failed output.old ≡ false }
     ensures flag { O.has_failed output.new ≡ is_unwritten result }
 {
     let dialogue = play.dialogue;
-    let steps = dialogue.steps.as_slice();
-    let (course, end) = play_one(alloc, book, config, steps, link)?;
-    show(alloc, book, config, play.watch, steps, 1, &course, output)?;
-    let ended = Ended {
-        course: &course,
-        end,
-    };
-    let findings = ended.findings(alloc, steps)?;
+    let ended = Ended { course, end };
+    let findings = ended.findings(alloc, dialogue.steps.as_slice())?;
     let title = Title {
         file: play.file,
         title: title_of(lines_of(play)),
     };
     let ending = Ending {
         end,
-        cause: cause_if(alloc, book, config, end, &course)?,
+        cause: cause_if(alloc, common, end, course)?,
         rest: course.rest(),
     };
     let text = result_text(
@@ -293,6 +320,26 @@ fn play_first<L: Link, O: Output>(
     Ok(has_broken(findings.as_slice()))
 }
 
+/// Plays a dialogue to the first client, and prints its result.
+fn play_first<L: Link, K: ScriptKeeper, O: Output>(
+    alloc: Global,
+    common: Common<'_>,
+    play: Play<'_, '_>,
+    link: &mut L,
+    keeper: &mut K,
+    output: &mut O,
+) -> Result<Found, Stop>
+    requires writer { O.has_failed output.old ≡ false }
+    ensures flag { O.has_failed output.new ≡ is_unwritten result }
+{
+    let (form, steps) = (play.form, play.dialogue.steps.as_slice());
+    let (course, end) = play_one(alloc, common, steps, link)?;
+    let (none, course) = (Clients::none(), &course);
+    let clients = show_if(alloc, common, form, steps, none, 1, course, keeper, output)?;
+    let is_broken = print_result(alloc, common, play, course, end, output)?;
+    Ok(Found { is_broken, clients })
+}
+
 /// Waits for the next client.
 fn accept<L: Link>(link: &mut L) -> Result<(), Stop>
     ensures { is_unwritten result ≡ false }
@@ -304,56 +351,85 @@ fn accept<L: Link>(link: &mut L) -> Result<(), Stop>
     }
 }
 
-/// Serves this many clients: the first one has the script, later ones the server alone. Says whether something is broken.
-fn serve_all<L: Link, O: Output>(
+/// Serves a later client, the one with this number, by the server alone. Gives the verdict on it and those before it.
+fn play_later<L: Link, K: ScriptKeeper, O: Output>(
     alloc: Global,
-    book: &Book<Global>,
-    config: Config,
+    common: Common<'_>,
+    form: Option<Form>,
+    clients: Clients,
+    number: u32,
+    link: &mut L,
+    keeper: &mut K,
+    output: &mut O,
+) -> Result<Clients, Stop>
+    requires writer { O.has_failed output.old ≡ false }
+    ensures flag { O.has_failed output.new ≡ is_unwritten result }
+{
+    accept(link)?;
+    let (course, _end) = play_one(alloc, common, &[], link)?;
+    let course = &course;
+    show_if(
+        alloc,
+        common,
+        form,
+        &[],
+        clients,
+        number,
+        course,
+        keeper,
+        output,
+    )
+}
+
+/// Serves this many clients: the first one has the script, later ones the server alone.
+fn serve_all<L: Link, K: ScriptKeeper, O: Output>(
+    alloc: Global,
+    common: Common<'_>,
     play: Play<'_, '_>,
     count: u32,
     link: &mut L,
+    keeper: &mut K,
     output: &mut O,
-) -> Result<bool, Stop>
+) -> Result<Found, Stop>
     requires writer { O.has_failed output.old ≡ false }
     ensures flag { O.has_failed output.new ≡ is_unwritten result }
 {
     if count == 0 {
-        return Ok(false);
+        let clients = Clients::none();
+        return Ok(Found {
+            is_broken: false,
+            clients,
+        });
     }
     accept(link)?;
-    let is_broken = play_first(alloc, book, config, play, link, output)?;
+    let found = play_first(alloc, common, play, link, keeper, output)?;
+    let mut clients = found.clients;
     for later in 1..count {
-        accept(link)?;
-        let (course, _end) = play_one(alloc, book, config, &[], link)?;
-        let number = u64::from(later).saturating_add(1);
-        show(
-            alloc,
-            book,
-            config,
-            play.watch,
-            &[],
-            number,
-            &course,
-            output,
+        let number = later.saturating_add(1);
+        clients = play_later(
+            alloc, common, play.form, clients, number, link, keeper, output,
         )?;
     }
-    Ok(is_broken)
+    Ok(Found {
+        is_broken: found.is_broken,
+        clients,
+    })
 }
 
 /// Listens on a port, prints that, and serves.
-fn listen_and_serve<G: Guests, O: Output>(
+fn listen_and_serve<G: Guests, K: ScriptKeeper, O: Output>(
     alloc: Global,
-    book: &Book<Global>,
-    config: Config,
+    common: Common<'_>,
     play: Play<'_, '_>,
     plan: &Serve<'_>,
     guests: &mut G,
+    keeper: &mut K,
     output: &mut O,
-) -> Result<bool, Stop>
+) -> Result<Found, Stop>
     requires writer { O.has_failed output.old ≡ false }
     ensures flag { O.has_failed output.new ≡ is_unwritten result }
 {
-    let _conn = open(alloc, book, config)?;
+    let _conn = open(alloc, common)?;
     let Ok(port) = u16::try_from(plan.port) else {
         return Err(Stop::Fault(BenchFault::Socket));
     };
@@ -362,7 +438,7 @@ fn listen_and_serve<G: Guests, O: Output>(
     }
     let line = format!(in alloc; "listening {port}\n")?;
     print(output, line.as_bytes())?;
-    serve_all(alloc, book, config, play, plan.count, guests, output)
+    serve_all(alloc, common, play, plan.count, guests, keeper, output)
 }
 
 /// The dialogues of a file with these lines.
@@ -403,7 +479,7 @@ fn check_words<'p, F: Files>(
 {
     for dialogue in dialogues {
         let play = Play {
-            watch,
+            form: None,
             file: watch.inject,
             number: 0,
             lines,
@@ -414,15 +490,36 @@ fn check_words<'p, F: Files>(
     Ok(())
 }
 
-/// Serves, as a plan says. Says whether something is broken.
-fn run<F: Files, G: Guests, O: Output, E: Output>(
+/// What clients are served with: what a dialogue says, if it says something, and this book where it says no answers. Tells
+/// `keeper` so.
+fn common_of<'c, K: ScriptKeeper>(
+    play: Play<'_, '_>,
+    common: Common<'c>,
+    own: &'c Option<CaseSetup>,
+    keeper: &mut K,
+) -> Common<'c> {
+    let Some(own) = own else {
+        return common;
+    };
+    let have_answers = own.book.len() > 0;
+    keeper.keep_words(play.file, lines_of(play), have_answers);
+    Common {
+        config: own.config,
+        book: if have_answers { &own.book } else { common.book },
+    }
+}
+
+/// Serves, as a plan says, and shows connections in a form, if one is given.
+fn run<F: Files, G: Guests, K: ScriptKeeper, O: Output, E: Output>(
     alloc: Global,
     plan: &Serve<'_>,
+    form: Option<Form>,
     guests: &mut G,
     files: &mut F,
+    keeper: &mut K,
     output: &mut O,
     errors: &mut E,
-) -> Result<bool, Stop>
+) -> Result<Found, Stop>
     requires writer { O.has_failed output.old ≡ false }
     ensures flag { O.has_failed output.new ≡ is_unwritten result }
 {
@@ -432,7 +529,7 @@ fn run<F: Files, G: Guests, O: Output, E: Output>(
     let dialogues = dialogues_in(alloc, plan.watch.inject, lines)?;
     check_words(alloc, plan.watch, lines, dialogues.as_slice(), files)?;
     let play = Play {
-        watch: plan.watch,
+        form,
         file: plan.watch.inject,
         number: u64::from(plan.watch.dialogue),
         lines,
@@ -443,36 +540,50 @@ fn run<F: Files, G: Guests, O: Output, E: Output>(
         Ok(book) => book,
         Err(fault) => return Err(Stop::Fault(fault)),
     };
-    match &own {
-        None => listen_and_serve(alloc, &book, plan.config, play, plan, guests, output),
-        Some(own) => {
-            let book = if own.book.len() == 0 {
-                &book
-            } else {
-                &own.book
-            };
-            listen_and_serve(alloc, book, own.config, play, plan, guests, output)
-        }
+    let common = Common {
+        config: plan.config,
+        book: &book,
+    };
+    let common = common_of(play, common, &own, keeper);
+    listen_and_serve(alloc, common, play, plan, guests, keeper, output)
+}
+
+/// The status of what was found: 1 where something is broken of the dialogue, else, with `--strict`, that of the verdict on the
+/// clients.
+fn status_of(strict: bool, found: Found) -> u8
+    ensures value { result ≡ found_status strict found }
+    ensures other { (result == 3) ≡ false }
+{
+    if found.is_broken {
+        1
+    } else if strict {
+        found.clients.status()
+    } else {
+        0
     }
 }
 
 /// Serves clients of a port, as a plan says that names a file of dialogues: the first client has the script of one of them, and
-/// its result is printed; later ones get the server alone. Gives the status: 0 where nothing is broken, 1 where something is, and
-/// after a fault, 2 where the file is refused and a sentence is written to `errors`, 3 where the output failed.
-pub fn inject<F: Files, G: Guests, O: Output, E: Output>(
+/// its result is printed; later ones get the server alone. Where the plan asks for it, each connection is shown in this form once it
+/// has ended, and `keeper` keeps it. Gives the status: 1 where something is broken, and after a fault; else, with `--strict`, that of
+/// the verdict on the clients, 0, or 4 to 7; else 0. 2 where the file is refused and a sentence is written to `errors`, 3 where the
+/// output failed.
+pub fn inject<F: Files, G: Guests, K: ScriptKeeper, O: Output, E: Output>(
     alloc: Global,
     plan: &Serve<'_>,
+    form: Form,
     guests: &mut G,
     files: &mut F,
+    keeper: &mut K,
     output: &mut O,
     errors: &mut E,
 ) -> u8
     requires writer { O.has_failed output.old ≡ false }
     ensures flag { O.has_failed output.new ≡ (result == 3) }
 {
-    match run(alloc, plan, guests, files, output, errors) {
-        Ok(true) => 1,
-        Ok(false) => 0,
+    let shown = if plan.watch.explain { Some(form) } else { None };
+    match run(alloc, plan, shown, guests, files, keeper, output, errors) {
+        Ok(found) => status_of(form.strict, found),
         Err(Stop::NoMemory) => print_fault(output, BenchFault::NoMemory),
         Err(Stop::Fault(fault)) => print_fault(output, fault),
         Err(Stop::NotWritten) => 3,

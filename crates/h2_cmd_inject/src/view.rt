@@ -8,25 +8,26 @@ ghost use Rattle.h2_cmd_inject.specs.Views.{has_spoken, incoming_in, judged, sin
 ghost use Rattle.h2_cmd_dialogue.specs.Steps.{incoming_of};
 ghost use Rattle.h2_cmd_dialogue.specs.Woven.{after_item, parts_of};
 
-use h2_cmd_args::command::ServeReport;
-use h2_cmd_cases::lines_in;
+use crate::aside::{put_parts, put_unjudged};
+use crate::keeper::ScriptKeeper;
 use h2_cmd_dialogue::step::{Incoming, Step};
 use h2_cmd_dialogue::weave::{Parts, Weaver};
 use h2_conn::{Conn, write_opening};
+use h2_explain::{
+    End, Form, Summary, Tally, put_text, rest_of, shows_item, shows_opening, summary_since,
+};
 use h2_explain_item::diagnosis::warning::Warnings;
 use h2_explain_item::item::{Explained, part_in};
+use h2_explain_json::json::{Aside, Unjudged, put_opening};
+use h2_explain_json::json_words::JsonWords;
 use h2_explain_step::explainer::ItemExplainer;
 use h2_explain_step::taking::{moment_at, stream_of_next};
 use h2_explain_text::account::Account;
 use h2_explain_text::lines::ItemLines;
-use h2_explain_text::paint::{Paint, Role};
-use h2_explain_text::rest::{InputRest, missing_of, rest_line};
-use h2_explain_text::why::WhyHead;
-use h2_explain_words::frame_words::say_frame;
-use h2_explain_words::sent::next_frame;
+use h2_explain_text::paint::Paint;
 use h2_frame::FrameRef;
 use h2_io::say::TextBuilder;
-use h2_io::{say_all, string_of};
+use h2_serve::numbered;
 use h2_spec::causes::Cause;
 use h2_spec::frames::ItemHead;
 use h2_spec::ignored::Ignored;
@@ -81,50 +82,32 @@ fn incoming<'o>(item: &'o Explained<'_>) -> Incoming<'o>
     }
 }
 
-/// Puts a line last for each frame of octets, after these words.
-fn say_frames(words: &str, octets: &[u8], paint: Paint, out: &mut TextBuilder) {
-    let mut rest = octets;
-    for _frame in 0..octets.len() {
-        let Some((frame, after)) = next_frame(rest) else {
-            return;
-        };
-        rest = after;
-        paint.begin(Role::Sent, out);
-        say_all!(out; words, " ");
-        say_frame(frame, out);
-        paint.end(out);
-    }
-}
-
-/// Puts the lines of what did not go out last, and of what the script sent.
-fn say_aside(parts: &Parts, paint: Paint, out: &mut TextBuilder) {
-    say_frames("withheld", parts.withheld.as_slice(), paint, out);
-    say_frames("script", parts.script.as_slice(), paint, out);
-}
-
-/// Puts the line of an error or a reason last that is not judged, since the script has spoken since this item.
-fn say_unjudged(
-    alloc: Global,
-    since: u64,
-    item: &Explained<'_>,
-    paint: Paint,
-    out: &mut TextBuilder,
-) -> Result<(), AllocError> {
-    if item.cause.is_none() && item.ignored.is_none() {
-        return Ok(());
-    }
-    let head = string_of(
-        alloc,
-        &WhyHead {
-            phase: item.after.counts.phase,
+/// What is not judged of an item, once the script has spoken.
+fn unjudged(since: Option<u64>, item: &Explained<'_>) -> Option<Unjudged> {
+    match since {
+        None => None,
+        Some(since) => Some(Unjudged {
+            since,
             cause: item.cause,
+            is_connection: item.ends_connection(),
             ignored: item.ignored,
-        },
-    )?;
-    paint.begin(Role::Ignored, out);
-    say_all!(out; head.as_str().trim_end(), "; not judged, the script has spoken since #", since);
-    paint.end(out);
-    Ok(())
+        }),
+    }
+}
+
+/// What the script made of something, as JSON has it.
+fn aside_of(parts: &Parts, unjudged: Option<Unjudged>) -> Aside<'_> {
+    Aside {
+        withheld: parts.withheld.as_slice(),
+        script: parts.script.as_slice(),
+        unjudged,
+    }
+}
+
+/// Hands over what did not go out, and what the script sent.
+fn keep<K: ScriptKeeper>(parts: &Parts, keeper: &mut K) {
+    keeper.keep_withheld(parts.withheld.as_slice());
+    keeper.keep_script(parts.script.as_slice());
 }
 
 /// A connection whose items are shown one after another.
@@ -135,6 +118,8 @@ pub struct View<'b> {
     /// What went out before the first item, and what did not.
     opening: Parts,
     explainer: ItemExplainer,
+    /// What is counted of the items that are judged.
+    tally: Tally,
     account: Account,
     lines: ItemLines,
     /// The number of the item at which the script has spoken first, if it has.
@@ -145,22 +130,34 @@ pub struct View<'b> {
 }
 
 impl<'b> View<'b> {
-    /// Nothing was taken of a new connection.
+    /// Nothing was taken of a new connection, the one with this number.
     ///
     /// `AllocError` where memory is refused.
-    fn begin(alloc: Global, conn: Conn<'b, Global>, steps: &[Step]) -> Result<View<'b>, AllocError>
+    fn begin<K: ScriptKeeper>(
+        alloc: Global,
+        form: Form,
+        conn: Conn<'b, Global>,
+        steps: &[Step],
+        number: u32,
+        keeper: &mut K,
+    ) -> Result<View<'b>, AllocError>
         ensures { IfOk result (λ view. view.conn ≡ conn.entry) }
     {
         let mut sent = Vec::new(alloc);
         write_opening(conn.config(), &mut sent)?;
         let mut weaver = Weaver::new(alloc);
         let (opening, _is_step) = weaver.weave(alloc, steps, Incoming::Start, sent.as_slice())?;
+        keeper.begin(number, sent.as_slice());
+        keep(&opening, keeper);
         let since = since_with(None, 0, &opening);
+        let mut explainer = ItemExplainer::new(alloc)?;
+        explainer.is_full = form.full;
         Ok(View {
             conn,
             weaver,
             opening,
-            explainer: ItemExplainer::new(alloc)?,
+            explainer,
+            tally: Tally::new(alloc),
             account: Account::new(alloc),
             lines: ItemLines::new(alloc)?,
             since,
@@ -169,17 +166,45 @@ impl<'b> View<'b> {
         })
     }
 
-    /// Fits the account of an item to how it is shown.
-    fn fit(&mut self, watch: ServeReport<'_>) -> Result<(), AllocError>
-        ensures { self.new ≡ record self.old { account = self.new.account } }
-    {
-        self.account.is_brief = watch.brief;
-        self.account.is_full = watch.full;
+    /// Whether the opening is shown next.
+    fn is_opening(&self, form: Form) -> bool {
+        self.items == 0 && shows_opening(form)
+    }
+
+    /// The frames of the opening that a text shows next.
+    fn opening_text(&self, form: Form) -> &[u8] {
+        if self.is_opening(form) && !form.json {
+            self.opening.sent.as_slice()
+        } else {
+            &[]
+        }
+    }
+
+    /// Appends the line of the opening in JSON.
+    fn put_opening(&self, alloc: Global, form: Form, out: &mut Vec<u8>) -> Result<(), AllocError> {
+        if !(self.is_opening(form) && form.json) {
+            return Ok(());
+        }
+        let mut words = JsonWords::over(TextBuilder::with(alloc, form.full));
+        let aside = aside_of(&self.opening, None);
+        put_opening(self.opening.sent.as_slice(), aside, form.brief, &mut words);
+        out.extend_from_slice(words.finish()?.as_bytes())
+    }
+
+    /// Counts an item, unless the script has spoken: from there on it has no warnings, and nobody is blamed.
+    fn judge(&mut self, item: &Explained<'_>) -> Result<(), AllocError> {
         if self.since.is_some() {
             self.account.warnings = Warnings::none();
+            return Ok(());
         }
+        self.tally
+            .note(item, self.account.facts, self.account.warnings)
+    }
+
+    /// Puts the frames of the opening that a text shows next in the place of those that the server sends.
+    fn fit(&mut self, form: Form) -> Result<(), AllocError> {
         self.account.opening.clear();
-        if self.items == 0 {
+        if self.items == 0 && !form.json {
             self.account
                 .opening
                 .extend_from_slice(self.opening.sent.as_slice())?;
@@ -187,45 +212,38 @@ impl<'b> View<'b> {
         Ok(())
     }
 
-    /// Appends what did not go out beside an item, what the script sent, and, once it has spoken, the error that is not judged.
+    /// Appends the lines below an item of a text: what did not go out, what the script sent, and, once it has spoken, the error that
+    /// is not judged.
     fn put_aside(
         &self,
         alloc: Global,
+        form: Form,
         item: &Explained<'_>,
         parts: &Parts,
-        paint: Paint,
         out: &mut Vec<u8>,
     ) -> Result<(), AllocError> {
-        let mut words = TextBuilder::with(alloc, true);
-        if self.items == 0 {
-            say_aside(&self.opening, paint, &mut words);
+        let paint = Paint(form.color);
+        if self.is_opening(form) {
+            put_parts(alloc, &self.opening, paint, out)?;
         }
         if let Some(since) = self.since {
-            say_unjudged(alloc, since, item, paint, &mut words)?;
+            put_unjudged(alloc, since, item, paint, out)?;
         }
-        say_aside(parts, paint, &mut words);
-        out.extend_from_slice(words.into_octets()?.as_slice())
+        put_parts(alloc, parts, paint, out)
     }
 
-    /// Appends the lines of an item that was taken, with what went out for it.
-    fn show(
+    /// Appends what is shown of an item, with what went out for it: its lines, or its line of JSON.
+    fn put_item(
         &mut self,
         alloc: Global,
-        watch: ServeReport<'_>,
-        steps: &[Step],
+        form: Form,
         item: &Explained<'_>,
+        parts: &Parts,
         out: &mut Vec<u8>,
-    ) -> Result<(), AllocError>
-        ensures ready { self.new.conn ≡ self.old.conn }
-        ensures weaver { OnOk result (self.new.weaver ≡ after_item steps.now self.old.weaver (incoming_in item.now.what item.now.octets.now)) }
-        ensures since { OnOk result (self.new.since ≡ since_with self.old.since item.now.number
-            (parts_of steps.now self.old.weaver (incoming_in item.now.what item.now.octets.now) item.now.sent.now)) }
-    {
-        let paint = Paint(watch.color);
-        self.explainer
-            .account(alloc, &self.conn, item, &mut self.account)?;
-        self.fit(watch)?;
-        let (parts, _is_step) = self.weaver.weave(alloc, steps, incoming(item), item.sent)?;
+    ) -> Result<(), AllocError> {
+        if !shows_item(form, item, self.account.warnings) {
+            return Ok(());
+        }
         let (cause, ignored) = judged(self.since, item);
         let (octets, ahead) = (item.octets, item.ahead);
         let shown = Explained {
@@ -243,21 +261,51 @@ impl<'b> View<'b> {
             after: item.after,
         };
         let block = self.explainer.block(&self.conn);
-        self.lines.put(&shown, &self.account, block, paint)?;
+        let aside = aside_of(parts, unjudged(self.since, item));
+        let (account, lines) = (&mut self.account, &mut self.lines);
+        put_text(alloc, form, &shown, account, block, aside, lines)?;
         out.extend_from_slice(self.lines.octets())?;
-        self.put_aside(alloc, item, &parts, paint, out)?;
+        if form.json {
+            return Ok(());
+        }
+        self.put_aside(alloc, form, item, parts, out)
+    }
+
+    /// Shows an item that was taken, and hands over what the script made of it.
+    fn show<K: ScriptKeeper>(
+        &mut self,
+        alloc: Global,
+        form: Form,
+        steps: &[Step],
+        item: &Explained<'_>,
+        keeper: &mut K,
+        out: &mut Vec<u8>,
+    ) -> Result<(), AllocError>
+        ensures ready { self.new.conn ≡ self.old.conn }
+        ensures weaver { OnOk result (self.new.weaver ≡ after_item steps.now self.old.weaver (incoming_in item.now.what item.now.octets.now)) }
+        ensures since { OnOk result (self.new.since ≡ since_with self.old.since item.now.number
+            (parts_of steps.now self.old.weaver (incoming_in item.now.what item.now.octets.now) item.now.sent.now)) }
+    {
+        self.explainer
+            .account(alloc, &self.conn, item, &mut self.account)?;
+        self.judge(item)?;
+        self.fit(form)?;
+        let (parts, _is_step) = self.weaver.weave(alloc, steps, incoming(item), item.sent)?;
+        self.put_item(alloc, form, item, &parts, out)?;
+        keep(&parts, keeper);
         self.since = since_with(self.since, item.number, &parts);
         Ok(())
     }
 
-    /// Takes the item that octets begin with, if there is a whole one, and appends its lines. Gives how many octets it has; 0 where
-    /// there is none.
-    fn take(
+    /// Takes the item that octets begin with, if there is a whole one, and shows it. Gives how many octets it has; 0 where there is
+    /// none.
+    fn take<K: ScriptKeeper>(
         &mut self,
         alloc: Global,
-        watch: ServeReport<'_>,
+        form: Form,
         steps: &[Step],
         octets: &[u8],
+        keeper: &mut K,
         out: &mut Vec<u8>,
     ) -> Result<usize, AllocError>
         requires { self.old.conn ≡ going self.old.conn.state [] }
@@ -285,75 +333,69 @@ impl<'b> View<'b> {
             before,
             after: moment_at(&self.conn, stream),
         };
-        self.show(alloc, watch, steps, &item, out)?;
+        keeper.record(&item);
+        self.show(alloc, form, steps, &item, keeper, out)?;
         self.items = self.items.saturating_add(1);
         self.offset = self.offset.saturating_add(taken.used);
         Ok(taken.used)
     }
 
-    /// Appends the line of octets that are no item, if there are any, and, where no item came, the server's opening.
+    /// Appends the end, where these octets are left; before it, where no item came, the opening.
     fn end(
         &self,
         alloc: Global,
-        watch: ServeReport<'_>,
+        form: Form,
         octets: &[u8],
         out: &mut Vec<u8>,
     ) -> Result<(), AllocError> {
-        let paint = Paint(watch.color);
-        let rest = InputRest {
-            items: self.items,
-            offset: self.offset,
-            octets: octets.len(),
-            ended: self.conn.ended(),
-            missing: missing_of(self.conn.counts().phase, octets),
+        let end = End {
+            form,
+            conn: &self.conn,
+            explainer: &self.explainer,
+            tally: &self.tally,
+            rest: rest_of(&self.conn, self.items, self.offset, octets),
+            since: self.since,
         };
-        let line = rest_line(alloc, rest, self.opening.sent.as_slice(), paint)?;
-        out.extend_from_slice(line.as_bytes())?;
-        let mut words = TextBuilder::with(alloc, true);
-        if self.items == 0 {
-            say_aside(&self.opening, paint, &mut words);
+        let text = end.said_after(alloc, self.opening_text(form))?;
+        out.extend_from_slice(text.as_bytes())?;
+        if form.json || !self.is_opening(form) {
+            return Ok(());
         }
-        out.extend_from_slice(words.into_octets()?.as_slice())
+        put_parts(alloc, &self.opening, Paint(form.color), out)
     }
 }
 
-/// The lines of a text, each after the number of its connection.
-fn numbered(alloc: Global, number: u64, text: &[u8]) -> Result<Vec<u8>, AllocError> {
-    let mark = format!(in alloc; "{number}: ")?;
-    let mut out = Vec::new(alloc);
-    for line in lines_in(alloc, text)?.as_slice() {
-        if !line.is_empty() {
-            out.extend_from_slice(mark.as_bytes())?;
-            out.extend_from_slice(line)?;
-            out.extend_from_slice(b"\n".as_slice())?;
-        }
-    }
-    Ok(out)
-}
-
-/// What is shown of the connection with this number, which is new and takes these octets, with a script of these steps.
+/// What is shown of the connection with this number, which is new and takes these octets, with a script of these steps, each line
+/// after the number; and what sums it up. Its octets, its items, and what the script made of them are handed to `keeper`.
 ///
 /// `AllocError` where memory is refused.
-pub fn view_text(
+pub fn view_of<K: ScriptKeeper>(
     alloc: Global,
-    watch: ServeReport<'_>,
+    form: Form,
     conn: Conn<'_, Global>,
     steps: &[Step],
-    number: u64,
+    number: u32,
     octets: &[u8],
-) -> Result<Vec<u8>, AllocError>
+    keeper: &mut K,
+) -> Result<(Vec<u8>, Summary), AllocError>
     requires { conn ≡ going conn.state [] }
 {
-    let mut view = View::begin(alloc, conn, steps)?;
+    let mut view = View::begin(alloc, form, conn, steps, number, keeper)?;
+    keeper.keep_read(octets);
     let mut text = Vec::new(alloc);
+    view.put_opening(alloc, form, &mut text)?;
     let mut rest = octets;
     for _item in 0..octets.len() {
-        let used = view.take(alloc, watch, steps, rest, &mut text)?;
+        let used = view.take(alloc, form, steps, rest, keeper, &mut text)?;
         if used == 0 {
             break;
         }
         rest = rest.get(used..).unwrap_or_default();
     }
-    view.end(alloc, watch, rest, &mut text)?;
-    numbered(alloc, number, text.as_slice())
+    view.end(alloc, form, rest, &mut text)?;
+    keeper.end(true);
+    let shown = numbered(alloc, form.json, number, text.as_slice())?;
+    let left = rest.len();
+    let summary = summary_since(&view.conn, &view.tally, view.items, left, view.since);
+    Ok((shown, summary))
 }

@@ -17,4 +17,4 @@ pub use h2_cmd_args::Words;
 pub use h2_cmd_args::command::{Plan, parse};
 pub use h2_serve::{Keeper, NoKeeper, Port, TcpPort};
 pub use memory::{Ran, run_in_memory};
-pub use server::serve;
+pub use server::{form_of, serve};

@@ -56,7 +56,7 @@ fn status_of<O: Output>(output: &mut O, ended: Result<(), ServeFault>) -> u8
 }
 
 /// The form in which the words ask for an explanation.
-fn form_of(watch: ServeReport<'_>) -> Form
+pub fn form_of(watch: ServeReport<'_>) -> Form
     ensures { result ≡ form_of (report_asked watch.entry).view }
 {
     Form {

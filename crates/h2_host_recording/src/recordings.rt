@@ -2,17 +2,21 @@
 //! hex, a line for each read; and `connection-N.h2`, a case for `check`, with the words of the connection, each item as a
 //! line of a script, and what was sent for it.
 
+use h2_cmd_args::Words;
 use h2_cmd_args::command::{BookWords, Serve};
-use h2_cmd_cases::push_told;
+use h2_cmd_cases::{add_case_words, push_told};
+use h2_cmd_inject::ScriptKeeper;
 use h2_cmd_messages::{InputSource, Say, TextBuilder, say_unrecorded};
 use h2_explain::{Explained, Recorder};
 use h2_host::Stopwatch;
 use h2_script::disassemble;
 use h2_serve::Keeper;
+use h2_spec::connection::Config;
 use std::alloc::AllocError;
 use std::fs::{File, OpenOptions};
 use std::io::{ErrorKind, Write};
 use std::os::unix::fs::OpenOptionsExt;
+use std::path::Path;
 use std::rt::Files;
 use std::{env, io};
 
@@ -84,13 +88,10 @@ fn add_path(rt: &HostRuntime, directory: &str, path: &str, out: &mut String) -> 
     Ok(())
 }
 
-/// Appends the lines with the book of the words.
-fn add_book(
-    rt: &HostRuntime,
-    directory: &str,
-    book: &BookWords<'_>,
-    out: &mut String,
-) -> io::Result<()> {
+/// The lines with the book of the words.
+fn book_lines(rt: &HostRuntime, directory: &str, book: &BookWords<'_>) -> io::Result<String> {
+    let mut lines = String::new(rt.alloc());
+    let out = &mut lines;
     if book.file == "-" {
         out.push_str("; its book came from standard input\n")?;
     } else if !book.file.is_empty() {
@@ -106,19 +107,66 @@ fn add_book(
             out.push_str("\n")?;
         }
     }
-    Ok(())
+    Ok(lines)
 }
 
-/// The lines with the limits, the settings and the answers that the words give.
-fn words_of(rt: &HostRuntime, plan: &Serve<'_>) -> io::Result<String> {
-    let config = plan.config;
+/// The lines with the limits and the settings that the words give, and these lines of the book.
+fn words_of(rt: &HostRuntime, config: Config, book: &str) -> io::Result<String> {
     let (streams, credit) = (config.streams, config.credit);
     let (table, window, frame) = (config.table, config.window, config.frame);
-    let mut words = format!(in rt.alloc();
-        ";@ --streams {streams} --credit {credit} --table {table} --window {window} --frame {frame}\n"
-    )?;
-    add_book(rt, plan.watch.record_to, &plan.book, &mut words)?;
-    Ok(words)
+    Ok(format!(in rt.alloc();
+        ";@ --streams {streams} --credit {credit} --table {table} --window {window} --frame {frame}\n{book}"
+    )?)
+}
+
+/// Appends the path of a book that a file names beside it, as a case in this directory names it.
+fn add_path_beside(
+    rt: &HostRuntime,
+    directory: &str,
+    file: &str,
+    book: &str,
+    out: &mut String,
+) -> io::Result<()> {
+    let beside = Path::new(file).parent().unwrap_or(Path::new(""));
+    let path = beside.join(rt.alloc(), book)?;
+    out.push_str(" --book ")?;
+    add_path(rt, directory, path.as_str(), out)
+}
+
+/// The line with the words of lines of this file, those of the book only where they are asked for.
+fn dialogue_words(
+    rt: &HostRuntime,
+    directory: &str,
+    file: &str,
+    lines: &[&[u8]],
+    has_book: bool,
+) -> io::Result<String> {
+    let mut words = Words::new(rt.alloc());
+    if add_case_words(rt.alloc(), lines, &mut words).is_err() {
+        return Err(io::Error::from(ErrorKind::OutOfMemory));
+    }
+    let mut out = String::from_str(rt.alloc(), ";@")?;
+    let mut is_path = false;
+    for word in words.as_slice() {
+        let word = word.as_str();
+        let book = if is_path {
+            Some(word)
+        } else {
+            word.strip_prefix("--book=")
+        };
+        is_path = !is_path && word == "--book";
+        match book {
+            Some(book) if has_book => add_path_beside(rt, directory, file, book, &mut out)?,
+            Some(_) => {}
+            None if is_path => {}
+            None => {
+                out.push_str(" ")?;
+                add_quoted(word, &mut out)?;
+            }
+        }
+    }
+    out.push_str("\n")?;
+    Ok(out)
 }
 
 // Written line by line without a buffer, and cut to whole lines where a write fails, so that a record can
@@ -234,6 +282,22 @@ impl Record {
         Ok(())
     }
 
+    /// Writes frames as comments, after this word.
+    fn add_comments(&mut self, rt: &HostRuntime, word: &str, octets: &[u8]) -> io::Result<()> {
+        let mut told = Vec::new(rt.alloc());
+        push_told(rt.alloc(), octets, &mut told)?;
+        let mut lines = Vec::new(rt.alloc());
+        for line in told.split(|octet| *octet == b'\n') {
+            if let Some(frame) = line.strip_prefix(b";<".as_slice()) {
+                lines.extend_from_slice(b"; ".as_slice())?;
+                lines.extend_from_slice(word.as_bytes())?;
+                lines.extend_from_slice(frame)?;
+                lines.extend_from_slice(b"\n".as_slice())?;
+            }
+        }
+        self.case.add(lines.as_slice())
+    }
+
     /// Drops what was sent for the last read, since not all of it was written, and the items of that read.
     fn drop_items(&mut self) -> io::Result<()> {
         self.taken = 0;
@@ -272,8 +336,10 @@ pub struct Recordings<'r, 't, 'c> {
     is_quiet: bool,
     /// What each item gets its time from, if it gets one.
     times: Option<&'t Stopwatch<'c, HostRuntime>>,
-    /// The lines `;@` of each case.
-    words: String,
+    /// The lines `;@` of each case; none where they can't be written.
+    words: Option<String>,
+    /// Those of them with the book of the command line.
+    book: String,
     /// The number that the next files have, if they are new.
     next: u32,
     record: Option<Record>,
@@ -300,12 +366,14 @@ impl<'r, 't, 'c> Recordings<'r, 't, 'c> {
         let probe = format!(in rt.alloc(); "{directory}/.h2_bench")?;
         LineFile::create(rt, probe.as_str())?;
         rt.remove_file(probe.as_str())?;
+        let book = book_lines(rt, directory, &plan.book)?;
         Ok(Recordings {
             runtime: rt,
             directory,
             is_quiet: !plan.book.why,
             times,
-            words: words_of(rt, plan)?,
+            words: Some(words_of(rt, plan.config, book.as_str())?),
+            book,
             next: 1,
             record: None,
         })
@@ -329,14 +397,38 @@ impl<'r, 't, 'c> Recordings<'r, 't, 'c> {
     /// The record of a connection, with its title, its words and what is sent first.
     fn open(&mut self, number: u32, opening: &[u8]) -> io::Result<Record> {
         let rt = self.runtime;
+        if self.words.is_none() {
+            return Err(io::Error::from(ErrorKind::InvalidFilename));
+        }
         let mut record = self.create()?;
         let title = format!(in rt.alloc(); ";# connection {number}\n")?;
         let mut lines = title.as_str().as_bytes().to_vec(rt.alloc())?;
-        lines.extend_from_slice(self.words.as_str().as_bytes())?;
+        if let Some(words) = &self.words {
+            lines.extend_from_slice(words.as_str().as_bytes())?;
+        }
         record.case_before = lines.len() as u64;
         push_told(rt.alloc(), opening, &mut lines)?;
         record.case.add(lines.as_slice())?;
         Ok(record)
+    }
+
+    /// The lines `;@` of each case, with the words of these lines of a file of dialogues.
+    fn words_with(&self, file: &str, lines: &[&[u8]], have_answers: bool) -> io::Result<String> {
+        let (rt, directory) = (self.runtime, self.directory);
+        let mut words = dialogue_words(rt, directory, file, lines, have_answers)?;
+        if !have_answers {
+            words.push_str(self.book.as_str())?;
+        }
+        Ok(words)
+    }
+
+    /// Writes frames of the last item as comments, after this word.
+    fn keep_comments(&mut self, word: &str, octets: &[u8]) {
+        let rt = self.runtime;
+        if let Some(record) = &mut self.record {
+            let written = record.add_comments(rt, word, octets);
+            self.check(written);
+        }
     }
 
     /// Ends the record where it could not be written, and says which file, and why.
@@ -398,6 +490,20 @@ impl Keeper for Recordings<'_, '_, '_> {
             self.check(written);
         }
         self.record = None;
+    }
+}
+
+impl ScriptKeeper for Recordings<'_, '_, '_> {
+    fn keep_words(&mut self, file: &str, lines: &[&[u8]], have_answers: bool) {
+        self.words = self.words_with(file, lines, have_answers).ok();
+    }
+
+    fn keep_withheld(&mut self, octets: &[u8]) {
+        self.keep_comments("withheld", octets);
+    }
+
+    fn keep_script(&mut self, octets: &[u8]) {
+        self.keep_comments("script", octets);
     }
 }
 

@@ -9,8 +9,8 @@ use crate::peer::TcpPeer;
 use h2_cmd_against::against::judge_server;
 use h2_cmd_args::command::{Against, Debug, Refusal, Serve};
 use h2_cmd_book_file::Files;
-use h2_cmd_inject::inject;
-use h2_cmd_run::{Keeper, NoKeeper, Plan, TcpPort, carry_out, debug_over, serve};
+use h2_cmd_inject::{ScriptKeeper, inject};
+use h2_cmd_run::{Keeper, NoKeeper, Plan, TcpPort, carry_out, debug_over, form_of, serve};
 use h2_host::{Commands, Ending, NamedFiles, Noted, ServerOutput, Stopwatch, run_program};
 use h2_host_recording::{recordings_for, refuse_recording};
 use h2_io::{Input, IntoWrite, Output};
@@ -52,8 +52,13 @@ fn serve_kept<'t, 'c, W: Write, K: Keeper>(
     }
 }
 
-/// Plays a dialogue, as the words ask for.
-fn inject_over<W: Write>(rt: &HostRuntime, plan: &Serve<'_>, output: &mut W) -> Ending {
+/// Plays a dialogue, as the words ask for, and gives each connection to `keeper`.
+fn inject_kept<W: Write, K: ScriptKeeper>(
+    rt: &HostRuntime,
+    plan: &Serve<'_>,
+    keeper: &mut K,
+    output: &mut W,
+) -> Ending {
     let mut files = NamedFiles { rt };
     let mut stderr = rt.stderr();
     let mut errors = IntoWrite::new(&mut stderr);
@@ -63,8 +68,10 @@ fn inject_over<W: Write>(rt: &HostRuntime, plan: &Serve<'_>, output: &mut W) -> 
     let status = inject(
         rt.alloc(),
         plan,
+        form_of(plan.watch),
         &mut guests,
         &mut files,
+        keeper,
         &mut written,
         &mut noted,
     );
@@ -74,6 +81,15 @@ fn inject_over<W: Write>(rt: &HostRuntime, plan: &Serve<'_>, output: &mut W) -> 
     Ending {
         unbound,
         ..Ending::of(status, is_said)
+    }
+}
+
+/// Plays a dialogue, as the words ask for.
+fn inject_over<W: Write>(rt: &HostRuntime, plan: &Serve<'_>, output: &mut W) -> Ending {
+    match recordings_for(rt, plan, None) {
+        None => inject_kept(rt, plan, &mut NoKeeper, output),
+        Some(Ok(mut records)) => inject_kept(rt, plan, &mut records, output),
+        Some(Err(error)) => Ending::of(refuse_recording(rt, plan, &error, output), true),
     }
 }
 

@@ -160,19 +160,11 @@ fn refusal_of_against(against: &Against<'_>) -> Option<&'static str> {
     refusal_of_aim(against)
 }
 
-/// Whether a server shows other than all items as text, or keeps them.
-fn is_beside_text(watch: ServeReport<'_>) -> bool {
-    watch.json
-        || (watch.strict || watch.times)
-        || (watch.errors || watch.stream.is_some())
-        || watch.record_to != ""
-}
-
 /// Why words of `serve` are refused that don't go together, where they don't.
 fn refusal_of_serve(watch: ServeReport<'_>) -> Option<&'static str> {
-    if watch.inject != "" && is_beside_text(watch) {
+    if watch.inject != "" && watch.times {
         return Some(
-            "error: --inject goes with --explain, --brief and --full, and no other word that explains\n",
+            "error: --inject has no times for --times: a connection is shown once it has ended\n",
         );
     }
     if watch.dialogue == 0 {
