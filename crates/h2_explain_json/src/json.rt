@@ -20,7 +20,8 @@ use h2_explain_item::diagnosis::special::{
 use h2_explain_item::item::Explained;
 use h2_explain_item::shown_block::{ShownBlock, SpelledField, SpelledFields};
 use h2_explain_text::account::Account;
-use h2_explain_text::text::{mode_name, say_item};
+use h2_explain_text::lines::say_item;
+use h2_explain_text::text::mode_name;
 use h2_explain_words::frame_words::say_frame_in;
 use h2_explain_words::names::{
     TypeWords, code_name, kind_name, registered_setting, registered_type, setting_name,
@@ -211,7 +212,7 @@ struct FrameWords<'f>(FrameRef<'f>, Option<Part<'f>>);
 impl Say for FrameWords<'_> {
     fn say<A: Allocator>(self, out: &mut TextBuilder<A>) {
         let start = out.len();
-        say_frame_in(self.0, self.1, true, out);
+        say_frame_in(self.0, self.1, out);
         out.escape_from(start);
     }
 }

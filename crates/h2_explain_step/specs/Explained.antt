@@ -13,7 +13,7 @@ use Rattle.h2_spec.specs.Texts.View.{shown_block}
 use Rattle.h2_conn.specs.Connection.{Connection, going}
 use Rattle.h2_conn.specs.Reports.{reported}
 use Rattle.h2_conn.specs.declared.report.TakenItem.{TakenItem}
-use Rattle.h2_explain_text.specs.Lines.{EndsLine, Words, lines_of, shown_words}
+use Rattle.h2_explain_text.specs.Lines.{AreSentFor, EndsLine, Words, lines_of, shown_words}
 use Rattle.h2_explain_item.specs.declared.change.changes.ShownChange.{ShownChange}
 use Rattle.h2_explain_item.specs.declared.notes.StreamNote.{StreamNote}
 use Rattle.h2_explain_step.specs.Account.{ListsChanges}
@@ -84,11 +84,11 @@ abbrev pub Observes : State → List ℕ → (out out' : List ℕ) → Connectio
 Observes s b out out' c o =
     (number offset : ℕ) → (x : Explained) → IsItemOf o number offset b (drop (length out) out') x → ExplainsItem s b number offset c x
 
--- the text of an item with the lines of these changes: a line of JSON, or its lines, those of fields and of what changed only
--- where it is not brief
+-- the text of an item with the lines of what was sent and of these changes: a line of JSON, or its lines, those of fields and of
+-- what changed only where it is not brief
 abbrev pub IsTextWith : (json color brief : Bool) → Explained → List ShownChange → List ℕ → Type 0
 IsTextWith true color brief x changes t = EndsLine false t
-IsTextWith false color brief x changes t = (w : Words) × (w.changes ≡ changes) × (t ≡ lines_of color x (shown_words brief w))
+IsTextWith false color brief x changes t = (w : Words) × AreSentFor color x w.sent × (w.changes ≡ changes) × (t ≡ lines_of color x (shown_words brief w))
 
 -- the text of an item after which the connection is in this state, with the lines of what it changed: on the connection, on its
 -- stream, and on the streams that frames were sent on for it, since something was noted of them

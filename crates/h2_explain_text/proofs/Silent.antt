@@ -22,14 +22,14 @@ pub no_words : (brief : Bool) → detail brief no_lines ≡ no_lines
 no_words false = refl
 no_words true = refl
 
--- these lines of an opening, and no other words
-abbrev pub opening_alone : List ℕ → Words
-opening_alone opening = record { opening = opening; item = []; facts = no_facts; fields = []; sentence = []; also = []; sent = []; changes = []; moved = []; entries = [] }
+-- these lines of an opening and of what was sent, and no other words
+abbrev pub opening_alone : (opening sent : List ℕ) → Words
+opening_alone opening sent = record { opening = opening; tail = []; facts = no_facts; fields = []; sentence = []; also = []; beside = []; sent = sent; changes = []; moved = []; entries = [] }
 
--- so these are its lines, whatever changed
-pub silent_lines : (octets opening : List ℕ) (changes : List ShownChange) (moved : List UnshownChange) (color brief : Bool) (x : Explained) → is_silent x.what ≡ true → octets ≡ opening
-    → octets ≡ lines_of color x (shown_words brief (with_changes changes moved (opening_alone opening)))
-silent_lines octets opening changes moved color brief x silent is = is ∙ sym (ap (λ (b : Bool). lines_unless b color x (shown_words brief (with_changes changes moved (opening_alone opening)))) silent)
+-- so these are its lines, whatever was sent and changed
+pub silent_lines : (octets opening sent : List ℕ) (changes : List ShownChange) (moved : List UnshownChange) (color brief : Bool) (x : Explained) → is_silent x.what ≡ true → octets ≡ opening
+    → octets ≡ lines_of color x (shown_words brief (with_changes changes moved (opening_alone opening sent)))
+silent_lines octets opening sent changes moved color brief x silent is = is ∙ sym (ap (λ (b : Bool). lines_unless b color x (shown_words brief (with_changes changes moved (opening_alone opening sent)))) silent)
 
 -- of each other item all lines are said
 pub loud_lines : (octets : List ℕ) (color brief : Bool) (x : Explained) (w : Words) → is_silent x.what ≡ false → octets ≡ lines color x (shown_words brief w) → octets ≡ lines_of color x (shown_words brief w)

@@ -4,6 +4,7 @@ use Rattle.std.specs.Fmt.{signed_decimal}
 use Rattle.std.specs.Ordering.{int_eq}
 use Rattle.h2_spec.specs.Texts.Show.{joined}
 use Rattle.h2_spec.specs.declared.connection.BlockView.{BlockView}
+use Rattle.h2_explain_words.specs.FrameWords.{octet_count}
 use Rattle.h2_explain_words.specs.Names.{kind_name}
 use Rattle.h2_explain_item.specs.Counts.{count_name, may_be_absent}
 use Rattle.h2_explain_item.specs.declared.change.changes.ShownChange.{ShownChange}
@@ -13,10 +14,6 @@ use Rattle.h2_explain_item.specs.declared.change.changes.UnshownChange.TheVarian
 use Rattle.h2_explain_item.specs.declared.change.count.Count.{Count}
 
 -- ---- parts
-
--- a number of octets
-abbrev pub octet_count : ℕ → List ℕ
-octet_count n = joined (decimal n ∷ (if n == 1 then codes " octet" else codes " octets") ∷ [])
 
 -- how much of a body remains
 abbrev pub remains : ℕ → List ℕ

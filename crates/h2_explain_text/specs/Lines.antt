@@ -1,6 +1,6 @@
--- The lines of the text of an item, as far as they are fixed: its number and its offset, the cause of an error, why an
--- item is ignored, and what it changed. The other words of an item are given to these definitions.
-use Rattle.std.specs.Prelude.{◌≡◌, ℕ, Bool, true, false, List, [], ◌∷◌, ◌++◌, codes, decimal, flat_map, nat_lt, ◌&&◌, if◌then◌else◌, Option, Some, None}
+-- The lines of the text of an item, as far as they are fixed: its number, its offset and its frame, the cause of an error, why an
+-- item is ignored, the frames that were sent for it, and what it changed. The other words of an item are given to these definitions.
+use Rattle.std.specs.Prelude.{◌≡◌, ℕ, zero, suc, Bool, true, false, not, List, [], ◌∷◌, ◌++◌, codes, decimal, flat_map, length, nat_lt, ◌&&◌, if◌then◌else◌, Option, Some, None, is_some}
 use Rattle.h2_spec.specs.declared.causes.Cause.{Cause}
 use Rattle.h2_spec.specs.declared.connection.Phase.{Phase}
 use Rattle.h2_spec.specs.declared.connection.Phase.TheVariants.{Preface, Settings, Running, Ended}
@@ -8,7 +8,13 @@ use Rattle.h2_spec.specs.declared.frames.ItemHead.{ItemHead}
 use Rattle.h2_spec.specs.declared.frames.ItemHead.TheVariants as item
 use Rattle.h2_spec.specs.declared.ignored.Ignored.{Ignored}
 use Rattle.h2_spec.specs.declared.special_cases.SpecialCase.{SpecialCase}
+use Rattle.h2_explain_words.specs.FrameWords.{frame_words, head_words, length_words, octet_count}
 use Rattle.h2_explain_words.specs.Names.{error_name, scope_word}
+use Rattle.h2_explain_words.specs.Sent.{FirstFrame, first_frame}
+use Rattle.h2_explain_item.specs.Item.{frame_in, part_in}
+use Rattle.h2_spec.specs.Frames.Payload.{Part}
+use Rattle.h2_spec.specs.State.{ended_code}
+use Rattle.h2_spec.specs.declared.frames.Head.{Head}
 use Rattle.h2_spec.specs.Causes.Cause.{code_of}
 use Rattle.h2_spec.specs.Causes.CauseWords.{cause_name}
 use Rattle.h2_spec.specs.Causes.IgnoredWords.{ignored_name}
@@ -62,10 +68,37 @@ indent = codes "        "
 abbrev pub blanks : ℕ → ℕ → List ℕ
 blanks number offset = if nat_lt number 10 && nat_lt offset 10 then codes "   " else codes "  "
 
+-- an item in words; what follows those of a frame is given
+unfoldable pub item_words : Explained → ItemHead → (tail : List ℕ) → List ℕ
+item_words x item.Preface tail = codes "the connection preface"
+item_words x item.BadPreface tail = joined (octet_count (length x.octets.now) ∷ codes " instead of the connection preface" ∷ [])
+item_words x (item.Oversize h) tail = joined (head_words h ∷ length_words h.length ∷ codes "; only its head is read" ∷ [])
+item_words x (item.Frame h) tail = joined (frame_words h (not (is_some (ended_code x.after.counts.phase))) (part_in (frame_in x.what x.octets.now)) ∷ tail ∷ [])
+
 -- the line of an item: its number, how many octets came before it, and the item in words
-unfoldable pub first_line : Bool → (number offset : ℕ) → (words : List ℕ) → List ℕ
-first_line color number offset words =
-    joined (started color role.Item ∷ codes "#" ∷ decimal number ∷ codes " @" ∷ decimal offset ∷ blanks number offset ∷ words ∷ ended color ∷ [])
+unfoldable pub first_line : Bool → Explained → (tail : List ℕ) → List ℕ
+first_line color x tail =
+    joined (started color role.Item ∷ codes "#" ∷ decimal x.number ∷ codes " @" ∷ decimal x.offset ∷ blanks x.number x.offset ∷ item_words x x.what tail ∷ ended color ∷ [])
+
+-- ---- what was sent
+
+-- the line of a frame that was sent; what follows its words is given
+unfoldable pub sent_line : Bool → Head → Option Part → (tail : List ℕ) → List ℕ
+sent_line color h part tail = joined (indent ∷ started color role.Sent ∷ codes "sent " ∷ frame_words h true part ∷ tail ∷ ended color ∷ [])
+
+-- the lines of a frame that was sent, of which those of its fields are given, and of the frames after it
+abbrev pub AreSentAfter : (List ℕ → List ℕ → Type 0) → Bool → Option FirstFrame → List ℕ → Type 0
+AreSentAfter more color None t = t ≡ []
+AreSentAfter more color (Some f) t = (tail fields rest : List ℕ) × (t ≡ sent_line color f.head (part_in (Some (f.head, f.payload))) tail ++ fields ++ rest) × more f.rest rest
+
+-- the lines of the frames in octets, in order, of that many frames at most
+unfoldable pub AreSentLines : ℕ → Bool → List ℕ → List ℕ → Type 0
+AreSentLines zero color b t = t ≡ []
+AreSentLines (suc most) color b t = AreSentAfter (AreSentLines most color) color (first_frame b) t
+
+-- the lines of the frames that were sent for an item
+abbrev pub AreSentFor : Bool → Explained → List ℕ → Type 0
+AreSentFor color x t = AreSentLines (length x.sent.now) color x.sent.now t
 
 -- ---- errors, and what is ignored
 
@@ -126,16 +159,18 @@ abbrev pub reason_lines : Bool → Option Ignored → Option SpecialCase → Lis
 reason_lines color None case = []
 reason_lines color (Some reason) case = ignored_lines color reason (rule_of_reason reason case)
 
--- what is said about an item besides: the lines of what the server sent before it, the item in words, the lines of its
--- fields, what decides whether its rule is a special case, the sentence of its error, the line of other causes, the
--- lines of what was sent, what changed on the connection and on streams, and the lines of the header table's entries
+-- what is said about an item besides: the lines of what the server sent before it, what follows the words of its frame, the
+-- lines of its fields, what decides whether its rule is a special case, the sentence of its error, the line of other causes, the
+-- lines of warnings and of what others may do, those of what was sent, what changed on the connection and on streams, and the
+-- lines of the header table's entries
 pub record Words : Type 0 where
   pub opening : List ℕ
-  pub item : List ℕ
+  pub tail : List ℕ
   pub facts : CaseFacts
   pub fields : List ℕ
   pub sentence : List ℕ
   pub also : List ℕ
+  pub beside : List ℕ
   pub sent : List ℕ
   pub changes : List ShownChange
   pub moved : List UnshownChange
@@ -155,19 +190,19 @@ abbrev pub shown_words : (brief : Bool) → Words → Words
 shown_words brief w =
     record w { fields = detail brief w.fields; changes = detail brief w.changes; moved = detail brief w.moved; entries = detail brief w.entries }
 
--- the lines of an item up to those of what was sent, with the special cases of its error and of why it is ignored
+-- the lines of an item up to those of what others may do, with the special cases of its error and of why it is ignored
 abbrev pub main_lines_with : Bool → Explained → Words → (error_case ignored_case : Option SpecialCase) → List ℕ
 main_lines_with color x w error_case ignored_case =
-    joined (w.opening ∷ first_line color x.number x.offset w.item ∷ w.fields
+    joined (w.opening ∷ first_line color x w.tail ∷ w.fields
     ∷ cause_lines color x.after.counts.phase x.cause error_case w.sentence ∷ w.also
-    ∷ reason_lines color x.ignored ignored_case ∷ w.sent ∷ [])
+    ∷ reason_lines color x.ignored ignored_case ∷ w.beside ∷ [])
 
 abbrev pub main_lines : Bool → Explained → Words → List ℕ
 main_lines color x w = main_lines_with color x w (case_of_error x w.facts) (case_of_reason x w.facts)
 
--- all lines of an item: after these the lines of what changed
+-- all lines of an item: after these the lines of what was sent, and of what changed
 abbrev pub lines : Bool → Explained → Words → List ℕ
-lines color x w = main_lines color x w ++ flat_map (change_line color) w.changes ++ flat_map (moved_line color) w.moved ++ w.entries
+lines color x w = main_lines color x w ++ w.sent ++ flat_map (change_line color) w.changes ++ flat_map (moved_line color) w.moved ++ w.entries
 
 -- whether nothing is said about an item itself: the preface
 abbrev pub is_silent : ItemHead → Bool

@@ -3,13 +3,14 @@
 
 ghost use Rattle.std.specs.Prelude.{◌≡◌, ◌++◌, false, flat_map, OnOk, is_err};
 ghost use Rattle.std.specs.Fmt.{signed_decimal};
-ghost use Rattle.h2_explain_text.specs.ChangeWords.{begins, change_words, connection_spent, counted, declared_words, moved_words, moving, octet_count, on_stream, on_stream_if, own_spent, receive_begins, receive_name, remains, send_begins};
+ghost use Rattle.h2_explain_text.specs.ChangeWords.{begins, change_words, connection_spent, counted, declared_words, moved_words, moving, on_stream, on_stream_if, own_spent, receive_begins, receive_name, remains, send_begins};
 ghost use Rattle.h2_explain_text.specs.Lines.{change_line, moved_line};
 
 use crate::lines::INDENT;
 use crate::paint::{Paint, Role};
 use h2_explain_item::change::changes::{ShownChange, UnshownChange};
 use h2_explain_item::change::count::Count;
+use h2_explain_words::frame_words::OctetsText;
 use h2_explain_words::names::kind_name;
 use h2_io::{DeviceFault, Gathered, Number, Output, Text, texts};
 use itoa::Buffer;
@@ -25,19 +26,6 @@ impl Text for Signed {
     fn write_to<O: Output>(&self, output: &mut O) -> Result<(), DeviceFault> {
         let mut buffer = Buffer::new();
         output.write(buffer.format(self.0).as_bytes())
-    }
-}
-
-/// A number of octets: `1 octet`, `2 octets`.
-#[derive(Clone, Copy)]
-struct OctetsText(u64);
-
-impl Text for OctetsText {
-    ghost text = { λ n. octet_count n.0 };
-
-    fn write_to<O: Output>(&self, output: &mut O) -> Result<(), DeviceFault> {
-        let unit = if self.0 == 1 { " octet" } else { " octets" };
-        texts!(Number(self.0), unit).write_to(output)
     }
 }
 

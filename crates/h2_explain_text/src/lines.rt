@@ -2,8 +2,8 @@
 //! of its error or of why it is ignored, of the frames that were sent, and of what changed. Definitions:
 //! `specs/Lines.antt`, the format: docs/EXPLAIN.md.
 
-ghost use Rattle.std.specs.Prelude.{◌≡◌, ◌++◌, [], None, OnOk, false, flat_map, is_err};
-ghost use Rattle.h2_explain_text.specs.Lines.{Words as Said, blanks, cause_lines, change_line, detail, ended, error_lines, first_line, ignored_lines, is_silent, lines_of, main_lines, moved_line, reason_lines, rule_lines, scope, shown_words, started, with_changes};
+ghost use Rattle.std.specs.Prelude.{◌≡◌, ◌++◌, [], List, None, OnOk, false, flat_map, is_err, ℕ};
+ghost use Rattle.h2_explain_text.specs.Lines.{AreSentFor, Words as Said, blanks, cause_lines, change_line, detail, ended, error_lines, first_line, ignored_lines, is_silent, item_words, lines_of, main_lines, moved_line, reason_lines, rule_lines, scope, shown_words, started, with_changes};
 ghost use Rattle.h2_explain_item.specs.Special.{rule_of_cause, rule_of_reason};
 ghost use Rattle.h2_spec.specs.Causes.Rules.{client_words, server_words};
 
@@ -11,23 +11,25 @@ use crate::account::Account;
 use crate::change_lines::{put_changes, put_moved};
 use crate::others::{say_accepted, say_beside_error, say_beside_reason};
 use crate::paint::{Paint, Role};
-use crate::text::{say_also, say_entries, say_fields, say_item, say_opening, say_sent};
+use crate::sent_lines::put_sent;
+use crate::text::{say_also, say_entries, say_fields, say_opening};
 use crate::warning_words::say_warnings;
 use h2_explain_item::diagnosis::special::{
     case_of_error, case_of_reason, rule_of_cause, rule_of_reason,
 };
 use h2_explain_item::item::Explained;
 use h2_explain_item::shown_block::ShownBlock;
+use h2_explain_words::frame_words::{FrameWords, HeadWords, LengthWords, OctetsText, say_tail};
 use h2_explain_words::names::{error_name, scope_word};
+use h2_explain_words::said::say_text;
 use h2_io::say::TextBuilder;
-use h2_io::{DeviceFault, Gathered, Output, Text, texts};
+use h2_io::{DeviceFault, Gathered, Number, Output, Text, texts};
 use h2_spec::causes::Cause;
 use h2_spec::connection::Phase;
 use h2_spec::frames::ItemHead;
 use h2_spec::ignored::Ignored;
 use h2_spec::rules::Row;
 use h2_spec::special_cases::SpecialCase;
-use itoa::Buffer;
 use std::alloc::{AllocError, Allocator, Global};
 use std::marker::Model;
 use std::mem;
@@ -86,7 +88,7 @@ impl Text for LineEnd {
 
 /// Octets of a text, as they are.
 #[derive(Clone, Copy)]
-struct Octets<'o>(&'o [u8]);
+pub(crate) struct Octets<'o>(pub(crate) &'o [u8]);
 
 impl Text for Octets<'_> {
     ghost text = { λ o. o.0.now };
@@ -96,29 +98,63 @@ impl Text for Octets<'_> {
     }
 }
 
+/// An item in words, with what no definition speaks of.
+#[derive(Clone, Copy)]
+struct ItemWords<'i, 'o, 'w>(&'i Explained<'o>, Octets<'w>);
+
+#[tactic(auto, unfolding(crate::specs::Lines::item_words))]
+impl Text for ItemWords<'_, '_, '_> {
+    ghost text = { λ w. item_words w.0.now w.0.now.what w.1.0.now };
+
+    fn write_to<O: Output>(&self, output: &mut O) -> Result<(), DeviceFault> {
+        let item = self.0;
+        match item.what {
+            ItemHead::Preface => "the connection preface".write_to(output),
+            ItemHead::BadPreface => {
+                let count = OctetsText(item.octets.len() as u64);
+                texts!(count, " instead of the connection preface").write_to(output)
+            }
+            ItemHead::Oversize(head) => {
+                let length = LengthWords(head.length);
+                texts!(HeadWords(head), length, "; only its head is read").write_to(output)
+            }
+            ItemHead::Frame(head) => {
+                let words = FrameWords {
+                    head,
+                    can_stay: !item.ends_connection(),
+                    part: item.part,
+                };
+                texts!(words, self.1).write_to(output)
+            }
+        }
+    }
+}
+
+/// Puts an item in words last.
+pub fn say_item<A: Allocator>(item: &Explained<'_>, out: &mut TextBuilder<A>) {
+    say_text(&ItemWords(item, Octets(&[])), out);
+    say_tail(item.payload(), item.part, out);
+}
+
 /// The first line of an item.
 #[derive(Clone, Copy)]
-struct FirstLine<'w> {
+struct FirstLine<'i, 'o, 'w> {
     paint: Paint,
-    number: u64,
-    offset: u64,
-    words: Octets<'w>,
+    item: &'i Explained<'o>,
+    tail: Octets<'w>,
 }
 
 #[tactic(auto, unfolding(crate::specs::Lines::first_line))]
-impl Text for FirstLine<'_> {
-    ghost text = { λ l. first_line l.paint.0 l.number l.offset l.words.0.now };
+impl Text for FirstLine<'_, '_, '_> {
+    ghost text = { λ l. first_line l.paint.0 l.item.now l.tail.0.now };
 
     fn write_to<O: Output>(&self, output: &mut O) -> Result<(), DeviceFault> {
         let start = LineStart(self.paint, Role::Item);
-        let blanks = Blanks {
-            number: self.number,
-            offset: self.offset,
-        };
-        let (mut number, mut offset) = (Buffer::new(), Buffer::new());
-        let (number, offset) = (number.format(self.number), offset.format(self.offset));
-        let end = LineEnd(self.paint);
-        texts!(start, "#", number, " @", offset, blanks, self.words, end).write_to(output)
+        let (number, offset) = (self.item.number, self.item.offset as u64);
+        let blanks = Blanks { number, offset };
+        let (number, offset) = (Number(number), Number(offset));
+        let (words, end) = (ItemWords(self.item, self.tail), LineEnd(self.paint));
+        texts!(start, "#", number, " @", offset, blanks, words, end).write_to(output)
     }
 }
 
@@ -289,19 +325,17 @@ impl Text for ReasonLines {
 struct Ends {
     /// The end of the lines of what the server sent before the first item, which are empty for the others.
     opening: usize,
-    /// The end of the item in words.
-    item: usize,
+    /// The end of what follows the words of its frame.
+    tail: usize,
     /// The end of the lines of its fields, which are empty unless they are shown with it.
     fields: usize,
-    /// The end of the line of the other causes that hold of its block, which is empty if there are none.
+    /// The end of the line of the other causes that hold of its block, which is empty if there are none. After it are the
+    /// lines of what others may do, and of the warnings.
     also: usize,
-    /// The end of the lines of the warnings, and of the frames that were sent. After it are those of the header table's
-    /// entries.
-    sent: usize,
 }
 
 /// What is between two ends of parts.
-fn part(words: &[u8], from: usize, to: usize) -> Octets<'_> {
+pub(crate) fn part(words: &[u8], from: usize, to: usize) -> Octets<'_> {
     Octets(words.get(from..to).unwrap_or(&[]))
 }
 
@@ -328,8 +362,8 @@ fn say_words<A: Allocator + Copy>(
     out.clear(account.is_full);
     say_opening(account.opening.as_slice(), paint, out);
     let opening = out.len();
-    say_item(item, out);
-    let item_end = out.len();
+    say_tail(item.payload(), item.part, out);
+    let tail = out.len();
     say_shown_fields(account, block, paint, out);
     let fields = out.len();
     say_beside_error(item, account, paint, out);
@@ -338,15 +372,11 @@ fn say_words<A: Allocator + Copy>(
     say_beside_reason(item, account, paint, out);
     say_accepted(item, account, block.fields, paint, out);
     say_warnings(account.warnings, paint, out);
-    say_sent(item.sent, paint, account.is_brief, out);
-    let sent = out.len();
-    say_entries(account.entries.as_slice(), paint, out);
     Ends {
         opening,
-        item: item_end,
+        tail,
         fields,
         also,
-        sent,
     }
 }
 
@@ -373,23 +403,26 @@ fn detail<T>(is_brief: bool, list: &[T]) -> &[T]
     if is_brief { &list[..0] } else { list }
 }
 
-/// Puts the lines of what an item changed last, unless its account is brief; the last are those of entries.
+/// Puts the lines of what an item changed last, unless its account is brief; the last are those of entries, which are put into
+/// `words` first.
 ///
 /// `AllocError` where memory for them is refused.
 fn put_changed<A: Allocator + Copy>(
     account: &Account<A>,
-    entries: Octets<'_>,
     paint: Paint,
+    words: &mut TextBuilder<A>,
     out: &mut Gathered<A>,
 ) -> Result<(), AllocError>
     requires { out.old.failed ≡ false }
-    ensures { OnOk result (out.new.octets.items ≡ out.old.octets.items ++ flat_map (change_line paint.0) (detail account.now.is_brief account.now.changes.items)
-        ++ flat_map (moved_line paint.0) (detail account.now.is_brief account.now.unshown.items) ++ detail account.now.is_brief entries.entry.0.now) }
+    ensures { OnOk result ((entries : List ℕ) × (out.new.octets.items ≡ out.old.octets.items ++ flat_map (change_line paint.0) (detail account.now.is_brief account.now.changes.items)
+        ++ flat_map (moved_line paint.0) (detail account.now.is_brief account.now.unshown.items) ++ detail account.now.is_brief entries)) }
 {
     let is_brief = account.is_brief;
+    words.clear(account.is_full);
+    say_entries(account.entries.as_slice(), paint, words);
     let changes = detail(is_brief, account.changes.as_slice());
     let moved = detail(is_brief, account.unshown.as_slice());
-    let entries = Octets(detail(is_brief, entries.0));
+    let entries = Octets(detail(is_brief, words.octets()?));
     if put_changes(changes, paint, out).is_err()
         || put_moved(moved, paint, out).is_err()
         || entries.write_to(out).is_err()
@@ -400,30 +433,27 @@ fn put_changed<A: Allocator + Copy>(
 }
 
 /// The first line of an item with these words.
-fn first_of<'w>(item: &Explained<'_>, words: &'w [u8], ends: Ends, paint: Paint) -> FirstLine<'w>
-    ensures number { result.number ≡ item.now.number }
-    ensures offset { result.offset ≡ item.now.offset }
+fn first_of<'i, 'o, 'w>(
+    item: &'i Explained<'o>,
+    words: &'w [u8],
+    ends: Ends,
+    paint: Paint,
+) -> FirstLine<'i, 'o, 'w>
+    ensures item { result.item.now ≡ item.now }
     ensures paint { result.paint ≡ paint }
 {
-    FirstLine {
-        paint,
-        number: item.number,
-        offset: item.offset as u64,
-        words: part(words, ends.opening, ends.item),
-    }
+    let tail = part(words, ends.opening, ends.tail);
+    FirstLine { paint, item, tail }
 }
 
-/// The words after an item that is no error and not ignored, up to those of what changed: where the text is brief, without
+/// The words after an item that is no error and not ignored, up to the lines of what was sent: where the text is brief, without
 /// those of fields.
 fn plain_rest(words: &[u8], ends: Ends, is_brief: bool) -> Octets<'_> {
-    if is_brief {
-        part(words, ends.also, ends.sent)
-    } else {
-        part(words, ends.item, ends.sent)
-    }
+    let start = if is_brief { ends.also } else { ends.tail };
+    part(words, start, words.len())
 }
 
-/// The lines of an item with these words that is no error and not ignored, up to those of what changed, without those of
+/// The lines of an item with these words that is no error and not ignored, up to those of what was sent, without those of
 /// an opening.
 #[inline(always)]
 fn plain_lines<A: Allocator>(
@@ -444,7 +474,7 @@ fn plain_lines<A: Allocator>(
     gather(&texts!(first, rest), out)
 }
 
-/// The lines of an item with these words, up to those of what changed.
+/// The lines of an item with these words, up to those of what was sent.
 fn main_lines<A: Allocator + Copy>(
     item: &Explained<'_>,
     words: &[u8],
@@ -471,18 +501,18 @@ fn main_lines<A: Allocator + Copy>(
         case: case_of_reason(item, account.facts),
     };
     let opening = part(words, 0, ends.opening);
-    let all_fields = part(words, ends.item, ends.fields);
+    let all_fields = part(words, ends.tail, ends.fields);
     let fields = detail(account.is_brief, all_fields.0);
     let also = part(words, ends.fields, ends.also);
-    let sent = part(words, ends.also, ends.sent);
+    let beside = part(words, ends.also, words.len());
     let fields = Octets(fields);
     gather(
-        &texts!(opening, first, fields, cause, also, reason, sent),
+        &texts!(opening, first, fields, cause, also, reason, beside),
         out,
     )
 }
 
-/// Puts the lines of an item with these words, up to those of what changed, in the place of what was gathered.
+/// Puts the lines of an item with these words, up to those of what was sent, in the place of what was gathered.
 #[inline(always)]
 fn put_main<A: Allocator + Copy>(
     item: &Explained<'_>,
@@ -581,7 +611,8 @@ impl<A: Allocator + Copy> ItemLines<A> {
         block: ShownBlock<'_, A>,
         paint: Paint,
     ) -> Result<(), AllocError>
-        ensures { OnOk result ((w : Said) × (self.new ≡ lines_of paint.0 item.now (shown_words account.now.is_brief (with_changes account.now.changes.items account.now.unshown.items w)))) }
+        ensures { OnOk result ((w : Said) × AreSentFor paint.0 item.now w.sent
+            × (self.new ≡ lines_of paint.0 item.now (shown_words account.now.is_brief (with_changes account.now.changes.items account.now.unshown.items w)))) }
     {
         let ends = say_words(item, account, block, paint, &mut self.words);
         let words = self.words.octets()?;
@@ -590,7 +621,7 @@ impl<A: Allocator + Copy> ItemLines<A> {
             return gather(&part(words, 0, ends.opening), out);
         }
         put_main(item, words, ends, account, paint, out)?;
-        let entries = part(words, ends.sent, words.len());
-        put_changed(account, entries, paint, out)
+        put_sent(item.sent, account, paint, &mut self.words, out)?;
+        put_changed(account, paint, &mut self.words, out)
     }
 }

@@ -1,39 +1,20 @@
-//! The words of an item: the item itself, and the lines of its fields, of the frames that were sent, and of the header
-//! table's entries. No definition speaks of them, the format is in docs/EXPLAIN.md.
+//! The lines of an item that no definition speaks of: those of its fields, of the server's opening, of other causes, and of
+//! the header table's entries. The format is in docs/EXPLAIN.md.
 
 use crate::paint::{Paint, Role};
 use h2_explain_item::answer_fields::{AnswerPart, next_part};
 use h2_explain_item::change::header_table::EntryChange;
-use h2_explain_item::item::Explained;
 use h2_explain_item::shown_block::{ShownBlock, SpelledField};
-use h2_explain_words::frame_words::{say_frame, say_frame_in, say_head};
+use h2_explain_words::frame_words::say_frame;
 use h2_explain_words::sent::next_frame;
 use h2_explain_words::spelled::Spelling;
 use h2_frame::FrameRef;
 use h2_hpack_instruction::instruction::Mode;
-use h2_io::say::{Cut, OctetCount, TextBuilder};
+use h2_io::say::{Cut, TextBuilder};
 use h2_io::say_all;
 use h2_spec::causes::Cause;
-use h2_spec::frames::{FrameType, ItemHead};
+use h2_spec::frames::FrameType;
 use std::alloc::Allocator;
-
-/// Puts the item in words last.
-pub fn say_item<A: Allocator>(item: &Explained<'_>, out: &mut TextBuilder<A>) {
-    match item.what {
-        ItemHead::Preface => say_all!(out; "the connection preface"),
-        ItemHead::BadPreface => say_all!(out;
-            OctetCount(item.octets.len() as u64), " instead of the connection preface"),
-        ItemHead::Oversize(head) => {
-            say_head(&head, out);
-            say_all!(out; ", ", OctetCount(u64::from(head.length)), "; only its head is read");
-        }
-        ItemHead::Frame(_) => {
-            if let Some(frame) = item.frame() {
-                say_frame_in(frame, item.part, !item.ends_connection(), out);
-            }
-        }
-    }
-}
 
 /// What becomes of a literal field.
 pub fn mode_name(mode: Mode) -> &'static str {
@@ -114,34 +95,14 @@ fn say_sent_line<A: Allocator>(frame: FrameRef<'_>, paint: Paint, out: &mut Text
     paint.end(out);
 }
 
-/// Puts the line of a frame that was sent last, and, unless they are left out, those of its fields.
-fn say_sent_frame<A: Allocator>(
+/// Puts the lines of the fields of a frame that was sent last.
+pub(crate) fn say_sent_fields<A: Allocator>(
     frame: FrameRef<'_>,
     paint: Paint,
-    is_brief: bool,
     out: &mut TextBuilder<A>,
 ) {
-    say_sent_line(frame, paint, out);
-    match frame.head.frame_type() {
-        FrameType::Headers if !is_brief => say_answer(frame.payload, paint, out),
-        _ => {}
-    }
-}
-
-/// Puts the lines of the frames that were sent last, without their fields where the text is brief.
-pub(crate) fn say_sent<A: Allocator>(
-    sent: &[u8],
-    paint: Paint,
-    is_brief: bool,
-    out: &mut TextBuilder<A>,
-) {
-    let mut rest = sent;
-    for _frame in 0..sent.len() {
-        let Some((frame, after)) = next_frame(rest) else {
-            return;
-        };
-        rest = after;
-        say_sent_frame(frame, paint, is_brief, out);
+    if let FrameType::Headers = frame.head.frame_type() {
+        say_answer(frame.payload, paint, out);
     }
 }
 

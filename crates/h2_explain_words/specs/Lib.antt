@@ -1,4 +1,5 @@
 pub mod Along
+pub mod FrameWords
 pub mod Names
 pub mod Sent
 pub mod Spelled

@@ -1,11 +1,7 @@
 -- Names of error codes, settings, flags and states of streams, as `explain` writes them (RFC 9113, 5.1, 6 and 7).
 use Rattle.std.specs.Prelude.{ℕ, Bool, true, false, List, [], ◌∷◌, codes, ◌==◌, if◌then◌else◌, Option, Some, None}
-use Rattle.std.specs.Borrow.{Bor}
 use Rattle.h2_spec.specs.declared.errors.ErrorCode.{ErrorCode}
 use Rattle.h2_spec.specs.Causes.Errors.{code_number}
-use Rattle.h2_spec.specs.Frames.FrameType.{END_STREAM, ACK, END_HEADERS, PADDED, WITH_PRIORITY}
-use Rattle.h2_spec.specs.declared.frames.FrameType.{FrameType}
-use Rattle.h2_spec.specs.declared.frames.FrameType.TheVariants.{Data, Headers, Priority, RstStream, Settings, PushPromise, Ping, Goaway, WindowUpdate, Continuation, Unknown}
 use Rattle.h2_spec.specs.declared.streams.StreamState.{StreamState}
 use Rattle.h2_spec.specs.declared.streams.StreamState.TheVariants.{Idle, Skipped, BothOpen, HalfRemote, HalfLocal, Ended, PeerReset, WeReset}
 use Rattle.h2_spec.specs.Settings.{SETTINGS_HEADER_TABLE_SIZE, SETTINGS_ENABLE_PUSH, SETTINGS_MAX_CONCURRENT_STREAMS, SETTINGS_INITIAL_WINDOW_SIZE, SETTINGS_MAX_FRAME_SIZE, SETTINGS_MAX_HEADER_LIST_SIZE}
@@ -65,24 +61,7 @@ kind_name Ended = codes "closed, ended"
 kind_name PeerReset = codes "closed, reset by the client"
 kind_name WeReset = codes "closed, reset by the server"
 
--- a flag: the value of its bit, and its name with a blank before it
-abbrev pub Flag : Type 0
-Flag = ℕ × List ℕ
-
--- the flags of a frame's type, in the order in which they are written (6)
-abbrev pub flags_of : FrameType → List Flag
-flags_of Data = (END_STREAM, codes " END_STREAM") ∷ (PADDED, codes " PADDED") ∷ []
-flags_of Headers = (END_STREAM, codes " END_STREAM") ∷ (END_HEADERS, codes " END_HEADERS") ∷ (PADDED, codes " PADDED") ∷ (WITH_PRIORITY, codes " PRIORITY") ∷ []
-flags_of Priority = []
-flags_of RstStream = []
-flags_of Settings = (ACK, codes " ACK") ∷ []
-flags_of PushPromise = (END_HEADERS, codes " END_HEADERS") ∷ (PADDED, codes " PADDED") ∷ []
-flags_of Ping = (ACK, codes " ACK") ∷ []
-flags_of Goaway = []
-flags_of WindowUpdate = []
-flags_of Continuation = (END_HEADERS, codes " END_HEADERS") ∷ []
-flags_of (Unknown kind) = []
-
--- a flag of the code, with its name as octets
-abbrev pub flag_seen : ℕ × Bor (List ℕ) → Flag
-flag_seen f = (f.0, f.1.now)
+-- the name of a type that other documents than RFC 9113 register with IANA, and that this server does not use
+abbrev pub registered_type : ℕ → Option (List ℕ)
+registered_type kind =
+    if kind == 10 then Some (codes "ALTSVC") else if kind == 12 then Some (codes "ORIGIN") else if kind == 16 then Some (codes "PRIORITY_UPDATE") else None

@@ -1,21 +1,23 @@
 //! Frame types, flags, settings, error codes and states of streams by name (RFC 9113, 5.1, 6 and 7). The names are
 //! defined in specs/Names.antt.
 
-ghost use Rattle.std.specs.Prelude.{◌≡◌, ℕ, List, map, option_map};
+ghost use Rattle.std.specs.Prelude.{◌≡◌, ℕ, List, option_map};
 ghost use Rattle.std.specs.Borrow.{Bor};
+ghost use Rattle.h2_explain_words.specs.FrameWords.{code_words, octet_words, registered_words, type_words};
 ghost use Rattle.h2_explain_words.specs.Names as spec;
 
-use h2_io::say::{HexOctet, Say, TextBuilder};
-use h2_io::say_all;
+use crate::said::say_text;
+use h2_io::say::{Say, TextBuilder};
+use h2_io::{DeviceFault, HexText, Number, Output, Text, texts};
 use h2_spec::errors::ErrorCode;
-use h2_spec::frames::{
-    ACK, END_HEADERS, END_STREAM, FrameType, Head, PADDED, WITH_PRIORITY, type_name,
-};
+use h2_spec::frames::{FrameType, type_name};
 use h2_spec::streams::StreamState;
 use std::alloc::Allocator;
 
 /// The name of a type that other documents than RFC 9113 register with IANA, and that this server does not use.
-pub fn registered_type(kind: u8) -> Option<&'static str> {
+pub fn registered_type(kind: u8) -> Option<&'static str>
+    ensures { option_map (λ (name : Bor (List ℕ)). name.now) result ≡ spec.registered_type kind }
+{
     match kind {
         0x0a => Some("ALTSVC"),
         0x0c => Some("ORIGIN"),
@@ -34,10 +36,48 @@ pub fn registered_setting(id: u16) -> Option<&'static str> {
     }
 }
 
-/// Puts a name last that is registered and not used here, if there is one.
-pub(crate) fn say_registered<A: Allocator>(name: Option<&'static str>, out: &mut TextBuilder<A>) {
-    if let Some(name) = name {
-        say_all!(out; " (", name, ", not used here)");
+/// A name that is registered and not used here, if there is one.
+#[derive(Clone, Copy)]
+pub(crate) struct RegisteredWords(pub(crate) Option<&'static str>);
+
+impl Text for RegisteredWords {
+    ghost text = { λ r. registered_words (option_map (λ (name : Bor (List ℕ)). name.now) r.0) };
+
+    fn write_to<O: Output>(&self, output: &mut O) -> Result<(), DeviceFault> {
+        match self.0 {
+            None => "".write_to(output),
+            Some(name) => texts!(" (", name, ", not used here)").write_to(output),
+        }
+    }
+}
+
+/// An octet as `0x2a`.
+#[derive(Clone, Copy)]
+pub(crate) struct OctetWords(pub(crate) u8);
+
+impl Text for OctetWords {
+    ghost text = { λ o. octet_words o.0 };
+
+    fn write_to<O: Output>(&self, output: &mut O) -> Result<(), DeviceFault> {
+        texts!("0x", HexText(&[self.0])).write_to(output)
+    }
+}
+
+/// The type of frames with a number in words: its name, or the number where the RFC has no name for it.
+#[derive(Clone, Copy)]
+pub(crate) struct KindWords(pub(crate) u8);
+
+impl Text for KindWords {
+    ghost text = { λ t. type_words t.0 };
+
+    fn write_to<O: Output>(&self, output: &mut O) -> Result<(), DeviceFault> {
+        match type_name(self.0) {
+            Some(name) => name.write_to(output),
+            None => {
+                let registered = RegisteredWords(registered_type(self.0));
+                texts!("type ", OctetWords(self.0), registered).write_to(output)
+            }
+        }
     }
 }
 
@@ -47,54 +87,7 @@ pub struct TypeWords(pub FrameType);
 
 impl Say for TypeWords {
     fn say<A: Allocator>(self, out: &mut TextBuilder<A>) {
-        let kind = self.0.number();
-        match type_name(kind) {
-            Some(name) => say_all!(out; name),
-            None => {
-                say_all!(out; "type ", HexOctet(kind));
-                say_registered(registered_type(kind), out);
-            }
-        }
-    }
-}
-
-/// A flag: the value of its bit, and its name with a blank before it.
-type Flag = (u8, &'static str);
-
-/// The flags of a frame's type, in the order in which they are written (RFC 9113, 6).
-fn flags_of(kind: FrameType) -> &'static [Flag]
-    ensures { map spec.flag_seen result.now ≡ spec.flags_of kind }
-{
-    match kind {
-        FrameType::Data => &[(END_STREAM, " END_STREAM"), (PADDED, " PADDED")],
-        FrameType::Headers => &[
-            (END_STREAM, " END_STREAM"),
-            (END_HEADERS, " END_HEADERS"),
-            (PADDED, " PADDED"),
-            (WITH_PRIORITY, " PRIORITY"),
-        ],
-        FrameType::Settings | FrameType::Ping => &[(ACK, " ACK")],
-        FrameType::Continuation => &[(END_HEADERS, " END_HEADERS")],
-        FrameType::PushPromise => &[(END_HEADERS, " END_HEADERS"), (PADDED, " PADDED")],
-        FrameType::Priority
-        | FrameType::RstStream
-        | FrameType::Goaway
-        | FrameType::WindowUpdate
-        | FrameType::Unknown(_) => &[],
-    }
-}
-
-/// Puts the flags of a frame last, each after a blank: those of its type by name, the others as a number.
-pub fn say_flags<A: Allocator>(head: &Head, out: &mut TextBuilder<A>) {
-    let mut rest = head.flags;
-    for (bit, name) in flags_of(head.frame_type()) {
-        if *bit > 0 && head.has(*bit) {
-            say_all!(out; *name);
-            rest = rest.saturating_sub(*bit);
-        }
-    }
-    if rest > 0 {
-        say_all!(out; " flags ", HexOctet(rest));
+        say_text(&KindWords(self.0.number()), out);
     }
 }
 
@@ -125,12 +118,20 @@ pub fn code_name(code: u32) -> Option<&'static str>
     })
 }
 
+impl Text for Code {
+    ghost text = { λ c. code_words c.0 };
+
+    fn write_to<O: Output>(&self, output: &mut O) -> Result<(), DeviceFault> {
+        match code_name(self.0) {
+            Some(name) => name.write_to(output),
+            None => texts!("code ", Number(u64::from(self.0))).write_to(output),
+        }
+    }
+}
+
 impl Say for Code {
     fn say<A: Allocator>(self, out: &mut TextBuilder<A>) {
-        match code_name(self.0) {
-            Some(name) => say_all!(out; name),
-            None => say_all!(out; "code ", self.0),
-        }
+        say_text(&self, out);
     }
 }
 

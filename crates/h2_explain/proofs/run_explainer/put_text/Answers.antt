@@ -12,7 +12,8 @@ returns-else-form g c =
     on_ok_weaker c.put.result
     (λ h. subst (λ (b : Bool). IsTextWith b c.args.form.color c.args.form.brief x c.args.account.now.changes.items c.put.new.self) (sym c.if-form.false) (
       with_changes changes moved h.0,
+      h.1,
       rw c.fit.ensures.changes refl,
-      h.1 ∙ ap (λ (b : Bool). lines_of c.args.form.color x (shown_words b (with_changes changes moved h.0))) c.fit.ensures.brief,
+      h.2 ∙ ap (λ (b : Bool). lines_of c.args.form.color x (shown_words b (with_changes changes moved h.0))) c.fit.ensures.brief,
     ))
     c.put.ensures
