@@ -332,7 +332,8 @@ fn play_first<L: Link, K: ScriptKeeper, O: Output>(
     requires writer { O.has_failed output.old ≡ false }
     ensures flag { O.has_failed output.new ≡ is_unwritten result }
 {
-    let (form, steps) = (play.form, play.dialogue.steps.as_slice());
+    let dialogue = play.dialogue;
+    let (form, steps) = (play.form, dialogue.steps.as_slice());
     let (course, end) = play_one(alloc, common, steps, link)?;
     let (none, course) = (Clients::none(), &course);
     let clients = show_if(alloc, common, form, steps, none, 1, course, keeper, output)?;

@@ -25,7 +25,7 @@ use h2_explain_step::taking::{Observed, take_item};
 use h2_explain_text::account::Account;
 use h2_explain_text::lines::ItemLines;
 use h2_explain_text::paint::Paint;
-use h2_frame::FrameRef;
+use h2_frame::{FrameRef, Part};
 use h2_io::say::TextBuilder;
 use h2_serve::numbered;
 use h2_spec::frames::ItemHead;
@@ -256,6 +256,7 @@ impl<'b> View<'b> {
         }
         let sent = parts.sent.as_slice();
         let shown = judged(self.since, observed).item(item.number, item.offset, item.ahead, sent);
+        let _part: Option<Part<'_>> = shown.part; // the borrow checker asks where this type is
         let block = self.explainer.block(&self.conn);
         let aside = aside_of(parts, unjudged(self.since, item));
         let (account, lines) = (&mut self.account, &mut self.lines);
@@ -315,6 +316,7 @@ impl<'b> View<'b> {
         };
         let number = self.items.saturating_add(1);
         let item = observed.item(number, self.offset, octets, sent.as_slice());
+        let _part: Option<Part<'_>> = item.part; // as above
         keeper.record(&item);
         self.show(alloc, form, steps, observed, &item, keeper, out)?;
         self.items = number;
