@@ -144,7 +144,7 @@ def scripted_servers(program, case):
     most = resource.getrusage(resource.RUSAGE_CHILDREN).ru_maxrss // 1024
     # One that is built without proof keeps what it has given back for a while, to find bad accesses.
     with open(program, "rb") as file:
-        bound = 256 if b"__asan_init" in file.read() else 128
+        bound = 448 if b"__asan_init" in file.read() else 128
     expect(f"servers are judged in {bound} MiB", most < bound, f"{most} MiB")
 
 
