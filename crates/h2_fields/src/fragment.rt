@@ -202,7 +202,7 @@ fn decode_alone<A: Allocator + Copy>(
     ensures grows { Grows collected.old collected.new }
 {
     rest.ticks = 0;
-    match decode(
+    let used = decode(
         collected,
         table,
         edit,
@@ -210,16 +210,12 @@ fn decode_alone<A: Allocator + Copy>(
         &mut rest.next,
         Point::start(),
         piece,
-    ) {
-        Ok(used) => {
-            if append(&mut rest.octets, octets_from(piece, used)).is_err() {
-                rest.next = rest.point;
-                return Err(BlockFault::NoMemory);
-            }
-            rest.kept = 0;
-            rest.used = 0;
-            Ok(())
-        }
-        Err(fault) => Err(fault),
+    )?;
+    if append(&mut rest.octets, octets_from(piece, used)).is_err() {
+        rest.next = rest.point;
+        return Err(BlockFault::NoMemory);
     }
+    rest.kept = 0;
+    rest.used = 0;
+    Ok(())
 }
