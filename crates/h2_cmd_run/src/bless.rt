@@ -71,10 +71,10 @@ fn add_own<F: Files>(
 {
     match own_of(alloc, files, case) {
         Ok(own) => add_with(alloc, &own.book, own.config, case, text),
-        Err(OwnFault::Refused(refused)) => match add_lines(case.lines, text) {
-            Ok(()) => Ok(Some(refused)),
-            Err(error) => Err(error),
-        },
+        Err(OwnFault::Refused(refused)) => {
+            add_lines(case.lines, text)?;
+            Ok(Some(refused))
+        }
         Err(OwnFault::NoMemory) => Err(AllocError),
     }
 }
@@ -146,10 +146,8 @@ fn add_cases<F: Files>(
             lines: first_lines(rest, length),
             number,
         };
-        match add_case(alloc, common, files, case, text) {
-            Ok(kept) => all = note(file, &kept, reasons) && all,
-            Err(error) => return Err(error),
-        }
+        let kept = add_case(alloc, common, files, case, text)?;
+        all = note(file, &kept, reasons) && all;
         first += length;
     }
     Ok(all)
@@ -179,10 +177,8 @@ fn add_file_lines<F: Files>(
     ensures same_files { F.file files.new ≡ F.file files.old }
 {
     let preamble = first_lines(lines, preamble_length(lines));
-    match add_lines(preamble, text) {
-        Ok(()) => add_cases(alloc, common, files, file, lines, text, reasons),
-        Err(error) => Err(error),
-    }
+    add_lines(preamble, text)?;
+    add_cases(alloc, common, files, file, lines, text, reasons)
 }
 
 /// The text of a file whose lines are written anew. `AllocError` where memory is refused.
@@ -199,26 +195,12 @@ fn text_anew<F: Files>(
     ensures same_files { F.file files.new ≡ F.file files.old }
 {
     let mut text = Vec::new(alloc);
-    let lines = match lines_in(alloc, octets) {
-        Ok(lines) => lines,
-        Err(error) => return Err(error),
-    };
-    match add_file_lines(
-        alloc,
-        common,
-        files,
-        file,
-        lines.as_slice(),
-        &mut text,
-        reasons,
-    ) {
-        Ok(is_whole) => {
-            // The last line has no line feed.
-            text.truncate(text.len().saturating_sub(1));
-            Ok(Anew { text, is_whole })
-        }
-        Err(error) => Err(error),
-    }
+    let lines = lines_in(alloc, octets)?;
+    let lines = lines.as_slice();
+    let is_whole = add_file_lines(alloc, common, files, file, lines, &mut text, reasons)?;
+    // The last line has no line feed.
+    text.truncate(text.len().saturating_sub(1));
+    Ok(Anew { text, is_whole })
 }
 
 /// Says why a file was not read.
@@ -352,15 +334,11 @@ fn bless_file<F: Files, O: Output>(
     };
     let (text, octets) = (new.text.as_slice(), octets.as_slice());
     if plan.in_place {
-        return match replace(alloc, files, file, octets, text, output, reasons) {
-            Ok(()) => Ok(new.is_whole),
-            Err(fault) => Err(fault),
-        };
+        replace(alloc, files, file, octets, text, output, reasons)?;
+        return Ok(new.is_whole);
     }
-    match write(output, text) {
-        Ok(()) => Ok(new.is_whole),
-        Err(fault) => Err(fault),
-    }
+    write(output, text)?;
+    Ok(new.is_whole)
 }
 
 /// Writes files anew in their order, until a fault ends that. Says whether each case was written anew.
@@ -384,10 +362,8 @@ fn bless_files<F: Files, O: Output>(
 {
     let mut all = true;
     for file in names {
-        match bless_file(alloc, plan, common, files, file, output, reasons) {
-            Ok(is_whole) => all = is_whole && all,
-            Err(fault) => return Err(fault),
-        }
+        let is_whole = bless_file(alloc, plan, common, files, file, output, reasons)?;
+        all = is_whole && all;
     }
     Ok(all)
 }

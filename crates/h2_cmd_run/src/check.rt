@@ -122,13 +122,9 @@ fn report<O: Output>(
         Ok(text) => text,
         Err(_) => return Err(PrintFault::Fault(BenchFault::NoMemory)),
     };
-    match write(output, text.as_slice()) {
-        Ok(()) => {
-            *tally = next;
-            Ok(())
-        }
-        Err(fault) => Err(fault),
-    }
+    write(output, text.as_slice())?;
+    *tally = next;
+    Ok(())
 }
 
 /// Writes the result of a case, and counts it.
@@ -202,10 +198,7 @@ fn check_cases<F: Files, O: Output>(
             lines: first_lines(rest, length),
             number,
         };
-        match check_one(alloc, common, files, case, tally, output) {
-            Ok(()) => {}
-            Err(fault) => return Err(fault),
-        }
+        check_one(alloc, common, files, case, tally, output)?;
         first += length;
     }
     Ok(())
@@ -323,10 +316,7 @@ fn check_all<F: Files, O: Output>(
     ensures same_files { F.file files.new ≡ F.file files.old }
 {
     for file in names {
-        match check_file(alloc, common, files, file, tally, output) {
-            Ok(()) => {}
-            Err(fault) => return Err(fault),
-        }
+        check_file(alloc, common, files, file, tally, output)?;
     }
     Ok(())
 }
@@ -343,10 +333,10 @@ fn write_plan<O: Output>(
     ensures name { O.name output.new ≡ O.name output.old }
 {
     match plan_line(alloc, tally.count) {
-        Ok(line) => match write(output, line.as_slice()) {
-            Ok(()) => Ok(tally.all_hold),
-            Err(fault) => Err(fault),
-        },
+        Ok(line) => {
+            write(output, line.as_slice())?;
+            Ok(tally.all_hold)
+        }
         Err(_) => Err(PrintFault::Fault(BenchFault::NoMemory)),
     }
 }
@@ -369,14 +359,9 @@ fn check_files<F: Files, O: Output>(
     ensures same_files { F.file files.new ≡ F.file files.old }
 {
     let mut tally = CaseTally::new();
-    match write(output, b"TAP version 13\n") {
-        Ok(()) => {}
-        Err(fault) => return Err(fault),
-    }
-    match check_all(alloc, common, names, files, &mut tally, output) {
-        Ok(()) => write_plan(alloc, tally, output),
-        Err(fault) => Err(fault),
-    }
+    write(output, b"TAP version 13\n")?;
+    check_all(alloc, common, names, files, &mut tally, output)?;
+    write_plan(alloc, tally, output)
 }
 
 /// Writes what remains to say of cases: the line of a fault that ended them. Gives the status: 0 where no case failed,

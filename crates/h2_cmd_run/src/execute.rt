@@ -228,7 +228,7 @@ pub fn run<R: Read, W: Write>(alloc: Global, words: &Words, input: &mut R, outpu
     // The proof reads what the devices hold from this use of the references.
     let reader = from.into_inner();
     let writer = into.into_inner();
-    let _ = &*reader;
-    let _ = &*writer;
+    let _reader = &*reader;
+    let _writer = &*writer;
     status
 }

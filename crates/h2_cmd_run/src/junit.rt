@@ -55,12 +55,10 @@ fn suites_of<'n, F: Files>(
 {
     let mut suites = Vec::new(alloc);
     for file in names {
-        match suite_of(alloc, common, files, file, tally) {
-            Ok(suite) => match suites.push(suite) {
-                Ok(()) => {}
-                Err(_) => return Err(AllocError),
-            },
-            Err(error) => return Err(error),
+        let suite = suite_of(alloc, common, files, file, tally)?;
+        match suites.push(suite) {
+            Ok(()) => {}
+            Err(_) => return Err(AllocError),
         }
     }
     Ok(suites)
