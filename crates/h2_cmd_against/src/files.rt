@@ -58,10 +58,7 @@ fn judge_lines<F: Files, L: Link>(
             lines: first_lines(rest, length),
             number,
         };
-        match judge_case(alloc, bench, files, link, case, so_far) {
-            Ok(()) => {}
-            Err(error) => return Err(error),
-        }
+        judge_case(alloc, bench, files, link, case, so_far)?;
         first += length;
     }
     Ok(())

@@ -103,10 +103,7 @@ pub fn print_files<'n, F: Files, L: Link, O: Output>(
 {
     let mut suites = Vec::new(alloc);
     for file in names {
-        let suite = match print_file(alloc, bench, files, link, file, so_far, output) {
-            Ok(suite) => suite,
-            Err(fault) => return Err(fault),
-        };
+        let suite = print_file(alloc, bench, files, link, file, so_far, output)?;
         match suites.push(suite) {
             Ok(()) => {}
             Err(_) => return Err(Stop::NoMemory),

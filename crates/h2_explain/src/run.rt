@@ -74,10 +74,8 @@ fn explain_all<A: Allocator + Copy, O: Output>(
     ensures name { O.name output.new ≡ O.name output.old }
 {
     let mut sent = ItemOutbox::new(alloc);
-    match explanation.take_piece(alloc, conn, octets, false, &mut sent, output, &mut NoRecord) {
-        Ok(()) => explanation.conclude(alloc, conn, output),
-        Err(fault) => Err(fault),
-    }
+    explanation.take_piece(alloc, conn, octets, false, &mut sent, output, &mut NoRecord)?;
+    explanation.conclude(alloc, conn, output)
 }
 
 /// Takes and explains each item of a connection over octets, and the octets after the last one. The number of an item

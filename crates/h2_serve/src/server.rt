@@ -156,7 +156,7 @@ pub fn serve_on<W: Write>(
     let served = serve_over(alloc, &mut clients, book, config, count, &mut into);
     // The proof reads what the output holds from this use of the reference.
     let writer = into.into_inner();
-    let _ = &*writer;
+    let _writer = &*writer;
     served
 }
 

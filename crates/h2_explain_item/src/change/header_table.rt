@@ -48,10 +48,8 @@ impl<A: Allocator + Copy> ShownEntry<A> {
         ensures { IfOk result (λ entry. entry ≡ field name.now value.now) }
     {
         let name = Vec::from_slice(alloc, name)?;
-        match Vec::from_slice(alloc, value) {
-            Ok(value) => Ok(ShownEntry { name, value }),
-            Err(error) => Err(error),
-        }
+        let value = Vec::from_slice(alloc, value)?;
+        Ok(ShownEntry { name, value })
     }
 
     /// What it counts: its octets and 32 (RFC 7541, 4.1).

@@ -94,7 +94,7 @@ pub fn explain_over<'b, O: Output, K: Keeper, S: Wire>(
     let end = drive_with(&mut watched, out, wire, turns);
     let (conclusion, writer) = watched.finish();
     // The proof reads what the output holds from this use of the reference.
-    let _ = &*writer;
+    let _writer = &*writer;
     Ok(ClientEnd { end, conclusion })
 }
 

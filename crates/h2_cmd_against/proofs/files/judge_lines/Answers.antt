@@ -28,7 +28,7 @@ loop-first-preserved g c =
       same_files = c.judge_case.ensures.same_files ∙ inv.same_files;
       results = λ printed.
           let here = subst (λ (e : Directory). JudgesCase (trial_of e c.args.bench) (record { file = file; lines = map (λ l. l.now) c.first_lines.result.now }) mid between next after) inv.same_files
-          (rw c.in-Ok.is at (c.judge_case.ensures.result (inv.same_printed ∙ printed))) in
+          (rw c.in_ok-judge_case.was at (c.judge_case.ensures.result (inv.same_printed ∙ printed))) in
           let one = subst (λ (ls : List (Bor (List ℕ))). JudgesCase trial (record { file = file; lines = map (λ l. l.now) ls }) mid between next after) taken here in
           case-next trial file lines c.loop-first.first n all c.args.so_far.now mid next (g.L.Link.log c.args.link.now) between after c.loop-first-test.true value (inv.results printed) one;
     }
