@@ -29,6 +29,7 @@ use h2_cmd_batch::{BenchFault, Case, Common, PrintFault, book_for_words, print_f
 use h2_cmd_book_file::{Files, FilesFault};
 use h2_cmd_cases::{case_length, lines_in, preamble_length, title_of};
 use h2_cmd_check::{CaseVerdict, Title, plan_line, verdict_text};
+use h2_cmd_messages::file_reason;
 use h2_io::{MAX_INPUT, Output};
 use h2_request_book::book::Book;
 use std::alloc::Global;
@@ -265,6 +266,14 @@ fn check_text<F: Files, O: Output>(
     }
 }
 
+/// Why a file can't be read.
+fn unread_reason<F: Files>(files: &F, file: &str) -> &'static str {
+    match files.failure(file) {
+        Some(kind) => file_reason(kind),
+        None => "the file can't be read",
+    }
+}
+
 /// Writes the results of the cases of a file.
 pub(crate) fn check_file<F: Files, O: Output>(
     alloc: Global,
@@ -288,7 +297,8 @@ pub(crate) fn check_file<F: Files, O: Output>(
         Ok(text) => check_text(alloc, common, files, file, text.as_slice(), tally, output),
         Err(FilesFault::NoMemory) => Err(PrintFault::Fault(BenchFault::NoMemory)),
         Err(FilesFault::Failed) => {
-            refuse_file(alloc, file, "the file can't be read", tally, output)
+            let found = unread_reason(files, file);
+            refuse_file(alloc, file, found, tally, output)
         }
         Err(FilesFault::TooLong) => {
             let found = "the file has more than 16777216 octets";

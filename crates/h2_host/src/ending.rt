@@ -1,14 +1,12 @@
 //! What is said on standard error once a command has ended.
 
 use crate::commands::Commands;
-use crate::devices::files::failure_of;
 use crate::devices::input::Given;
 use crate::refused_words::say_refused_words;
 use h2_cmd_args::Words;
-use h2_cmd_args::command::{Check, Plan, Refusal, Serve};
-use h2_cmd_messages::{InputSource, TextBuilder, say_limits, say_port, say_unread, say_unwritten};
+use h2_cmd_args::command::{Plan, Refusal, Serve};
+use h2_cmd_messages::{TextBuilder, say_limits, say_port, say_unread, say_unwritten};
 use std::io::{ErrorKind, Write};
-use std::rt::Files;
 
 /// How a command ended.
 #[derive(Clone, Copy)]
@@ -35,15 +33,6 @@ impl Ending {
     }
 }
 
-/// Says which files of cases can't be read, and why.
-fn say_of_cases(rt: &HostRuntime, check: &Check<'_>, out: &mut TextBuilder) {
-    for path in check.files.as_slice() {
-        if let Some(kind) = failure_of(rt, path) {
-            say_unread(InputSource::File(path), kind, out);
-        }
-    }
-}
-
 /// Says why nothing was served.
 fn say_served(serve: &Serve<'_>, ending: Ending, out: &mut TextBuilder) {
     if ending.status != 1 {
@@ -58,7 +47,6 @@ fn say_served(serve: &Serve<'_>, ending: Ending, out: &mut TextBuilder) {
 
 /// Says what the command could not say: why a device failed, and what it does not know of one.
 fn say_of_plan<C: Commands>(
-    rt: &HostRuntime,
     plan: &Plan<'_>,
     given: &Given<'_, '_, C>,
     ending: Ending,
@@ -75,7 +63,6 @@ fn say_of_plan<C: Commands>(
     match plan {
         _ if ending.is_said => {}
         Plan::Serve(serve) => say_served(serve, ending, out),
-        Plan::Check(check) => say_of_cases(rt, check, out),
         Plan::Debug(debug) => given.say_session(ending.status, debug.config, out),
         _ => {}
     }
@@ -96,7 +83,7 @@ pub fn end<C: Commands>(
     }
     let mut out = TextBuilder::new(rt.alloc());
     match asked {
-        Ok(plan) => say_of_plan(rt, plan, given, ending, &mut out),
+        Ok(plan) => say_of_plan(plan, given, ending, &mut out),
         Err(refusal) => say_refused_words(refusal, words.as_slice(), &mut out),
     }
     if let Ok(text) = out.finish() {

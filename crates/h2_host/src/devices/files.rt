@@ -11,12 +11,6 @@ use std::io::ErrorKind;
 /// The path of standard input.
 pub const STANDARD_INPUT: &str = "-";
 
-/// Why the system refuses to read the file at a path, where it does.
-pub fn failure_of(rt: &HostRuntime, path: &str) -> Option<ErrorKind> {
-    let files = NamedFiles { rt };
-    files.failure(path)
-}
-
 /// Makes an empty file where there is none.
 fn make_file(rt: &HostRuntime, path: &str) -> Result<(), FilesFault> {
     let mut how = OpenOptions::new();
