@@ -1,6 +1,6 @@
 -- Rules that change one record, where nothing is sent: a send window rises, or the peer resets a stream. What they change, and what
 -- is known of the records then.
-use Rattle.std.proofs.Common.{◌≡◌, ℕ, Bool, List, true, false, cond, refl, ap, sym, subst, ◌∙◌, arith, pos, ◌+ℤ◌}
+use Rattle.std.proofs.Common.{◌≡◌, ℕ, Bool, List, true, false, cond, refl, ap, sym, subst, ◌∙◌, pos, ◌+ℤ◌}
 use Rattle.std.specs.Prelude.{◌==◌}
 use Rattle.std.proofs.lemmas.Bool.{false≢true, not-true}
 use Rattle.h2_spec.specs.declared.causes.Cause.TheVariants.{StreamIncrementZero, StreamWindowOverflow}
@@ -21,7 +21,7 @@ use Rattle.h2_spec.specs.Window.{is_above_max}
 use Rattle.h2_spec.specs.WindowUpdate.{window_outcome}
 use Rattle.h2_spec.proofs.Computed.{and-left, and-right}
 use Rattle.h2_conn_rules.specs.Plain.{only_raises}
-use Rattle.h2_conn_rules.specs.Sound.{HasBody, InForce, IsSoundChange, IsSoundState, IsSoundStream, in_force, is_recorded}
+use Rattle.h2_conn_rules.specs.Sound.{HasBody, IsSoundChange, IsSoundState, IsSoundStream, in_force, is_recorded}
 use Rattle.h2_conn_rules.proofs.SoundLaws.{changed-sound, found-sound, live-put, live-recorded, not-live-body, not-live-sound}
 use Rattle.h2_conn_rules.proofs.RaisedLaws.{raised-body, raised-sound}
 use Rattle.h2_streams.specs.Raised.{raised}

@@ -30,3 +30,8 @@ left-over (Ended code) b e = refl
 pub rest-over : (failed : Bool) (s : State) (b : List ℕ) → let c = connection failed s b in is_ended c.state.core.phase ≡ true → c.rest ≡ []
 rest-over false s b e = left-over s.core.phase b e
 rest-over true s b e = refl
+
+-- the state of a connection is the one inside it
+pub state-inside : (failed : Bool) (s : State) (b : List ℕ) → (connection failed s b).state ≡ s
+state-inside false s b = refl
+state-inside true s b = refl

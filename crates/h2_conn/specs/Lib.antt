@@ -9,6 +9,7 @@ pub mod Follows
 pub mod Fragments
 pub mod OpenBlocks
 pub mod Parted
+pub mod Parts
 pub mod Records
 pub mod Reports
 pub mod Runs

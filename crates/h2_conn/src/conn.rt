@@ -18,6 +18,7 @@ ghost use Rattle.h2_conn.specs.Faults.{refusal_after, refusal_for};
 ghost use Rattle.h2_conn.specs.First.{TakesIfAny};
 ghost use Rattle.h2_conn.specs.Checkpoint.{Precedes, checkpoint_of};
 ghost use Rattle.h2_conn.specs.Follows.{Follows};
+ghost use Rattle.h2_conn.specs.Parts.{AreOfBook, parts_of};
 ghost use Rattle.h2_conn.specs.Reports.{reported, used_by};
 ghost use Rattle.h2_conn.specs.Runs.{Feeds, FeedsOne, Halts};
 ghost use Rattle.h2_conn.specs.Shown.{Shows, fields_at_hand, next_fields};
@@ -30,6 +31,7 @@ use crate::feed::first::empty_splitter;
 use crate::feed::one::One;
 use crate::field_block::open_block::fields_at_hand;
 use crate::field_block::scratch::Scratch;
+use crate::parts::ConnParts;
 use crate::report::{TakenItem, report_first_in_order};
 use crate::state::State;
 use crate::view::View;
@@ -324,6 +326,22 @@ impl<'b, A: Allocator> Conn<'b, A> {
             Phase::Ended(code) => Some(code.number()),
             Phase::Preface | Phase::Settings | Phase::Running => None,
         }
+    }
+
+    /// The connection without its book, where no octets wait: `ConnParts::into_conn` makes it again with the same book. Takes
+    /// no memory.
+    pub fn into_parts(self) -> ConnParts<A>
+        requires ready { self ≡ going self.state [] }
+        ensures parts { result ≡ parts_of self.entry.state }
+        ensures book { AreOfBook self.entry.state.book result }
+    {
+        let Self {
+            splitter: _,
+            state,
+            scratch: _,
+            failed: _,
+        } = self;
+        state.into_parts()
     }
 
     /// Its state.

@@ -3,12 +3,14 @@
 
 ghost use Rattle.std.specs.Prelude.{◌≡◌, true, IfOk, IsTrue};
 ghost use Rattle.h2_conn.specs.Checkpoint.{IsConsistent};
+ghost use Rattle.h2_conn.specs.Parts.{AreOfBook, parts_of};
 ghost use Rattle.h2_conn.specs.Records.{records};
 ghost use Rattle.h2_conn_rules.specs.Sound.{AreInRange, HasBody, IsSoundState, IsSoundStream, in_force};
 ghost use Rattle.h2_spec.specs.State.{configured, opening, opening_core};
 ghost use Rattle.h2_spec.specs.Stream.{is_live, kind_of, stream_at};
 
 use crate::field_block::open_block::{OpenBlock, copy_of};
+use crate::parts::ConnParts;
 use h2_request_book::book::Book;
 use h2_spec::connection::{Config, ConnectionState, Phase};
 use h2_spec::flow::{Credit, LocalSettings, Settings, Window};
@@ -151,6 +153,28 @@ impl<'b, A: Allocator + Copy> State<'b, A> {
 }
 
 impl<'b, A: Allocator> State<'b, A> {
+    /// The state without its book.
+    pub(crate) fn into_parts(self) -> ConnParts<A>
+        ensures parts { result ≡ parts_of self.entry }
+        ensures book { AreOfBook self.entry.book result }
+    {
+        let Self {
+            book: _,
+            config,
+            core,
+            block,
+            table,
+            streams,
+        } = self;
+        ConnParts {
+            config,
+            core,
+            block,
+            table,
+            streams,
+        }
+    }
+
     /// For the prover alone, as each `let _` of these crates: what is true of the state of every connection.
     pub fn consistent(&self)
         ensures { IsConsistent self.now }

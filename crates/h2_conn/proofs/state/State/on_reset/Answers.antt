@@ -1,8 +1,8 @@
-use Rattle.std.proofs.Common.{◌≡◌, refl, subst, sym, true}
+use Rattle.std.proofs.Common.{refl, subst, sym, true}
 use Rattle.h2_spec.specs.Change.{frames_of, with_outcome}
 use Rattle.h2_spec.specs.Effect.{on_reset}
 use Rattle.h2_spec.specs.State.{State}
-use Rattle.h2_spec.specs.Stream.{is_live, reset_as, stream_at}
+use Rattle.h2_spec.specs.Stream.{reset_as, stream_at}
 use Rattle.h2_conn.specs.Blocks.{IsStopped}
 use Rattle.h2_conn.specs.Records.{records}
 use Rattle.h2_conn.proofs.ApplyChangeLaws.{settles-quietly}

@@ -8,7 +8,6 @@ use Rattle.h2_conn.proofs.QuietLaws.{changed-view, raised-state, raises-live}
 use Rattle.h2_conn_rules.specs.Plain.{only_raises}
 use Rattle.h2_conn_rules.specs.Sound.{IsSoundState}
 use Rattle.h2_streams.specs.Raised.{raised}
-use Rattle.h2_conn.proofs.state.State.raise.Given.{Over}
 use Rattle.h2_conn.proofs.state.State.raise.Goals as goal
 
 -- what is known of the state's record is known of the records inside
