@@ -31,7 +31,7 @@ from program import NAME, PROVED, TOP, Progress, say
 
 PAGE = "h2_page"
 EMBED = "h2_embed"
-EXPORTS = "{ global: h2_bench_run; local: *; };\n"
+EXPORTS = "{ global: h2_bench_run; h2_bench_kept_*; local: *; };\n"
 WASM = "wasm64-unknown-unknown"
 
 

@@ -1,0 +1,4 @@
+mod AsBox
+mod BookLaws
+mod Feeding
+mod Making

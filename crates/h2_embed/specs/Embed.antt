@@ -15,7 +15,7 @@ use Rattle.h2_cmd_run.specs.Memory.{IsDebugged, unserved}
 use Rattle.h2_cmd_run.specs.ProgramEnd.{IsRefusal, is_serve}
 use Rattle.h2_embed.specs.declared.fault.RunEnd.{RunEnd}
 use Rattle.h2_embed.specs.declared.fault.RunFault.{RunFault}
-use Rattle.h2_embed.specs.declared.fault.RunFault.TheVariants.{NoMemory, NoRoom, NoText}
+use Rattle.h2_embed.specs.declared.fault.RunFault.TheVariants.{NoConnection, NoMemory, NoRoom, NoText}
 
 -- ---- the words and the file
 
@@ -61,6 +61,7 @@ IsSentence status sentence = may_refuse status ≡ false → sentence ≡ []
 abbrev pub number : RunFault → ℕ
 number NoMemory = 1
 number NoRoom = 2
+number NoConnection = 3
 number NoText = 22
 
 -- the end of a call that carried out no command
@@ -71,10 +72,21 @@ refused fault = record { fault = number fault; status = 0; printed = 0; sentence
 abbrev pub carried_out : (fault : ℕ) → Printed → (sentence : List ℕ) → RunEnd
 carried_out fault t sentence = record { fault = fault; status = t.status; printed = length t.text; sentence = length sentence }
 
+-- the end of a call of a connection that stays, where that many octets were printed
+abbrev pub given : (fault count : ℕ) → RunEnd
+given fault count = record { fault = fault; status = 0; printed = count; sentence = 0 }
+
+-- a text was put at the front of a place with that much space; or nothing, where it has no space
+abbrev pub PutsText : List ℕ → (room : ℕ) → (put : List ℕ) → RunEnd → Type 0
+PutsText text room put end =
+    ((put ≡ text) × (end ≡ given 0 (length text)))
+    ⊎ ((put ≡ []) × (room < length text) × (end ≡ given (number NoRoom) (length text)))
+
 -- why no command was carried out
 abbrev pub IsRefusedFor : List ℕ → List ℕ → RunFault → Type 0
 IsRefusedFor lines name NoMemory = Unit {0}
 IsRefusedFor lines name NoRoom = ⊥
+IsRefusedFor lines name NoConnection = ⊥
 IsRefusedFor lines name NoText = (words_said lines ≡ None) ⊎ ¬ IsUtf8 name
 
 -- what was put at the front of a place with that much space, and the end that was reported: the text and the sentence; or

@@ -1,1 +1,3 @@
 pub mod Embed
+pub mod Hold
+pub mod Kept

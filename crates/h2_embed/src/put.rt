@@ -2,13 +2,13 @@
 
 ghost use Rattle.std.specs.Prelude.{◌≡◌, ◌≤◌, ◌+◌, ◌++◌, length, take, drop};
 ghost use Rattle.h2_cmd_run.specs.Memory.{printed_in};
-ghost use Rattle.h2_embed.specs.Embed.{Puts};
+ghost use Rattle.h2_embed.specs.Embed.{Puts, PutsText};
 
-use crate::fault::{RunEnd, RunFault};
+use crate::fault::{RunEnd, RunFault, given};
 use h2_cmd_run::Ran;
 
 /// Puts octets at the front of others, which stay as they are after that.
-fn put(out: &mut [u8], octets: &[u8])
+pub(crate) fn put(out: &mut [u8], octets: &[u8])
     requires { length octets.now ≤ length out.old }
     ensures { out.new ≡ octets.now ++ drop (length octets.now) out.old }
 {
@@ -46,5 +46,22 @@ pub(crate) fn put_printed(ran: &Ran, sentence: &[u8], out: &mut [u8], end: &mut 
         return 0;
     }
     put_both(out, text, sentence);
+    count
+}
+
+/// Puts a text where the caller reads it, and says how the call ended; nothing where it has no space. Returns how many
+/// octets were put.
+pub(crate) fn put_text(text: &[u8], out: &mut [u8], end: &mut RunEnd) -> usize
+    ensures within { result ≤ length out.new }
+    ensures put { PutsText text.now (length out.old) (take result out.new) end.new }
+    ensures rest { drop result out.new ≡ drop result out.old }
+{
+    let count = text.len();
+    if out.len() < count {
+        *end = given(RunFault::NoRoom.number(), count);
+        return 0;
+    }
+    put(out, text);
+    *end = given(0, count);
     count
 }
