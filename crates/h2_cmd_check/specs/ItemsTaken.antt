@@ -73,6 +73,10 @@ sight_by (Left d) seen = seen
 abbrev pub seen_by : ItemsTaken → Sight
 seen_by seen = record { items = seen.items; sent = seen.sent.items; first = seen.first; cause = seen.cause; ignored = seen.ignored }
 
+-- it with octets in front of those that were sent
+abbrev pub with_gone : List ℕ → Sight → Sight
+with_gone gone seen = record seen { sent = gone ++ seen.sent }
+
 -- the next item of the octets was taken: it has that many of them
 pub record TakesItem (s : State) (b : List ℕ) (seen : Sight) (t : State) (seen' : Sight) (used : ℕ) : Type 0 where
   pub event : Event

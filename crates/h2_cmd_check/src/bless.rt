@@ -7,14 +7,13 @@ ghost use Rattle.h2_spec.specs.State.{is_allowed};
 ghost use Rattle.h2_cmd_check.specs.Blessed.{blessed, blessed_at, cause_line, error_text, filled, filled_line, filled_place, filled_place_script, filled_script, have_renewed, is_renewed, kept_line, kept_place, left_text, may_move, more_say, renewed, renewed_cause, renewed_line, renewed_place, renewed_sent, renewed_sent_place, says_sent, sent_line, sent_lines, stays_after, told_place, written_line, written_place};
 ghost use Rattle.h2_spec.specs.Requests.Answer.{Entry};
 ghost use Rattle.h2_spec.specs.declared.connection.Config.{Config};
-ghost use Rattle.h2_cmd_check.specs.Cases.{Start, cause_text, first_place, played, sight_above};
+ghost use Rattle.h2_cmd_check.specs.Cases.{Start, cause_text, first_place, played};
 ghost use Rattle.h2_cmd_check.specs.Frames.{is_none, next_of, next_whole};
 ghost use Rattle.h2_cmd_cases.specs.Frames.{summed, told_lines};
 ghost use Rattle.h2_cmd_check.specs.ItemTexts.{octets_at, octets_or_none};
 ghost use Rattle.h2_cmd_cases.specs.Lines.{line_said};
-ghost use Rattle.h2_cmd_check.specs.ItemsTaken.{seen_by};
 ghost use Rattle.h2_cmd_check.specs.Tap.{Gains};
-ghost use Rattle.h2_cmd_check.specs.Walks.{IsWithin, Keeps, KeepsFrame, KeepsNone, Lets, Leaves, Tells, Walks, Writes, left_by, place_of, sight_here};
+ghost use Rattle.h2_cmd_check.specs.Walks.{IsWithin, Keeps, KeepsFrame, KeepsNone, Lets, Leaves, Sees, Tells, Walks, Writes, left_by, place_of, sight_here};
 ghost use Rattle.h2_cmd_check.specs.declared.fault.CaseFault.TheVariants.{BadConfig, NoMemory};
 
 use crate::fault::CaseFault;
@@ -398,7 +397,7 @@ impl<'t, 'b> Walk<'t, 'b> {
         out: &mut Growing,
     ) -> Result<(), AllocError>
         ensures same { OnOk result ((self.new.octets ≡ self.old.octets) × ((self.new.at ≡ self.old.at) × (self.new.seen ≡ self.old.seen))) }
-        ensures text { OnOk result ((start : Start) → seen_by self.old.seen ≡ sight_above start (place_of self.old)
+        ensures text { OnOk result ((start : Start) → Sees start self.old
             → Writes (renewed_sent start (place_of self.old) more text.now) (renewed_sent_place start (place_of self.old) more text.now) self.new out.old out.new) }
     {
         self.keep_sent(alloc, text, out)?;

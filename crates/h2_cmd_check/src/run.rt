@@ -17,7 +17,9 @@ use std::alloc::{AllocError, Global};
 pub(crate) struct ItemsTaken {
     /// How many there were.
     pub items: usize,
-    /// The octets that were sent, the opening SETTINGS first.
+    /// How many of the octets that were sent first were let go.
+    pub gone: usize,
+    /// The octets that were sent after them, the opening SETTINGS first.
     pub sent: Vec<u8>,
     /// Why the first error was one, if there was an error.
     pub first: Option<Cause>,
@@ -51,6 +53,7 @@ fn take_item(
     requires few { seen.old.items < 2 ^ 63 }
     ensures ready { conn.new ≡ going conn.new.state [] }
     ensures takes { IfOk result (λ used. TakesNext conn.old.state octets.now (seen_by seen.old) conn.new.state (seen_by seen.new) used) }
+    ensures gone { seen.new.gone ≡ seen.old.gone }
 {
     let Some(taken) = conn.take_and_lend(octets, &mut seen.memory, &mut seen.sent)? else {
         return Ok(None);
@@ -76,6 +79,7 @@ pub(crate) fn take_items(
     requires within { start ≤ length octets.now }
     ensures ready { conn.new ≡ going conn.new.state [] }
     ensures few { IfOk result (λ at. seen.new.items ≤ at) }
+    ensures gone { seen.new.gone ≡ seen.old.gone }
     ensures within { IfOk result (λ at. at ≤ length octets.now) }
     ensures state { IfOk result (λ at. (parse_all next_event conn.old.state (drop start octets.now)).state ≡ conn.new.state) }
     ensures rest { IfOk result (λ at. (parse_all next_event conn.old.state (drop start octets.now)).rest ≡ drop at octets.now) }

@@ -2,11 +2,11 @@
 //! seen of the run so far, or of the position of a debugger. Definitions: `specs/Cases.antt`, `specs/Walks.antt`.
 
 ghost use Rattle.std.specs.Prelude.{◌≡◌, ◌≤◌, ◌<◌, ◌^◌, ◌++◌, ◌&&◌, Bool, true, false, None, List, [], ℕ, length, drop, map, string_bytes, if◌then◌else◌, OnOk, IfOk};
-ghost use Rattle.h2_conn.specs.Connection.{going};
+ghost use Rattle.h2_conn.specs.Connection.{Connection, going};
 ghost use Rattle.h2_spec.specs.Texts.Assemble.{statement_at};
 ghost use Rattle.h2_spec.specs.Texts.Show.{show};
 ghost use Rattle.h2_spec.specs.Texts.View.{view};
-ghost use Rattle.h2_cmd_check.specs.Cases.{Start, all_hold, cause_text, closes, errs, ignores, outcome, passed, plays, played, reason_text, sight_above};
+ghost use Rattle.h2_cmd_check.specs.Cases.{Start, all_hold, cause_text, closes, errs, ignores, outcome, passed, plays, played, reason_text};
 ghost use Rattle.h2_cmd_check.specs.Commands.{text_by};
 ghost use Rattle.h2_cmd_cases.specs.Files.{expect_something};
 ghost use Rattle.h2_cmd_check.specs.Frames.{is_none, next_of, next_whole, sends, spoken_by};
@@ -17,7 +17,7 @@ ghost use Rattle.h2_cmd_cases.specs.Lines.{line_said, said_by, CaseLine};
 ghost use Rattle.h2_cmd_check.specs.ItemsTaken.{no_item, seen_by};
 ghost use Rattle.h2_cmd_check.specs.Texts.{explains, shows};
 ghost use Rattle.h2_cmd_check.specs.declared.case_debugger.CaseDebugger.TheVariants.{Absent};
-ghost use Rattle.h2_cmd_check.specs.Walks.{Begins, Closes, Commands, Compares, Finds, Goes, IsWithin, Leaves, Loads, Passes, Speaks, Walks, left_by, outcome_by, place_of, sent_here, sight_here};
+ghost use Rattle.h2_cmd_check.specs.Walks.{Begins, Closes, Commands, Compares, Finds, Goes, IsWithin, Leaves, Loads, Passes, Sees, Speaks, Walks, left_by, outcome_by, place_of, sent_here, sight_here};
 
 use crate::case_debugger::CaseDebugger;
 use crate::command::{Given, fault_line, is_obeyed};
@@ -44,7 +44,8 @@ pub(crate) struct Walk<'t, 'b> {
     pub at: usize,
     pub seen: ItemsTaken,
     pub debugger: CaseDebugger<'b>,
-    /// How many of the octets sent lines have spoken about; with a debugger, of those for the item of its position.
+    /// How many of the octets sent that are held lines have spoken about; with a debugger, of those for the item of its
+    /// position.
     pub spoken: usize,
     /// Whether a line has spoken about them since the last octets or the last command, and the number of that line.
     pub speaks: bool,
@@ -215,7 +216,7 @@ impl<'t, 'b> Walk<'t, 'b> {
     pub(crate) fn new(alloc: Global, sent: Vec<u8>) -> Walk<'t, 'b>
         ensures octets { (result.octets.items ≡ []) × (result.at ≡ 0) }
         ensures seen { seen_by result.seen ≡ no_item sent.items }
-        ensures place { (result.spoken ≡ 0) × (result.speaks ≡ false) }
+        ensures place { (result.seen.gone ≡ 0) × ((result.spoken ≡ 0) × (result.speaks ≡ false)) }
         ensures debugger { result.debugger ≡ Absent }
         ensures holds { result.holds ≡ true }
     {
@@ -224,6 +225,7 @@ impl<'t, 'b> Walk<'t, 'b> {
             at: 0,
             seen: ItemsTaken {
                 items: 0,
+                gone: 0,
                 sent,
                 first: None,
                 cause: None,
@@ -506,6 +508,27 @@ impl<'t, 'b> Walk<'t, 'b> {
         Ok(())
     }
 
+    /// Lets go of the octets that were sent, where lines have spoken about all that are held.
+    fn let_go(&mut self)
+        ensures octets { (self.new.octets ≡ self.old.octets) × (self.new.at ≡ self.old.at) }
+        ensures place { ((place_of self.new).spoken ≡ (place_of self.old).spoken) × (self.new.speaks ≡ self.old.speaks) }
+        ensures debugger { self.new.debugger ≡ self.old.debugger }
+        ensures items { self.new.seen.items ≡ self.old.seen.items }
+        ensures holds { self.new.holds ≡ self.old.holds }
+        ensures walks { (start : Start) (c : Connection) → Walks start self.old c → Walks start self.new c }
+    {
+        let held = self.seen.sent.len();
+        if self.spoken != held || self.debugger.is_present() {
+            return;
+        }
+        let Some(gone) = self.seen.gone.checked_add(held) else {
+            return;
+        };
+        self.seen.gone = gone;
+        self.seen.sent.clear();
+        self.spoken = 0;
+    }
+
     /// More octets of the client: the items that they complete are taken.
     pub(crate) fn feed(
         &mut self,
@@ -518,10 +541,11 @@ impl<'t, 'b> Walk<'t, 'b> {
         ensures within { OnOk result (IsWithin self.new) }
         ensures walks { OnOk result ((start : Start) → Walks start self.old conn.old → Walks start self.new conn.new) }
         ensures octets { OnOk result (self.new.octets.items ≡ self.old.octets.items ++ more.now) }
-        ensures place { (self.new.spoken ≡ self.old.spoken) × (self.new.speaks ≡ self.old.speaks) }
+        ensures place { ((place_of self.new).spoken ≡ (place_of self.old).spoken) × (self.new.speaks ≡ self.old.speaks) }
         ensures debugger { self.new.debugger ≡ self.old.debugger }
         ensures holds { self.new.holds ≡ self.old.holds }
     {
+        self.let_go();
         let Ok(()) = self.octets.extend_from_slice(more) else {
             return Err(AllocError);
         };
@@ -804,7 +828,7 @@ impl<'t, 'b> Walk<'t, 'b> {
         text: &'t [u8],
     ) -> Result<(), AllocError>
         ensures same { OnOk result ((self.new.octets ≡ self.old.octets) × ((self.new.at ≡ self.old.at) × (self.new.seen ≡ self.old.seen))) }
-        ensures goes { OnOk result ((start : Start) → Begins start given.now → seen_by self.old.seen ≡ sight_above start (place_of self.old)
+        ensures goes { OnOk result ((start : Start) → Begins start given.now → Sees start self.old
             → Passes start (said.Command text.now) self.old self.new) }
     {
         self.close(alloc)?;
