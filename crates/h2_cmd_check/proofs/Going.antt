@@ -83,15 +83,15 @@ pub place_is : (w w' : Walk) (spoken : ℕ) (speaks : Bool) → w'.octets ≡ w.
 place_is w w' spoken speaks octets seen debugger said is = rw (octets, seen, debugger, said, is) refl
 
 -- where lines have spoken about all that is held, it is let go
-let_go_sees : (start : Start) (w w' : Walk) → w'.octets ≡ w.octets → w'.seen.gone ≡ w.seen.gone + length w.seen.sent.items → seen_by w'.seen ≡ with_sent [] (seen_by w.seen) → Sees start w → Sees start w'
+let_go_sees : (start : Start) (w w' : Walk) → w'.octets ≡ w.octets → w'.seen.gone ≡ w.seen.gone + length w.seen.sent → seen_by w'.seen ≡ with_sent [] (seen_by w.seen) → Sees start w → Sees start w'
 let_go_sees start w w' octets gone seen is = record {
-  gone = is.gone ++ w.seen.sent.items;
-  count = omega (arith, gone, is.count, length-append is.gone w.seen.sent.items);
-  seen = ap (λ (x : Sight). with_gone (is.gone ++ w.seen.sent.items) x) seen ∙ ap (λ (o : List ℕ). with_sent o (seen_by w.seen)) (append-nil (is.gone ++ w.seen.sent.items))
+  gone = is.gone ++ w.seen.sent;
+  count = omega (arith, gone, is.count, length-append is.gone w.seen.sent);
+  seen = ap (λ (x : Sight). with_gone (is.gone ++ w.seen.sent) x) seen ∙ ap (λ (o : List ℕ). with_sent o (seen_by w.seen)) (append-nil (is.gone ++ w.seen.sent))
       ∙ is.seen ∙ ap (λ v. sight start.state start.sent v.items) (sym octets);
 }
 
-pub let_go_walks : (start : Start) (w w' : Walk) (c : Connection) → w'.octets ≡ w.octets → w'.at ≡ w.at → w'.seen.gone ≡ w.seen.gone + length w.seen.sent.items → seen_by w'.seen ≡ with_sent [] (seen_by w.seen)
+pub let_go_walks : (start : Start) (w w' : Walk) (c : Connection) → w'.octets ≡ w.octets → w'.at ≡ w.at → w'.seen.gone ≡ w.seen.gone + length w.seen.sent → seen_by w'.seen ≡ with_sent [] (seen_by w.seen)
     → Walks start w c → Walks start w' c
 let_go_walks start w w' c octets at gone seen is = record {
   within = let items : w'.seen.items ≡ w.seen.items = ap (λ (x : Sight). x.items) seen in rw (octets, at, items) is.within;

@@ -93,7 +93,7 @@ pub record Leaves (more : List ℕ) (w w' : Walk) : Type 0 where
   pub seen : w'.seen ≡ w.seen
   pub speaks : w'.speaks ≡ w.speaks
   pub debugger : w'.debugger ≡ left_with more w.debugger
-  pub spoken : w'.spoken ≡ (if is_present w.debugger then length w.seen.sent.items else w.spoken)
+  pub spoken : w'.spoken ≡ (if is_present w.debugger then length w.seen.sent else w.spoken)
 
 -- the debugger of a walk, or a new one
 abbrev pub debugger_for : Given → Walk → Debugging

@@ -21,6 +21,7 @@ use crate::growing::Growing;
 use crate::walk::{Walk, cause_name};
 use h2_cmd_cases::{Line, line_of, lines_in, push_told, summed};
 use h2_conn::{Conn, ConnFault};
+use h2_frame::Outbox;
 use h2_request_book::book::Book;
 use h2_script::{LineFault, add_line, disassemble};
 use h2_spec::causes::Cause;
@@ -203,17 +204,18 @@ fn put_error(came: bool, cause: Option<Cause>, out: &mut Growing)
 
 impl<'t, 'b> Walk<'t, 'b> {
     /// More octets come: nothing is compared.
-    fn pass(&mut self)
-        ensures { Lets self.old self.new }
+    fn pass(&mut self) -> Result<(), AllocError>
+        ensures { OnOk result (Lets self.old self.new) }
     {
         if !self.speaks && self.octets.is_empty() {
-            self.spoken = self.sent().len();
+            self.spoken = self.sent_len()?;
         }
         self.speaks = false;
+        Ok(())
     }
 
     /// The octets of a line of the script, in a case that is written anew.
-    fn pass_octets(&mut self, conn: &mut Conn<'_, Global>, more: &[u8]) -> Result<(), AllocError>
+    fn pass_octets(&mut self, conn: &mut Conn<'b, Global>, more: &[u8]) -> Result<(), AllocError>
         requires ready { conn.old ≡ going conn.old.state [] }
         requires within { IsWithin self.old }
         ensures ready { conn.new ≡ going conn.new.state [] }
@@ -225,7 +227,7 @@ impl<'t, 'b> Walk<'t, 'b> {
         if more.is_empty() {
             return Ok(());
         }
-        self.pass();
+        self.pass()?;
         self.leave(more)?;
         self.feed(conn, more)
     }
@@ -234,7 +236,7 @@ impl<'t, 'b> Walk<'t, 'b> {
     fn pass_line(
         &mut self,
         alloc: Global,
-        conn: &mut Conn<'_, Global>,
+        conn: &mut Conn<'b, Global>,
         text: &[u8],
     ) -> Result<(), AllocError>
         requires ready { conn.old ≡ going conn.old.state [] }
@@ -267,7 +269,7 @@ impl<'t, 'b> Walk<'t, 'b> {
         if wanted.is_empty() {
             return Ok(());
         }
-        if self.unspoken().starts_with(wanted) {
+        if self.is_next(alloc, wanted)? {
             self.spoken += wanted.len();
             self.speaks = true;
             return put_sent(alloc, wanted, out);
@@ -284,7 +286,8 @@ impl<'t, 'b> Walk<'t, 'b> {
     ) -> Result<(), AllocError>
         ensures { OnOk result (KeepsFrame text.now None (summed text.now (left_by self.old)) self.old self.new out.old out.new) }
     {
-        match summed(alloc, text, self.unspoken())? {
+        let frame = self.next_frame(alloc)?;
+        match summed(alloc, text, frame.as_slice())? {
             Some(count) => {
                 // A frame has nine octets or more; this is for the prover, which then sees that the sum fits.
                 if count > 0 {
@@ -317,24 +320,26 @@ impl<'t, 'b> Walk<'t, 'b> {
     }
 
     /// A line that says that any frames are sent stays.
-    fn keep_any(&mut self, text: &[u8], out: &mut Growing)
-        ensures { Tells true (codes ";< " ++ kept_line text.now) self.old self.new out.old out.new }
+    fn keep_any(&mut self, text: &[u8], out: &mut Growing) -> Result<(), AllocError>
+        ensures { OnOk result (Tells true (codes ";< " ++ kept_line text.now) self.old self.new out.old out.new) }
     {
-        self.spoken = self.sent().len();
+        self.spoken = self.sent_len()?;
         self.speaks = true;
         out.text(";< ");
         put_line(text, out);
+        Ok(())
     }
 
     /// A line that says that no frame is left stays, where none is.
-    fn keep_none(&mut self, text: &[u8], out: &mut Growing)
-        ensures { KeepsNone text.now self.old self.new out.old out.new }
+    fn keep_none(&mut self, text: &[u8], out: &mut Growing) -> Result<(), AllocError>
+        ensures { OnOk result (KeepsNone text.now self.old self.new out.old out.new) }
     {
-        if self.unspoken().is_empty() {
+        if self.is_none_left()? {
             self.speaks = true;
             out.text(";< ");
             put_line(text, out);
         }
+        Ok(())
     }
 
     /// A line that says what is sent stays, where it holds.
@@ -342,34 +347,34 @@ impl<'t, 'b> Walk<'t, 'b> {
         ensures { OnOk result (Keeps text.now self.old self.new out.old out.new) }
     {
         if text == b"...".as_slice() {
-            self.keep_any(text, out);
-            return Ok(());
+            return self.keep_any(text, out);
         }
         if text == b"-".as_slice() {
-            self.keep_none(text, out);
-            return Ok(());
+            return self.keep_none(text, out);
         }
         self.keep_frame_line(alloc, text, out)
     }
 
     /// Writes that nothing is sent, unless a line has said what is.
-    fn end_none(&mut self, out: &mut Growing)
-        ensures { Tells true (if self.old.speaks then [] else codes ";< -\n") self.old self.new out.old out.new }
+    fn end_none(&mut self, out: &mut Growing) -> Result<(), AllocError>
+        ensures { OnOk result (Tells true (if self.old.speaks then [] else codes ";< -\n") self.old self.new out.old out.new) }
     {
-        self.spoken = self.sent().len();
-        if self.speaks {
-            return;
+        self.spoken = self.sent_len()?;
+        if !self.speaks {
+            self.speaks = true;
+            out.text(";< -\n");
         }
-        self.speaks = true;
-        out.text(";< -\n");
+        Ok(())
     }
 
     /// Writes all that is left of what was sent.
     fn end_some(&mut self, alloc: Global, out: &mut Growing) -> Result<(), AllocError>
         ensures { OnOk result (Tells true (told_lines (left_by self.old)) self.old self.new out.old out.new) }
     {
-        put_told(alloc, self.unspoken(), out)?;
-        self.spoken = self.sent().len();
+        let len = self.sent_len()?;
+        let left = self.left(alloc, len)?;
+        put_told(alloc, left.as_slice(), out)?;
+        self.spoken = len;
         self.speaks = true;
         Ok(())
     }
@@ -378,9 +383,8 @@ impl<'t, 'b> Walk<'t, 'b> {
     fn end_sent(&mut self, alloc: Global, out: &mut Growing) -> Result<(), AllocError>
         ensures { OnOk result (Tells true (left_text self.old.speaks (left_by self.old)) self.old self.new out.old out.new) }
     {
-        if self.unspoken().is_empty() {
-            self.end_none(out);
-            return Ok(());
+        if self.is_none_left()? {
+            return self.end_none(out);
         }
         self.end_some(alloc, out)
     }
@@ -411,7 +415,7 @@ impl<'t, 'b> Walk<'t, 'b> {
     fn renew_script(
         &mut self,
         alloc: Global,
-        conn: &mut Conn<'_, Global>,
+        conn: &mut Conn<'b, Global>,
         text: &[u8],
         out: &mut Growing,
     ) -> Result<(), AllocError>
@@ -428,18 +432,19 @@ impl<'t, 'b> Walk<'t, 'b> {
     }
 
     /// Writes a command, before which what was sent is not looked at any more.
-    fn tell_command(&mut self, line: &[u8], out: &mut Growing)
-        ensures { Tells self.old.speaks (kept_line line.now) self.old self.new out.old out.new }
+    fn tell_command(&mut self, line: &[u8], out: &mut Growing) -> Result<(), AllocError>
+        ensures { OnOk result (Tells self.old.speaks (kept_line line.now) self.old self.new out.old out.new) }
     {
-        self.spoken = self.sent().len();
+        self.spoken = self.sent_len()?;
         put_line(line, out);
+        Ok(())
     }
 
     /// Writes a line of a case anew; `more` says whether another line says what is sent before the next octets.
     fn renew_line(
         &mut self,
         alloc: Global,
-        conn: &mut Conn<'_, Global>,
+        conn: &mut Conn<'b, Global>,
         line: &[u8],
         more: bool,
         out: &mut Growing,
@@ -460,10 +465,7 @@ impl<'t, 'b> Walk<'t, 'b> {
                 renew_cause(line, sight.first, sight.cause, out);
                 Ok(())
             }
-            Line::Command(_) => {
-                self.tell_command(line, out);
-                Ok(())
-            }
+            Line::Command(_) => self.tell_command(line, out),
             Line::Title(_)
             | Line::Words(_)
             | Line::Shown(_)
@@ -480,7 +482,7 @@ impl<'t, 'b> Walk<'t, 'b> {
     fn keep_line(
         &mut self,
         alloc: Global,
-        conn: &mut Conn<'_, Global>,
+        conn: &mut Conn<'b, Global>,
         line: &[u8],
         out: &mut Growing,
     ) -> Result<(), AllocError>
@@ -511,7 +513,7 @@ impl<'t, 'b> Walk<'t, 'b> {
     fn write_line(
         &mut self,
         alloc: Global,
-        conn: &mut Conn<'_, Global>,
+        conn: &mut Conn<'b, Global>,
         line: &[u8],
         stays: bool,
         more: bool,
@@ -567,11 +569,11 @@ fn stays_after(alloc: Global, stays: bool, line: &[u8]) -> Result<bool, AllocErr
 
 /// Writes the lines of a case anew that say what is sent or why an item is an error; all others as they are, and those
 /// after a command up to the next octets.
-fn renew(
+fn renew<'b>(
     alloc: Global,
-    conn: &mut Conn<'_, Global>,
+    conn: &mut Conn<'b, Global>,
     lines: &[&[u8]],
-    walk: &mut Walk<'_, '_>,
+    walk: &mut Walk<'_, 'b>,
     out: &mut Growing,
 ) -> Result<(), AllocError>
     requires ready { conn.old ≡ going conn.old.state [] }
@@ -594,8 +596,10 @@ impl<'t, 'b> Walk<'t, 'b> {
         ensures { OnOk result (Tells self.old.speaks (told_lines (left_by self.old) ++ error_text (nat_lt before self.old.at) (sight_here self.old).cause)
             self.old self.new out.old out.new) }
     {
-        put_told(alloc, self.unspoken(), out)?;
-        self.spoken = self.sent().len();
+        let len = self.sent_len()?;
+        let left = self.left(alloc, len)?;
+        put_told(alloc, left.as_slice(), out)?;
+        self.spoken = len;
         put_error(before < self.at, self.sight().cause, out);
         Ok(())
     }
@@ -604,7 +608,7 @@ impl<'t, 'b> Walk<'t, 'b> {
     fn fill_octets(
         &mut self,
         alloc: Global,
-        conn: &mut Conn<'_, Global>,
+        conn: &mut Conn<'b, Global>,
         more: &[u8],
         out: &mut Growing,
     ) -> Result<(), AllocError>
@@ -628,7 +632,7 @@ impl<'t, 'b> Walk<'t, 'b> {
     fn fill_script(
         &mut self,
         alloc: Global,
-        conn: &mut Conn<'_, Global>,
+        conn: &mut Conn<'b, Global>,
         text: &[u8],
         out: &mut Growing,
     ) -> Result<(), AllocError>
@@ -652,7 +656,7 @@ impl<'t, 'b> Walk<'t, 'b> {
     fn fill_line(
         &mut self,
         alloc: Global,
-        conn: &mut Conn<'_, Global>,
+        conn: &mut Conn<'b, Global>,
         line: &[u8],
         out: &mut Growing,
     ) -> Result<(), AllocError>
@@ -680,11 +684,11 @@ impl<'t, 'b> Walk<'t, 'b> {
 }
 
 /// Writes the lines of a case as they are, and after each of the script what it leads to.
-fn fill(
+fn fill<'b>(
     alloc: Global,
-    conn: &mut Conn<'_, Global>,
+    conn: &mut Conn<'b, Global>,
     lines: &[&[u8]],
-    walk: &mut Walk<'_, '_>,
+    walk: &mut Walk<'_, 'b>,
     out: &mut Growing,
 ) -> Result<(), AllocError>
     requires ready { conn.old ≡ going conn.old.state [] }
@@ -700,11 +704,11 @@ fn fill(
 }
 
 /// Writes a case anew.
-fn write_anew(
+fn write_anew<'b>(
     alloc: Global,
-    conn: &mut Conn<'_, Global>,
+    conn: &mut Conn<'b, Global>,
     lines: &[&[u8]],
-    walk: &mut Walk<'_, '_>,
+    walk: &mut Walk<'_, 'b>,
     out: &mut Growing,
 ) -> Result<(), AllocError>
     requires ready { conn.old ≡ going conn.old.state [] }
@@ -719,14 +723,14 @@ fn write_anew(
 }
 
 /// A case written anew, whose connection is new.
-fn bless_on(
+fn bless_on<'b>(
     alloc: Global,
-    conn: &mut Conn<'_, Global>,
-    sent: Vec<u8>,
+    conn: &mut Conn<'b, Global>,
+    sent: Outbox<'b, Global>,
     lines: &[&[u8]],
 ) -> Result<Vec<u8>, AllocError>
     requires ready { conn.old ≡ going conn.old.state [] }
-    ensures text { (book : List Entry) (config : Config) → let start : Start = record { state = conn.old.state; sent = sent.items; texts = []; book = book; config = config } in
+    ensures text { (book : List Entry) (config : Config) → let start : Start = record { state = conn.old.state; sent = sent.entry; texts = []; book = book; config = config } in
         IfOk result (λ text. text.items ≡ blessed_at start first_place (map (λ l. l.now) lines.now)) }
 {
     let mut walk = Walk::new(alloc, sent);
@@ -752,7 +756,7 @@ pub fn bless_case(
     ensures allowed { OnOk result (is_allowed config ≡ true) }
     ensures fault { IfErr result (λ fault. (fault ≡ NoMemory) ⊎ ((fault ≡ BadConfig) × (is_allowed config ≡ false))) }
 {
-    let mut sent = Vec::new(alloc);
+    let mut sent = Outbox::new(alloc);
     match Conn::new(book, config, &mut sent) {
         Ok(mut conn) => match bless_on(alloc, &mut conn, sent, lines) {
             Ok(text) => Ok(text),

@@ -8,7 +8,7 @@ use Rattle.h2_cmd_check.proofs.bless.bless_on.Goals as goal
 pub returns : goal.returns
 returns c = record {
   text = λ book config.
-      let start : Start = record { state = c.args.conn.now.state; sent = c.args.sent.items; texts = []; book = book; config = config } in
+      let start : Start = record { state = c.args.conn.now.state; sent = c.args.sent; texts = []; book = book; config = config } in
       let w = c.new-walk.result in
       let walks = begun start w c.args.conn.now c.new-walk.ensures.octets.0 c.new-walk.ensures.octets.1 c.new-walk.ensures.place.0 c.new-walk.ensures.seen c.requires.ready in
       let lines : List (List ℕ) = map (λ l. l.now) c.args.lines.now in
