@@ -18,6 +18,7 @@ ghost use Rattle.h2_cmd_check.specs.declared.fault.CaseFault.TheVariants.{BadCon
 
 use crate::fault::CaseFault;
 use crate::growing::Growing;
+use crate::sent::longer;
 use crate::walk::{Walk, cause_name};
 use h2_cmd_cases::{Line, line_of, lines_in, push_told, summed};
 use h2_conn::{Conn, ConnFault};
@@ -204,14 +205,13 @@ fn put_error(came: bool, cause: Option<Cause>, out: &mut Growing)
 
 impl<'t, 'b> Walk<'t, 'b> {
     /// More octets come: nothing is compared.
-    fn pass(&mut self) -> Result<(), AllocError>
-        ensures { OnOk result (Lets self.old self.new) }
+    fn pass(&mut self)
+        ensures { Lets self.old self.new }
     {
         if !self.speaks && self.octets.is_empty() {
-            self.spoken = self.sent_len()?;
+            self.spoken = self.sent_len();
         }
         self.speaks = false;
-        Ok(())
     }
 
     /// The octets of a line of the script, in a case that is written anew.
@@ -227,7 +227,7 @@ impl<'t, 'b> Walk<'t, 'b> {
         if more.is_empty() {
             return Ok(());
         }
-        self.pass()?;
+        self.pass();
         self.leave(more)?;
         self.feed(conn, more)
     }
@@ -269,8 +269,9 @@ impl<'t, 'b> Walk<'t, 'b> {
         if wanted.is_empty() {
             return Ok(());
         }
+        let spoken = longer(self.spoken, wanted.len())?;
         if self.is_next(alloc, wanted)? {
-            self.spoken += wanted.len();
+            self.spoken = spoken;
             self.speaks = true;
             return put_sent(alloc, wanted, out);
         }
@@ -289,10 +290,7 @@ impl<'t, 'b> Walk<'t, 'b> {
         let frame = self.next_frame(alloc)?;
         match summed(alloc, text, frame.as_slice())? {
             Some(count) => {
-                // A frame has nine octets or more; this is for the prover, which then sees that the sum fits.
-                if count > 0 {
-                    self.spoken += count;
-                }
+                self.spoken = longer(self.spoken, count)?;
                 self.speaks = true;
                 out.text(";< ");
                 put_line(text, out);
@@ -320,26 +318,24 @@ impl<'t, 'b> Walk<'t, 'b> {
     }
 
     /// A line that says that any frames are sent stays.
-    fn keep_any(&mut self, text: &[u8], out: &mut Growing) -> Result<(), AllocError>
-        ensures { OnOk result (Tells true (codes ";< " ++ kept_line text.now) self.old self.new out.old out.new) }
+    fn keep_any(&mut self, text: &[u8], out: &mut Growing)
+        ensures { Tells true (codes ";< " ++ kept_line text.now) self.old self.new out.old out.new }
     {
-        self.spoken = self.sent_len()?;
+        self.spoken = self.sent_len();
         self.speaks = true;
         out.text(";< ");
         put_line(text, out);
-        Ok(())
     }
 
     /// A line that says that no frame is left stays, where none is.
-    fn keep_none(&mut self, text: &[u8], out: &mut Growing) -> Result<(), AllocError>
-        ensures { OnOk result (KeepsNone text.now self.old self.new out.old out.new) }
+    fn keep_none(&mut self, text: &[u8], out: &mut Growing)
+        ensures { KeepsNone text.now self.old self.new out.old out.new }
     {
-        if self.is_none_left()? {
+        if self.is_none_left() {
             self.speaks = true;
             out.text(";< ");
             put_line(text, out);
         }
-        Ok(())
     }
 
     /// A line that says what is sent stays, where it holds.
@@ -347,34 +343,35 @@ impl<'t, 'b> Walk<'t, 'b> {
         ensures { OnOk result (Keeps text.now self.old self.new out.old out.new) }
     {
         if text == b"...".as_slice() {
-            return self.keep_any(text, out);
+            self.keep_any(text, out);
+            return Ok(());
         }
         if text == b"-".as_slice() {
-            return self.keep_none(text, out);
+            self.keep_none(text, out);
+            return Ok(());
         }
         self.keep_frame_line(alloc, text, out)
     }
 
     /// Writes that nothing is sent, unless a line has said what is.
-    fn end_none(&mut self, out: &mut Growing) -> Result<(), AllocError>
-        ensures { OnOk result (Tells true (if self.old.speaks then [] else codes ";< -\n") self.old self.new out.old out.new) }
+    fn end_none(&mut self, out: &mut Growing)
+        ensures { Tells true (if self.old.speaks then [] else codes ";< -\n") self.old self.new out.old out.new }
     {
-        self.spoken = self.sent_len()?;
-        if !self.speaks {
-            self.speaks = true;
-            out.text(";< -\n");
+        self.spoken = self.sent_len();
+        if self.speaks {
+            return;
         }
-        Ok(())
+        self.speaks = true;
+        out.text(";< -\n");
     }
 
     /// Writes all that is left of what was sent.
     fn end_some(&mut self, alloc: Global, out: &mut Growing) -> Result<(), AllocError>
         ensures { OnOk result (Tells true (told_lines (left_by self.old)) self.old self.new out.old out.new) }
     {
-        let len = self.sent_len()?;
-        let left = self.left(alloc, len)?;
+        let left = self.all_left(alloc)?;
         put_told(alloc, left.as_slice(), out)?;
-        self.spoken = len;
+        self.spoken = self.sent_len();
         self.speaks = true;
         Ok(())
     }
@@ -383,8 +380,9 @@ impl<'t, 'b> Walk<'t, 'b> {
     fn end_sent(&mut self, alloc: Global, out: &mut Growing) -> Result<(), AllocError>
         ensures { OnOk result (Tells true (left_text self.old.speaks (left_by self.old)) self.old self.new out.old out.new) }
     {
-        if self.is_none_left()? {
-            return self.end_none(out);
+        if self.is_none_left() {
+            self.end_none(out);
+            return Ok(());
         }
         self.end_some(alloc, out)
     }
@@ -432,12 +430,11 @@ impl<'t, 'b> Walk<'t, 'b> {
     }
 
     /// Writes a command, before which what was sent is not looked at any more.
-    fn tell_command(&mut self, line: &[u8], out: &mut Growing) -> Result<(), AllocError>
-        ensures { OnOk result (Tells self.old.speaks (kept_line line.now) self.old self.new out.old out.new) }
+    fn tell_command(&mut self, line: &[u8], out: &mut Growing)
+        ensures { Tells self.old.speaks (kept_line line.now) self.old self.new out.old out.new }
     {
-        self.spoken = self.sent_len()?;
+        self.spoken = self.sent_len();
         put_line(line, out);
-        Ok(())
     }
 
     /// Writes a line of a case anew; `more` says whether another line says what is sent before the next octets.
@@ -465,7 +462,10 @@ impl<'t, 'b> Walk<'t, 'b> {
                 renew_cause(line, sight.first, sight.cause, out);
                 Ok(())
             }
-            Line::Command(_) => self.tell_command(line, out),
+            Line::Command(_) => {
+                self.tell_command(line, out);
+                Ok(())
+            }
             Line::Title(_)
             | Line::Words(_)
             | Line::Shown(_)
@@ -596,10 +596,9 @@ impl<'t, 'b> Walk<'t, 'b> {
         ensures { OnOk result (Tells self.old.speaks (told_lines (left_by self.old) ++ error_text (nat_lt before self.old.at) (sight_here self.old).cause)
             self.old self.new out.old out.new) }
     {
-        let len = self.sent_len()?;
-        let left = self.left(alloc, len)?;
+        let left = self.all_left(alloc)?;
         put_told(alloc, left.as_slice(), out)?;
-        self.spoken = len;
+        self.spoken = self.sent_len();
         put_error(before < self.at, self.sight().cause, out);
         Ok(())
     }

@@ -21,18 +21,22 @@ pub(crate) struct Sent<'b> {
     front: Vec<u8>,
     /// The others.
     rest: Outbox<'b, Global>,
+    /// How many there are.
+    len: usize,
 }
 
 impl<'b> Model for Sent<'b> {
-    ghost use Rattle.std.specs.Prelude.{ℕ, ◌++◌, List};
+    ghost use Rattle.std.specs.Prelude.{◌≡◌, ℕ, ◌++◌, List, length};
 
     ghost Value = { List ℕ };
 
     ghost view = { λ s. s.front.items ++ s.rest };
+
+    ghost invariant = { λ s. s.len ≡ length (s.front.items ++ s.rest) };
 }
 
 /// The sum of two numbers of octets; `AllocError` where no `usize` has it.
-fn longer(len: usize, more: usize) -> Result<usize, AllocError>
+pub(crate) fn longer(len: usize, more: usize) -> Result<usize, AllocError>
     ensures { IfOk result (λ sum. sum ≡ len + more) }
 {
     match len.checked_add(more) {
@@ -64,9 +68,7 @@ fn bring(
     while front.len() < count && !rest.is_empty() {
         let some = rest.front();
         let taken = some.len();
-        let Ok(()) = front.extend_from_slice(some) else {
-            return Err(AllocError);
-        };
+        front.extend_from_slice(some)?;
         rest.remove_front(taken);
     }
     Ok(())
@@ -79,18 +81,20 @@ impl<'b> Sent<'b> {
     {
         Sent {
             front: Vec::new(alloc),
+            len: rest.len(),
             rest,
         }
     }
 
-    /// How many octets there are; `AllocError` where no `usize` has it.
-    pub(crate) fn len(&self) -> Result<usize, AllocError>
-        ensures { IfOk result (λ len. len ≡ length self.now) }
+    /// How many octets there are.
+    pub(crate) fn len(&self) -> usize
+        ensures { result ≡ length self.now }
     {
-        longer(self.front.len(), self.rest.len())
+        self.len
     }
 
-    /// Takes the item that octets of a client begin with, as `take_and_lend`.
+    /// Takes the item that octets of a client begin with, as `take_and_lend`; `AllocError` too where no `usize` has the
+    /// number of octets.
     pub(crate) fn take(
         &mut self,
         conn: &mut Conn<'b, Global>,
@@ -102,7 +106,14 @@ impl<'b> Sent<'b> {
         ensures report { IfOk result (λ taken. taken ≡ reported conn.old.state (next_item conn.old.state octets.now)) }
         ensures ready { conn.new ≡ going conn.new.state [] }
     {
-        conn.take_and_lend(octets, memory, &mut self.rest)
+        let taken = conn.take_and_lend(octets, memory, &mut self.rest)?;
+        let Some(len) = self.front.len().checked_add(self.rest.len()) else {
+            self.rest.keep_first(0);
+            self.len = self.front.len();
+            return Err(AllocError);
+        };
+        self.len = len;
+        Ok(taken)
     }
 
     /// Lets go of all.
@@ -111,6 +122,7 @@ impl<'b> Sent<'b> {
     {
         self.front.clear();
         self.rest.keep_first(0);
+        self.len = 0;
     }
 
     /// A copy of this many octets after the first ones; of all where there are fewer.

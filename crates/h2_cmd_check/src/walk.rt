@@ -10,7 +10,7 @@ ghost use Rattle.h2_spec.specs.Texts.View.{view};
 ghost use Rattle.h2_cmd_check.specs.Cases.{Start, all_hold, cause_text, closes, errs, ignores, outcome, passed, plays, played, reason_text};
 ghost use Rattle.h2_cmd_check.specs.Commands.{text_by};
 ghost use Rattle.h2_cmd_cases.specs.Files.{expect_something};
-ghost use Rattle.h2_cmd_check.specs.Frames.{is_none, next_of, next_whole, sends, spoken_by};
+ghost use Rattle.h2_cmd_check.specs.Frames.{frame_length, is_none, next_of, next_whole, sends, spoken_by};
 ghost use Rattle.h2_cmd_cases.specs.Frames.{summed};
 ghost use Rattle.h2_cmd_check.specs.ItemTexts.{octets_at, text_before};
 ghost use Rattle.h2_cmd_cases.specs.Lines as said;
@@ -24,7 +24,7 @@ use crate::case_debugger::CaseDebugger;
 use crate::command::{Given, fault_line, is_obeyed};
 use crate::pattern::{closest, explains, shows};
 use crate::run::{ItemsTaken, take_items};
-use crate::sent::{Sent, left_from};
+use crate::sent::{Sent, left_from, longer};
 use crate::texts::text_before;
 use crate::verdict::{CaseVerdict, Wrong};
 use h2_cmd_cases::{Line, expect_something, line_of, push_short_line, summed};
@@ -95,6 +95,9 @@ impl<'t, 'b> Drop for Walk<'t, 'b> {
 pub(crate) struct Sight {
     /// How many items there are up to the place.
     pub items: usize,
+    /// How many of the octets that were sent are held, of which lines speak: those for all items, or for the item of a
+    /// debugger's position.
+    pub sent: usize,
     /// Why the first error is one; with a debugger why the item of its position is one.
     pub first: Option<Cause>,
     /// Why the item before is an error.
@@ -161,7 +164,9 @@ fn reason_name(reason: Option<Ignored>) -> &'static str
 }
 
 /// How many octets the frame has that octets begin with, by its head; nine where they have none.
-fn frame_length(octets: &[u8]) -> usize {
+fn frame_length(octets: &[u8]) -> usize
+    ensures { result ≡ frame_length octets.now }
+{
     match read_head(octets) {
         Some(head) => 9 + head.length as usize,
         None => 9,
@@ -396,6 +401,7 @@ impl<'t, 'b> Walk<'t, 'b> {
     /// debugger has takes long.
     pub(crate) fn sight(&self) -> Sight
         ensures items { result.items ≡ (sight_here self.now).items }
+        ensures sent { result.sent ≡ length (sent_here self.now) }
         ensures causes { (result.first ≡ (sight_here self.now).first) × (result.cause ≡ (sight_here self.now).cause) }
         ensures ignored { result.ignored ≡ (sight_here self.now).ignored }
     {
@@ -404,6 +410,7 @@ impl<'t, 'b> Walk<'t, 'b> {
                 let debugger = boxed.as_ref();
                 Sight {
                     items: debugger.pos(),
+                    sent: debugger.sent().len(),
                     first: debugger.cause(),
                     cause: debugger.cause(),
                     ignored: debugger.ignored(),
@@ -411,6 +418,7 @@ impl<'t, 'b> Walk<'t, 'b> {
             }
             CaseDebugger::Absent | CaseDebugger::Left(_) => Sight {
                 items: self.seen.items,
+                sent: self.seen.sent.len(),
                 first: self.seen.first,
                 cause: self.seen.cause,
                 ignored: self.seen.ignored,
@@ -418,27 +426,23 @@ impl<'t, 'b> Walk<'t, 'b> {
         }
     }
 
-    /// How many octets were sent that are held; with a debugger, for the item of its position. Lines `;<` say what is in
-    /// them.
-    pub(crate) fn sent_len(&self) -> Result<usize, AllocError>
-        ensures { IfOk result (λ len. len ≡ length (sent_here self.now)) }
+    /// How many of the octets that were sent are held; with a debugger, for the item of its position. Lines `;<` say what
+    /// is in them.
+    pub(crate) fn sent_len(&self) -> usize
+        ensures { result ≡ length (sent_here self.now) }
     {
-        match &self.debugger {
-            CaseDebugger::Present(boxed) => Ok(boxed.as_ref().sent().len()),
-            CaseDebugger::Absent | CaseDebugger::Left(_) => self.seen.sent.len(),
-        }
+        self.sight().sent
     }
 
     /// Whether no octets are left that no line `;<` has named yet.
-    pub(crate) fn is_none_left(&self) -> Result<bool, AllocError>
-        ensures { IfOk result (λ is. is ≡ is_none (left_by self.now)) }
+    pub(crate) fn is_none_left(&self) -> bool
+        ensures { result ≡ is_none (left_by self.now) }
     {
-        let len = self.sent_len()?;
-        Ok(len <= self.spoken)
+        self.sent_len() <= self.spoken
     }
 
     /// A copy of this many of them, the first ones; of all where there are fewer.
-    pub(crate) fn left(&mut self, alloc: Global, count: usize) -> Result<Vec<u8>, AllocError>
+    fn left(&mut self, alloc: Global, count: usize) -> Result<Vec<u8>, AllocError>
         ensures value { IfOk result (λ octets. octets.items ≡ take count (left_by self.old)) }
         ensures same { self.new ≡ self.old }
     {
@@ -451,6 +455,15 @@ impl<'t, 'b> Walk<'t, 'b> {
                 self.seen.sent.copy(alloc, self.spoken, count)
             }
         }
+    }
+
+    /// A copy of all of them.
+    pub(crate) fn all_left(&mut self, alloc: Global) -> Result<Vec<u8>, AllocError>
+        ensures value { IfOk result (λ octets. octets.items ≡ left_by self.old) }
+        ensures same { self.new ≡ self.old }
+    {
+        let count = self.sent_len().saturating_sub(self.spoken);
+        self.left(alloc, count)
     }
 
     /// A copy of the frame that they begin with; of all of them where there is no whole one.
@@ -480,11 +493,11 @@ impl<'t, 'b> Walk<'t, 'b> {
     ) -> Result<(), AllocError>
         ensures { OnOk result (Finds (is_none (left_by self.old)) self.old self.new) }
     {
-        if self.is_none_left()? {
+        if self.is_none_left() {
             return Ok(());
         }
         let frame = self.next_frame(alloc)?;
-        self.spoken = self.sent_len()?;
+        self.spoken = self.sent_len();
         let found = first_line(alloc, frame.as_slice());
         self.refuse(number, wanted, found)
     }
@@ -502,7 +515,7 @@ impl<'t, 'b> Walk<'t, 'b> {
             return self.expect_none(alloc, self.speaker, b"-");
         }
         if self.octets.is_empty() {
-            self.spoken = self.sent_len()?;
+            self.spoken = self.sent_len();
         }
         Ok(())
     }
@@ -523,7 +536,7 @@ impl<'t, 'b> Walk<'t, 'b> {
         ensures { OnOk result (Leaves more.now self.old self.new) }
     {
         if self.debugger.is_present() {
-            self.spoken = self.seen.sent.len()?;
+            self.spoken = self.seen.sent.len();
         }
         let debugger = mem::replace(&mut self.debugger, CaseDebugger::Absent);
         self.debugger = debugger.leave(more)?;
@@ -539,9 +552,7 @@ impl<'t, 'b> Walk<'t, 'b> {
         ensures holds { self.new.holds ≡ self.old.holds }
         ensures walks { (start : Start) (c : Connection) → Walks start self.old c → Walks start self.new c }
     {
-        let Ok(held) = self.seen.sent.len() else {
-            return;
-        };
+        let held = self.seen.sent.len();
         if self.spoken != held || self.debugger.is_present() {
             return;
         }
@@ -570,17 +581,10 @@ impl<'t, 'b> Walk<'t, 'b> {
         ensures holds { self.new.holds ≡ self.old.holds }
     {
         self.let_go();
-        let Ok(()) = self.octets.extend_from_slice(more) else {
-            return Err(AllocError);
-        };
-        match take_items(conn, self.octets.as_slice(), self.at, &mut self.seen) {
-            Ok(at) => {
-                self.at = at;
-                self.end = self.ending(conn);
-                Ok(())
-            }
-            Err(error) => Err(error),
-        }
+        self.octets.extend_from_slice(more)?;
+        self.at = take_items(conn, self.octets.as_slice(), self.at, &mut self.seen)?;
+        self.end = self.ending(conn);
+        Ok(())
     }
 
     /// Which error ended the connection, if one did: the last item is it.
@@ -655,8 +659,9 @@ impl<'t, 'b> Walk<'t, 'b> {
         if wanted.is_empty() {
             return self.fault(alloc, number, text, "no frame");
         }
+        let spoken = longer(self.spoken, wanted.len())?;
         if self.is_next(alloc, wanted)? {
-            self.spoken += wanted.len();
+            self.spoken = spoken;
             return Ok(());
         }
         let frame = self.next_frame(alloc)?;
@@ -716,10 +721,7 @@ impl<'t, 'b> Walk<'t, 'b> {
         let frame = self.next_frame(alloc)?;
         match summed(alloc, text, frame.as_slice())? {
             Some(count) => {
-                // A frame has nine octets or more; this is for the prover, which then sees that the sum fits.
-                if count > 0 {
-                    self.spoken += count;
-                }
+                self.spoken = longer(self.spoken, count)?;
                 Ok(())
             }
             None => self.refuse_summary(alloc, number, text, frame.as_slice(), kind),
@@ -757,7 +759,7 @@ impl<'t, 'b> Walk<'t, 'b> {
         self.speaks = true;
         self.speaker = number;
         if text == b"...".as_slice() {
-            self.spoken = self.sent_len()?;
+            self.spoken = self.sent_len();
             self.any = true;
             return Ok(());
         }
