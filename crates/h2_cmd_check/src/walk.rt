@@ -480,7 +480,8 @@ impl<'t, 'b> Walk<'t, 'b> {
         ensures value { IfOk result (λ is. is ≡ starts_with nat_eq (left_by self.old) wanted.now) }
         ensures same { self.new ≡ self.old }
     {
-        let octets = self.left(alloc, wanted.len())?;
+        let count = wanted.len();
+        let octets = self.left(alloc, count)?;
         Ok(octets.as_slice().starts_with(wanted))
     }
 
