@@ -57,11 +57,7 @@ pub(crate) fn left_from(octets: &[u8], start: usize) -> &[u8]
 }
 
 /// Brings octets of a rest to those in front of it, until there are this many in one place, or all.
-fn bring(
-    front: &mut Vec<u8>,
-    rest: &mut Outbox<'_, Global>,
-    count: usize,
-) -> Result<(), AllocError>
+fn bring(front: &mut Vec<u8>, rest: &mut Outbox<'_, Global>, count: usize) -> Result<(), AllocError>
     ensures same { front.new.items ++ rest.new ≡ front.old.items ++ rest.old }
     ensures enough { OnOk result (IsEnough count front.new.items rest.new) }
 {
@@ -136,6 +132,9 @@ impl<'b> Sent<'b> {
         ensures same { self.new ≡ self.old }
     {
         bring(&mut self.front, &mut self.rest, longer(start, count)?)?;
-        Vec::from_slice(alloc, first_octets(left_from(self.front.as_slice(), start), count))
+        Vec::from_slice(
+            alloc,
+            first_octets(left_from(self.front.as_slice(), start), count),
+        )
     }
 }

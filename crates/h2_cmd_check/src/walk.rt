@@ -480,8 +480,7 @@ impl<'t, 'b> Walk<'t, 'b> {
         ensures value { IfOk result (λ is. is ≡ starts_with nat_eq (left_by self.old) wanted.now) }
         ensures same { self.new ≡ self.old }
     {
-        let count = wanted.len();
-        let octets = self.left(alloc, count)?;
+        let octets = self.left(alloc, wanted.len())?;
         Ok(octets.as_slice().starts_with(wanted))
     }
 

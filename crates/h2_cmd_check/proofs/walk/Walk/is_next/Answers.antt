@@ -9,5 +9,5 @@ pub returns-clause-value : goal.returns-clause-value
 returns-clause-value c =
     let left = left_by c.args.self.now in
     let wanted = c.args.wanted.now in
-    let octets : c.as_slice.result.now ≡ take (length wanted) left = c.as_slice.ensures.value ∙ c.in_ok-octets.ensures.value ∙ ap (λ (n : ℕ). take n left) c.len-count.ensures in
-    c.starts_with.ensures ∙ ap (λ (o : List ℕ). starts_with nat_eq o wanted) octets ∙ starts_front left wanted
+    let octets : c.as_slice.result.now ≡ take (length wanted) left = c.as_slice.ensures.value ∙ c.in_ok-octets.ensures.value in
+    c.starts_with.ensures.value ∙ ap (λ (o : List ℕ). starts_with nat_eq o wanted) octets ∙ starts_front left wanted
