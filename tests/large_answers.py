@@ -72,10 +72,10 @@ def play(program, words, octets, _):
     return measured(program, ["play", *words], octets.hex())
 
 
-def case_of(count, path):
-    """A case of so many requests, each of which a line says what is sent for."""
+def case_of(count, path, said):
+    """A case of so many requests, with these lines behind each that say what is sent for it."""
     opening = f"RAW {(PREFACE + LARGE_WINDOWS + OPEN).hex()}\n;< ...\n"
-    return opening + "".join(f"RAW {get(2 * place + 1, path).hex()}\n;< ...\n" for place in range(count))
+    return opening + "".join(f"RAW {get(2 * place + 1, path).hex()}\n{said}" for place in range(count))
 
 
 def peak(process):
@@ -128,7 +128,8 @@ def explained(program):
         book = write_book(made)
         rows = [(["serve", "--quiet", *options], lambda words, path, octets: serve(program, words[1:], asked(FEW, path), octets))
                 for options in (["--explain"], ["--json", "--full"], ["--strict"], ["--record", made])]
-        rows.append((["check", "-"], lambda words, path, _: measured(program, words, case_of(FEW, path))))
+        for said in ("", ";< ...\n"):
+            rows.append((["check", "-"], lambda words, path, _, said=said: measured(program, words, case_of(FEW, path, said))))
         for words, run in rows:
             small, answers_small = run([*words, "--book", book], SMALL, FEW)
             large, answers_large = run([*words, "--book", book], LARGE, FEW * BODY)

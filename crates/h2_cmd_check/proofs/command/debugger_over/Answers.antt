@@ -5,5 +5,5 @@ use Rattle.h2_cmd_check.proofs.command.debugger_over.Goals as goal
 
 pub returns-in-Ok : goal.returns-in-Ok
 returns-in-Ok c =
-    let same = each_same c.args.octets.now.items c.in_ok-octets.octets.items c.in_ok-octets.ensures.0 in
+    let same = each_same c.args.octets.now.items c.in_ok-octets.octets.items c.in_ok-octets.ensures.cases.0 in
     c.in-Ok.ensures.ok ∙ ap (loaded c.args.given.now.book.now c.args.given.now.config) same
