@@ -1,7 +1,7 @@
 //! The lines below an item that a script adds: the frames that did not go out, those of the script, and an error that is not
 //! judged. Definitions: `specs/Asides.antt`; a frame is said in words of which they say nothing.
 
-ghost use Rattle.std.specs.Prelude.{◌≡◌, ◌++◌, codes, length, Some, IfOk, OnOk};
+ghost use Rattle.std.specs.Prelude.{◌≡◌, ◌++◌, ℕ, List, codes, length, Some, IfOk, OnOk};
 ghost use Rattle.std.specs.String.{string_bytes};
 ghost use Rattle.h2_explain_text.specs.Why.{head_line};
 ghost use Rattle.h2_explain_words.specs.Sent.{first_seen};
