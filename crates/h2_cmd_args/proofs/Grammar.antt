@@ -81,8 +81,9 @@ printed_refuses a texts words e NoMemory app same kinds memory = tt
 printed_refuses a texts words e (Words text) app same kinds memory =
     clap_refused a texts words e app same kinds (λ k. let differ : Words text ≡ NoMemory = memory k in cc)
 
-pub plays-alike : (a b : Config) (m n : ℕ) (d e : Bool) (x y : BookAsked) → a ≡ b → m ≡ n → d ≡ e → x ≡ y → Some (batch (play a m d x)) ≡ Some (batch (play b n e y))
-plays-alike a b m n d e x y ab mn de xy = rw (ab, mn, de, xy) refl
+pub plays-alike : (a b : Config) (m n : ℕ) (d e : Bool) (r s : Bool) (x y : BookAsked) → a ≡ b → m ≡ n → d ≡ e → r ≡ s → x ≡ y
+    → Some (batch (play a m d r x)) ≡ Some (batch (play b n e s y))
+plays-alike a b m n d e r s x y ab mn de rs xy = rw (ab, mn, de, rs, xy) refl
 
 pub devices_entered : (o : Option (Text × List Row)) (rows : List Row) → Some rows ≡ option_map (λ p. p.1) o → devices_found o ≡ Some (devices_at rows)
 devices_entered None rows h = cc

@@ -237,12 +237,12 @@ pub record BookAsked : Type 0 where
   pub why : Bool
   pub answers : List Text
 
--- a command that reads its whole input and then answers it; of those without a book, whether the reason is written where the
--- input is refused
+-- a command that reads its whole input and then answers it; of those that take octets, whether the input has them as they are,
+-- and not their hex; of those without a book, whether the reason is written where the input is refused
 pub data BatchAsked : Type 0 where
-  play : (config : Config) → (cut : ℕ) → (each : Bool) → (book : BookAsked) → BatchAsked
+  play : (config : Config) → (cut : ℕ) → (each : Bool) → (raw : Bool) → (book : BookAsked) → BatchAsked
   asm : (why : Bool) → BatchAsked
-  dis : (why : Bool) → BatchAsked
+  dis : (raw : Bool) → (why : Bool) → BatchAsked
   table : (limit : ℕ) → (why : Bool) → BatchAsked
 
 -- how an explanation is written: whether as JSON, with colours, with what `--strict` says, with long texts whole, without
@@ -271,7 +271,7 @@ pub data Asked : Type 0 where
   batch : BatchAsked → Asked
   debug : (config : Config) → (book : BookAsked) → Asked
   serve : (config : Config) → (port : ℕ) → (count : ℕ) → (watched : ReportAsked) → (book : BookAsked) → Asked
-  explain : (config : Config) → (view : FormAsked) → (file : Text) → (book : BookAsked) → Asked
+  explain : (config : Config) → (view : FormAsked) → (raw : Bool) → (file : Text) → (book : BookAsked) → Asked
   check : (config : Config) → (book : BookAsked) → (bless : Bool) → (in_place : Bool) → (junit : Text) → (files : List Text) → Asked
   against : (config : Config) → (book : BookAsked) → (port wait : ℕ) → (path authority : Text) → (judge : Bool) → (junit : Text) → (files : List Text) → Asked
 
@@ -310,6 +310,10 @@ config_at rows = record {
   window = number_at (codes "window") 65535 rows;
   frame = number_at (codes "frame") 16384 rows;
 }
+
+-- whether the input has the octets themselves
+abbrev pub raw_at : List Row → Bool
+raw_at rows = is_set (codes "raw") rows
 
 -- whether reasons are written
 abbrev pub why_at : List Row → Bool
@@ -395,13 +399,13 @@ cases_asked rows = if is_against rows then against_asked rows else check_asked r
 
 abbrev pub asked_by : Text → List Row → Option Asked
 asked_by name rows =
-    if bytes_eq name (codes "play") then Some (batch (play (config_at rows) (number_at (codes "cut") 0 rows) (is_set (codes "each") rows) (book_at rows)))
+    if bytes_eq name (codes "play") then Some (batch (play (config_at rows) (number_at (codes "cut") 0 rows) (is_set (codes "each") rows) (raw_at rows) (book_at rows)))
     else if bytes_eq name (codes "asm") then Some (batch (asm (why_at rows)))
-    else if bytes_eq name (codes "dis") then Some (batch (dis (why_at rows)))
+    else if bytes_eq name (codes "dis") then Some (batch (dis (raw_at rows) (why_at rows)))
     else if bytes_eq name (codes "table") then Some (batch (table (number_at (codes "LIMIT") 0 rows) (why_at rows)))
     else if bytes_eq name (codes "debug") then Some (debug (config_at rows) (book_at rows))
     else (if bytes_eq name (codes "serve") then Some (serve (config_at rows) (number_at (codes "PORT") 0 rows) (number_at (codes "COUNT") 0 rows) (report_at rows) (book_at rows))
-    else (if bytes_eq name (codes "explain") then Some (explain (config_at rows) (form_at rows) (file_among (texts_at (codes "ANSWER") rows)) (explain_book_at rows))
+    else (if bytes_eq name (codes "explain") then Some (explain (config_at rows) (form_at rows) (raw_at rows) (file_among (texts_at (codes "ANSWER") rows)) (explain_book_at rows))
     else (if bytes_eq name (codes "check") then Some (cases_asked rows) else None)))
 
 -- ---- what words say of devices
@@ -417,7 +421,7 @@ pub record DevicesAsked : Type 0 where
 abbrev pub devices_at : List Row → DevicesAsked
 devices_at rows = record {
   file = path_in (text_at (codes "in") rows);
-  raw = is_set (codes "raw") rows;
+  raw = raw_at rows;
   quiet = is_set (codes "quiet") rows;
   prompt = text_at (codes "prompt") rows;
 }

@@ -19,9 +19,9 @@ abbrev pub devices_asked : Devices → DevicesAsked
 devices_asked d = record { file = d.file.now; raw = d.raw; quiet = d.quiet; prompt = d.prompt.now }
 
 abbrev pub batch_asked : Batch → BatchAsked
-batch_asked (Play p) = play p.config p.cut p.each (book_asked p.book)
+batch_asked (Play p) = play p.config p.cut p.each p.raw (book_asked p.book)
 batch_asked (Asm words) = asm words.why
-batch_asked (Dis words) = dis words.why
+batch_asked (Dis raw words) = dis raw words.why
 batch_asked (Table limit words) = table limit words.why
 
 abbrev pub form_asked : Explain → FormAsked
@@ -41,7 +41,7 @@ abbrev pub planned : Plan → Asked
 planned (plan.Batch b) = batch (batch_asked b)
 planned (plan.Debug d) = debug d.config (book_asked d.book)
 planned (plan.Serve s) = serve s.config s.port s.count (report_asked s.watch) (book_asked s.book)
-planned (plan.Explain e) = explain e.config (form_asked e) e.file.now (book_asked e.book)
+planned (plan.Explain e) = explain e.config (form_asked e) e.raw e.file.now (book_asked e.book)
 planned (plan.Check k) = check k.config (book_asked k.book) k.bless k.in_place k.junit.now (map (λ s. s.now) k.files.items)
 planned (plan.Against a) = against a.config (book_asked a.book) a.port a.wait a.path.now a.authority.now a.judge a.junit.now (map (λ s. s.now) a.files.items)
 

@@ -4,7 +4,7 @@
 ghost use Rattle.std.specs.Prelude.{◌≡◌, ◌≤◌, length, IfOk, IfErr, IfSome, bytes_eq, Some, None, codes, map, option_map};
 ghost use Rattle.clap.specs.Words.{found_of, kind_of, rows_of, subcommand_of, subcommand_rows_of};
 ghost use Rattle.clap.specs.declared.error.ErrorKind.TheVariants.{OutOfMemory};
-ghost use Rattle.h2_cmd_args.specs.Grammar.{against_asked, answers_among, asked_at, asked_by, asked_of, bench_app, book_at, check_asked, config_at, devices_at, devices_found, devices_of, file_among, files_among, is_against, is_answer, is_part_at, is_set, number_at, number_given, path_in, report_at, text_at, texts_at, why_at};
+ghost use Rattle.h2_cmd_args.specs.Grammar.{against_asked, answers_among, asked_at, asked_by, asked_of, bench_app, book_at, check_asked, config_at, devices_at, devices_found, devices_of, file_among, files_among, is_against, is_answer, is_part_at, is_set, number_at, number_given, path_in, raw_at, report_at, text_at, texts_at, why_at};
 ghost use Rattle.h2_cmd_args.specs.Plans.{book_asked, devices_asked, planned, report_asked, Refuses};
 
 use crate::usages::bench_command;
@@ -34,6 +34,8 @@ pub struct Play<'a> {
     pub cut: u32,
     /// Whether the state is printed after each item.
     pub each: bool,
+    /// Whether the input has the octets themselves, not their hex.
+    pub raw: bool,
     /// The answers.
     pub book: BookWords<'a>,
     /// How sentences call the input: the path of its file; empty for standard input.
@@ -56,6 +58,8 @@ pub struct Debug<'a> {
     pub config: Config,
     /// The answers.
     pub book: BookWords<'a>,
+    /// How sentences call the file of the octets: its path; empty for standard input.
+    pub input: &'a str,
 }
 
 /// How a connection is explained.
@@ -77,6 +81,8 @@ pub struct Explain<'a> {
     pub errors: bool,
     /// The stream whose items alone are shown, if one is named; 0 for those of the connection.
     pub stream: Option<u32>,
+    /// Whether the octets are there as they are, not as their hex.
+    pub raw: bool,
     /// The path of the file that has the octets; empty where standard input has them.
     pub file: &'a str,
     /// The answers.
@@ -170,7 +176,7 @@ pub struct Against<'a> {
 }
 
 /// What the words say of the devices that a command is given. The program that has the devices chooses them by this:
-/// a command itself takes its input as hex, or as a text, from where it is given.
+/// a command itself takes its input from where it is given.
 #[derive(Clone, Copy)]
 pub struct Devices<'a> {
     /// The path of the input's file; empty for standard input.
@@ -190,8 +196,8 @@ pub enum Batch<'a> {
     Play(Play<'a>),
     /// Writes the octets of the script that the input is, as hex.
     Asm(InputWords<'a>),
-    /// Writes the script of the octets that the input has as hex.
-    Dis(InputWords<'a>),
+    /// Writes the script of the octets that the input has: as they are, or else as hex.
+    Dis(bool, InputWords<'a>),
     /// Changes a dynamic table of this limit, 0 to 65536, by the lines of the input.
     Table(u32, InputWords<'a>),
 }
@@ -310,6 +316,13 @@ fn book_from<'a>(alloc: Global, matches: &ArgMatches<'a>) -> Result<BookWords<'a
     Ok(book_with(matches, answers))
 }
 
+/// Whether the input has the octets themselves, not their hex.
+fn is_raw(matches: &ArgMatches<'_>) -> bool
+    ensures { result ≡ raw_at (rows_of (found_of matches.now)) }
+{
+    is_set(matches, "raw")
+}
+
 /// The path of the file that is the input; empty for standard input.
 fn input_in<'a>(matches: &ArgMatches<'a>) -> &'a str
     ensures { result.now ≡ path_in (text_at (codes "in") (rows_of (found_of matches.now))) }
@@ -337,6 +350,7 @@ fn play_from<'a>(alloc: Global, matches: &ArgMatches<'a>) -> Result<Play<'a>, Al
         config: config_at(matches),
         cut: number_at(matches, "cut", 0),
         each: is_set(matches, "each"),
+        raw: is_raw(matches),
         book,
         input: input_in(matches),
     })
@@ -351,6 +365,7 @@ fn debug_from<'a>(alloc: Global, matches: &ArgMatches<'a>) -> Result<Debug<'a>, 
     Ok(Debug {
         config: config_at(matches),
         book,
+        input: input_in(matches),
     })
 }
 
@@ -470,6 +485,7 @@ fn explain_from<'a>(alloc: Global, matches: &ArgMatches<'a>) -> Result<Explain<'
         brief: is_set(matches, "brief"),
         errors: is_set(matches, "errors"),
         stream: number_given(matches, "stream"),
+        raw: is_raw(matches),
         file: file_among(words.as_slice()),
         book: book_with(matches, answers),
         input: input_among(matches, words.as_slice()),
@@ -560,7 +576,8 @@ fn plan_from<'a>(
         return Ok(Some(Plan::Batch(Batch::Asm(input_words(matches)))));
     }
     if is(name, "dis") {
-        return Ok(Some(Plan::Batch(Batch::Dis(input_words(matches)))));
+        let words = input_words(matches);
+        return Ok(Some(Plan::Batch(Batch::Dis(is_raw(matches), words))));
     }
     if is(name, "table") {
         let limit = number_at(matches, "LIMIT", 0);
@@ -634,7 +651,7 @@ fn devices_in<'a>(matches: &ArgMatches<'a>) -> Devices<'a>
 {
     Devices {
         file: input_in(matches),
-        raw: is_set(matches, "raw"),
+        raw: is_raw(matches),
         quiet: is_set(matches, "quiet"),
         prompt: text_at(matches, "prompt"),
     }

@@ -16,7 +16,7 @@ book_said files book = unless_refused (book_filed files book.file) (λ entries. 
 
 -- the book of a command
 abbrev pub book_in : Directory → BatchAsked → Result (List Entry) ℕ
-book_in files (play config cut each book) = book_said files book
+book_in files (play config cut each raw book) = book_said files book
 book_in files (asm why) = Ok []
-book_in files (dis why) = Ok []
+book_in files (dis raw why) = Ok []
 book_in files (table limit why) = Ok []

@@ -37,7 +37,7 @@ abbrev pub setup_asked : Directory → (file : List ℕ) → Option Asked → Op
 setup_asked files file (Some (debug config book)) = setup_by files file config book
 setup_asked files file (Some (batch asked)) = None
 setup_asked files file (Some (serve config port count watched book)) = None
-setup_asked files file (Some (explain config view from book)) = None
+setup_asked files file (Some (explain config view raw from book)) = None
 setup_asked files file (Some (check config book bless in_place junit names)) = None
 setup_asked files file (Some (against config book port wait path authority judge junit names)) = None
 setup_asked files file None = None

@@ -43,9 +43,9 @@ EndsBatch files asked input input_failed before after status = PrintsSome (λ t.
 
 -- the path of the book's file; empty where there is none
 abbrev pub file_of : BatchAsked → List ℕ
-file_of (play config cut each book) = book.file
+file_of (play config cut each raw book) = book.file
 file_of (asm why) = []
-file_of (dis why) = []
+file_of (dis raw why) = []
 file_of (table limit why) = []
 
 -- no file is needed, or the device reports its files
@@ -58,7 +58,7 @@ no_files path = None
 
 -- whether words ask for the reason where something is refused
 abbrev pub asks_why_batch : BatchAsked → Bool
-asks_why_batch (play config cut each book) = book.why
+asks_why_batch (play config cut each raw book) = book.why
 asks_why_batch (asm why) = why
-asks_why_batch (dis why) = why
+asks_why_batch (dis raw why) = why
 asks_why_batch (table limit why) = why

@@ -7,7 +7,6 @@ pub mod Commands
 pub mod Each
 pub mod Faults
 pub mod Input
-pub mod Limits
 pub mod Pieces
 pub mod Printed
 pub mod Printing

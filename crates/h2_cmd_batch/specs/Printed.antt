@@ -13,8 +13,7 @@ use Rattle.h2_spec.specs.Texts.Show.{joined, show}
 use Rattle.h2_cmd_batch.specs.Books.{book_in}
 use Rattle.h2_cmd_book_file.specs.Entries.{Directory}
 use Rattle.h2_cmd_args.specs.Grammar.{BatchAsked, play, asm, dis, table}
-use Rattle.h2_cmd_batch.specs.Input.{most}
-use Rattle.h2_io.specs.HexText.{octets_spelled}
+use Rattle.h2_cmd_batch.specs.Input.{most, octets_of}
 use Rattle.h2_cmd_batch.specs.ScriptPrograms.{printed_asm, printed_dis}
 use Rattle.h2_cmd_batch.specs.TableProgram.{table_parts, table_text}
 pub use Rattle.h2_cmd_play.specs.Places.{item_text, item_texts, places_from, places_run}
@@ -50,16 +49,16 @@ places_play each book config None = []
 places_play each book config (Some octets) = places_played each book config octets
 
 abbrev pub printed : List Entry → BatchAsked → List ℕ → Printed
-printed book (play config cut each said) input = printed_play each book config (octets_spelled input)
+printed book (play config cut each raw said) input = printed_play each book config (octets_of raw input)
 printed book (asm why) input = printed_asm input
-printed book (dis why) input = printed_dis (octets_spelled input)
+printed book (dis raw why) input = printed_dis (octets_of raw input)
 printed book (table limit why) input = done (table_text limit input)
 
 -- the parts of what a command prints that are written while it runs: the places of `play`, the parts of `table`
 abbrev pub places : List Entry → BatchAsked → List ℕ → List (List ℕ)
-places book (play config cut each said) input = places_play each book config (octets_spelled input)
+places book (play config cut each raw said) input = places_play each book config (octets_of raw input)
 places book (asm why) input = []
-places book (dis why) input = []
+places book (dis raw why) input = []
 places book (table limit why) input = table_parts limit input
 
 -- an input that is too long is not read

@@ -27,7 +27,7 @@ printed_assembled (Err (line, kind)) = record { text = syntax_line line kind; st
 abbrev pub printed_asm : List ℕ → Printed
 printed_asm input = if is_utf8 input then printed_assembled (assembled input) else failed Read
 
--- `dis` of the octets that hex text spells
+-- `dis` of the octets that the input gives
 abbrev pub printed_dis : Option (List ℕ) → Printed
 printed_dis None = failed BadHex
 printed_dis (Some octets) = done (written octets)

@@ -46,6 +46,6 @@ pub(crate) fn advise_batch<E: Output>(alloc: Global, batch: &Batch<'_>, errors: 
 {
     match batch {
         Batch::Play(play) => advise(alloc, play.config, play.book.why, errors),
-        Batch::Asm(_) | Batch::Dis(_) | Batch::Table(_, _) => {}
+        Batch::Asm(_) | Batch::Dis(_, _) | Batch::Table(_, _) => {}
     }
 }

@@ -8,7 +8,7 @@ ghost use Rattle.h2_cmd_batch.specs.Books.{book_in};
 ghost use Rattle.h2_cmd_batch.specs.Each.{not_written, printed_after};
 ghost use Rattle.h2_cmd_batch.specs.CommandEnd.{AnswersBook, EndsBatch, KnowsFile, Prints, PrintsSome, asks_why_batch, file_of};
 ghost use Rattle.h2_cmd_batch.specs.Faults.{fault_number};
-ghost use Rattle.h2_io.specs.HexText.{octets_spelled};
+ghost use Rattle.h2_cmd_batch.specs.Input.{octets_of};
 ghost use Rattle.h2_cmd_batch.specs.TableProgram.{table_parts, table_text};
 ghost use Rattle.h2_cmd_batch.specs.Printed.{OrCutShort, done, failed, failed_as, places, places_play, printed, printed_play};
 ghost use Rattle.h2_cmd_batch.specs.declared.fault.BenchFault.TheVariants.{NoMemory};
@@ -49,7 +49,7 @@ fn book_for<F: Files, E: Output>(
 {
     match batch {
         Batch::Play(play) => book_for_words(alloc, &play.book, files, errors),
-        Batch::Asm(_) | Batch::Dis(_) | Batch::Table(_, _) => Ok(Book::new(alloc)),
+        Batch::Asm(_) | Batch::Dis(_, _) | Batch::Table(_, _) => Ok(Book::new(alloc)),
     }
 }
 
@@ -157,8 +157,8 @@ fn print_played<O: Output>(
     reasons: &mut Reasons<'_>,
 ) -> u8
     requires { O.has_failed output.old ≡ false }
-    ensures printed { O.has_failed output.new ≡ false → let spelled = octets_spelled input.items in
-        PrintsSome (OrCutShort (places_play play.now.each book.now play.now.config spelled) (printed_play play.now.each book.now play.now.config spelled))
+    ensures printed { O.has_failed output.new ≡ false → let given = octets_of play.now.raw input.items in
+        PrintsSome (OrCutShort (places_play play.now.each book.now play.now.config given) (printed_play play.now.each book.now play.now.config given))
         (O.written output.old) (O.written output.new) result }
     ensures flag { O.has_failed output.new ≡ (result == 3) }
     ensures name { O.name output.new ≡ O.name output.old }
@@ -211,8 +211,8 @@ fn print_input<O: Output>(
             let report = asm_report(alloc, input.as_slice(), reasons);
             print_report(output, report, reasons)
         }
-        Batch::Dis(_) => {
-            let report = whole(dis_text(alloc, input.as_slice(), reasons));
+        Batch::Dis(raw, _) => {
+            let report = whole(dis_text(alloc, *raw, input, reasons));
             print_report(output, report, reasons)
         }
         Batch::Table(limit, _) => print_table(alloc, *limit, input, output, reasons),
@@ -255,7 +255,7 @@ fn words_of<'b>(batch: &'b Batch<'_>) -> InputWords<'b>
             why: play.book.why,
             input: play.input,
         },
-        Batch::Asm(words) | Batch::Dis(words) | Batch::Table(_, words) => *words,
+        Batch::Asm(words) | Batch::Dis(_, words) | Batch::Table(_, words) => *words,
     }
 }
 

@@ -20,7 +20,6 @@ pub use batch::{print, print_end, print_fault, print_fault_as, respond, say_end,
 pub use books::{book_for_words, write_reason};
 pub use case_setup::{Case, CaseSetup, Common, OwnFault, RefusedWords, own_of, words_line};
 pub use commands::each::PrintFault;
-pub use commands::play::refused_limits;
 pub use fault::BenchFault;
-pub use input::{read_all, read_hex};
+pub use input::{read_all, read_for};
 pub use results::write_results;

@@ -1,4 +1,8 @@
-//! What a text that is no hex looks like, as far as the ways are known in which people have octets at hand.
+//! What a text that is no hex looks like, as far as the ways are known in which people have octets at hand. Definition:
+//! `specs/Capture.antt`.
+
+ghost use Rattle.std.specs.Prelude.{◌≡◌};
+ghost use Rattle.h2_cmd_messages.specs.Capture.{is_capture};
 
 use crate::place::{are_hex_digits, up_to};
 use h2_spec::frames::type_named;
@@ -83,20 +87,15 @@ pub(crate) fn look_of_octets(octets: &[u8]) -> Look {
     }
 }
 
-/// The first octets of captures: those of pcap in both orders, in microseconds and in nanoseconds; that of pcapng.
-static MAGIC: [&[u8; 4]; 5] = [
-    b"\xd4\xc3\xb2\xa1",
-    b"\xa1\xb2\xc3\xd4",
-    b"\x4d\x3c\xb2\xa1",
-    b"\xa1\xb2\x3c\x4d",
-    b"\x0a\x0d\x0d\x0a",
-];
-
-/// Whether octets begin as a capture does.
-pub fn is_capture(octets: &[u8]) -> bool {
-    MAGIC
-        .iter()
-        .any(|magic| octets.starts_with(magic.as_slice()))
+/// Whether octets begin as a capture of packets does: as pcap in both orders, in microseconds or in nanoseconds, or as pcapng.
+pub fn is_capture(octets: &[u8]) -> bool
+    ensures { result ≡ is_capture octets.now }
+{
+    octets.starts_with(b"\xd4\xc3\xb2\xa1".as_slice())
+        || octets.starts_with(b"\xa1\xb2\xc3\xd4".as_slice())
+        || octets.starts_with(b"\x4d\x3c\xb2\xa1".as_slice())
+        || octets.starts_with(b"\xa1\xb2\x3c\x4d".as_slice())
+        || octets.starts_with(b"\x0a\x0d\x0d\x0a".as_slice())
 }
 
 /// Whether one of the first lines of a text begins what tshark prints for `-z follow`.

@@ -79,12 +79,16 @@ pub fn say_no_hex(source: InputSource<'_>, text: &[u8], out: &mut TextBuilder) {
     }
 }
 
-/// Says which octet of a text is no hex digit, and what to do. A capture is refused with `--raw` too, so its octets are
-/// not compared with digits.
+/// Says that a text, or octets, are a capture.
+pub fn say_capture(source: InputSource<'_>, out: &mut TextBuilder) {
+    say_all!(out; source, ": ", advice(Look::Capture), ".\n");
+}
+
+/// Says which octet of a text is no hex digit, and what to do.
 fn say_bad_digit(source: InputSource<'_>, text: &[u8], at: usize, out: &mut TextBuilder) {
     let octet = Octet(text.get(at).copied().unwrap_or(0));
     match look_of(text, at) {
-        Look::Capture => say_all!(out; source, ": ", advice(Look::Capture), ".\n"),
+        Look::Capture => say_capture(source, out),
         look =>
             say_all!(out; source, ", ", place_at(text, at), ": ", octet, " is no hex digit; ", advice(look), ".\n"),
     }
@@ -132,7 +136,7 @@ fn say_unclear(source: InputSource<'_>, out: &mut TextBuilder) {
     say_all!(out; source, ": it looks like a dump with offsets, and its octets are not clear, as in words that are turned around: make it by xxd -p.\n");
 }
 
-/// How many octets of a hex text are looked at.
+/// How many octets are looked at.
 const FRONT: usize = 4096;
 
 /// The value of a hex digit.
@@ -155,11 +159,12 @@ fn put_front(text: &[u8], octets: &mut [u8]) -> usize {
     count
 }
 
-/// Says of octets that were taken what they look like, where that is a capture or a text and no connection.
-fn say_strange(source: InputSource<'_>, text: &[u8], out: &mut TextBuilder) {
-    let mut front = [0; FRONT];
-    let count = put_front(text, &mut front);
-    let octets = first_octets(&front, count);
+/// Says what is strange about octets that were taken: there are none, or they look like a capture or a text and no connection.
+pub fn say_octets(source: InputSource<'_>, octets: &[u8], out: &mut TextBuilder) {
+    let octets = first_octets(octets, FRONT);
+    if octets.is_empty() {
+        say_all!(out; source, ": no octets.\n");
+    }
     if octets.starts_with(b"PRI".as_slice()) || octets.len() < 4 {
         return;
     }
@@ -175,11 +180,11 @@ fn say_strange(source: InputSource<'_>, text: &[u8], out: &mut TextBuilder) {
 
 /// Says what is strange about a hex text that was taken.
 pub fn say_warnings(source: InputSource<'_>, text: &[u8], out: &mut TextBuilder) {
-    if !has_digits(text) {
-        say_all!(out; source, ": no octets.\n");
-    } else if has_offsets(text) {
+    if has_offsets(text) {
         say_offsets(source, out);
-    } else {
-        say_strange(source, text, out);
+        return;
     }
+    let mut front = [0; FRONT];
+    let count = put_front(text, &mut front);
+    say_octets(source, first_octets(&front, count), out);
 }

@@ -19,7 +19,7 @@ pub use answer::{say_answer, say_no_answer};
 pub use dump::{has_offsets, is_capture, type_number};
 pub use entry::{field_reason, say_entry};
 pub use h2_io::say::{Cut, Say, TextBuilder};
-pub use hex::{UNCLEAR, has_digits, say_no_hex, say_warnings};
+pub use hex::{UNCLEAR, has_digits, say_capture, say_no_hex, say_octets, say_warnings};
 pub use limits::{Range, range_of, say_limits, say_no_file, say_range};
 pub use place::{InputSource, Quoted, Reasons, TextPlace, place_at};
 pub use read::{file_reason, say_no_text, say_too_long, say_unread};

@@ -17,9 +17,7 @@ pub fn file_reason(kind: ErrorKind) -> &'static str {
         ErrorKind::WouldBlock => "it is non-blocking, and nothing was there to read",
         ErrorKind::Interrupted => "the read was interrupted by a signal",
         ErrorKind::OutOfMemory => "the system is out of memory",
-        ErrorKind::FileTooLarge => {
-            "it is too long: at most 16777216 octets of text are read, or 8388608 as they are"
-        }
+        ErrorKind::FileTooLarge => "it is too long: at most 16777216 octets are read",
         _ => "the system failed to read it",
     }
 }

@@ -16,8 +16,7 @@ use Rattle.h2_explain.specs.declared.run.Summary.{Summary}
 use Rattle.h2_explain.specs.declared.run.ExplainFault.{ExplainFault}
 use Rattle.h2_explain.specs.declared.run.ExplainFault.TheVariants as explained
 use Rattle.h2_cmd_run.specs.ExplainProgram.{IsStatus, ReportsFile, ReportsIfShort, ReportsInput, ReportsRead, ReportsRun, ReportsSpelled, ReportsText, end_of, explained_after, is_over, outcome_status, run_status}
-use Rattle.h2_cmd_batch.specs.Input.{IsUnread, most}
-use Rattle.h2_cmd_batch.specs.Limits.{limits_fault}
+use Rattle.h2_cmd_batch.specs.Input.{IsUnread, input_fault, most}
 use Rattle.h2_cmd_batch.specs.Printing.{Printed, failed_as}
 use Rattle.h2_cmd_run.specs.declared.explain.ExplainOutcome.{ExplainOutcome}
 use Rattle.h2_cmd_batch.specs.declared.fault.BenchFault.{BenchFault}
@@ -61,36 +60,41 @@ end-reports form s octets text explained.NotWritten explains e = cc
 
 -- ---- where the text is
 
-short : (form : Form) (book : List Entry) (config : Config) (text : List ℕ) (t : Printed) → length text ≤ most → ReportsText form book config text t → ReportsRead form book config text t
-short form book config text t within x = subst (λ (b : Bool). ReportsIfShort form b book config text t) (sym (le-ltb most (length text) within)) x
+short : (form : Form) (raw : Bool) (book : List Entry) (config : Config) (text : List ℕ) (t : Printed) → length text ≤ most → ReportsText form raw book config text t → ReportsRead form raw book config text t
+short form raw book config text t within x = subst (λ (b : Bool). ReportsIfShort form raw b book config text t) (sym (le-ltb most (length text) within)) x
 
-long : (form : Form) (book : List Entry) (config : Config) (text : List ℕ) → most < length text → ReportsRead form book config text (failed_as form.json Read)
-long form book config text h = subst (λ (b : Bool). ReportsIfShort form b book config text (failed_as form.json Read)) (sym (lt-ltb most (length text) h)) refl
+long : (form : Form) (raw : Bool) (book : List Entry) (config : Config) (text : List ℕ) → most < length text → ReportsRead form raw book config text (failed_as form.json Read)
+long form raw book config text h = subst (λ (b : Bool). ReportsIfShort form raw b book config text (failed_as form.json Read)) (sym (lt-ltb most (length text) h)) refl
 
-pub file-read : (form : Form) (book : List Entry) (config : Config) (file : Option (List ℕ)) (text : List ℕ) (t : Printed) → file ≡ Some text → length text ≤ most → ReportsText form book config text t → ReportsFile form book config file t
-file-read form book config file text t is within x = subst (λ (f : Option (List ℕ)). ReportsFile form book config f t) (sym is) (short form book config text t within x)
+pub file-read : (form : Form) (raw : Bool) (book : List Entry) (config : Config) (file : Option (List ℕ)) (text : List ℕ) (t : Printed) → file ≡ Some text → length text ≤ most → ReportsText form raw book config text t → ReportsFile form raw book config file t
+file-read form raw book config file text t is within x = subst (λ (f : Option (List ℕ)). ReportsFile form raw book config f t) (sym is) (short form raw book config text t within x)
 
-pub file-missing : (form : Form) (book : List Entry) (config : Config) (file : Option (List ℕ)) → file ≡ None → ReportsFile form book config file (failed_as form.json Read)
-file-missing form book config file is = subst (λ (f : Option (List ℕ)). ReportsFile form book config f (failed_as form.json Read)) (sym is) refl
+pub file-missing : (form : Form) (raw : Bool) (book : List Entry) (config : Config) (file : Option (List ℕ)) → file ≡ None → ReportsFile form raw book config file (failed_as form.json Read)
+file-missing form raw book config file is = subst (λ (f : Option (List ℕ)). ReportsFile form raw book config f (failed_as form.json Read)) (sym is) refl
 
-pub file-long : (form : Form) (book : List Entry) (config : Config) (file : Option (List ℕ)) → IsSomeAnd file (λ octets. most < length octets) → ReportsFile form book config file (failed_as form.json Read)
-file-long form book config (Some text) h = long form book config text h
-file-long form book config None h = refl
+pub file-long : (form : Form) (raw : Bool) (book : List Entry) (config : Config) (file : Option (List ℕ)) → IsSomeAnd file (λ octets. most < length octets) → ReportsFile form raw book config file (failed_as form.json Read)
+file-long form raw book config (Some text) h = long form raw book config text h
+file-long form raw book config None h = refl
 
-pub input-read : (form : Form) (book : List Entry) (config : Config) (input : Option (List ℕ)) (broken : Bool) (text : List ℕ) (t : Printed) → broken ≡ false → ((known : List ℕ) → input ≡ Some known → text ≡ known) → length text ≤ most
-    → ReportsText form book config text t → ReportsInput form book config input broken t
-input-read form book config input broken text t well ok within x = subst (λ (b : Bool). ReportsInput form book config input b t) (sym well)
-    (λ known is. subst (λ (u : List ℕ). ReportsRead form book config u t) (ok known is) (short form book config text t within x))
+pub input-read : (form : Form) (raw : Bool) (book : List Entry) (config : Config) (input : Option (List ℕ)) (broken : Bool) (text : List ℕ) (t : Printed) → broken ≡ false → ((known : List ℕ) → input ≡ Some known → text ≡ known) → length text ≤ most
+    → ReportsText form raw book config text t → ReportsInput form raw book config input broken t
+input-read form raw book config input broken text t well ok within x = subst (λ (b : Bool). ReportsInput form raw book config input b t) (sym well)
+    (λ known is. subst (λ (u : List ℕ). ReportsRead form raw book config u t) (ok known is) (short form raw book config text t within x))
 
-pub input-unread : (form : Form) (book : List Entry) (config : Config) (input : Option (List ℕ)) (broken : Bool) (fault : BenchFault) → IsUnread input broken fault
-    → ((fault ≡ NoMemory) × (broken ≡ false)) ⊎ ReportsInput form book config input broken (failed_as form.json fault)
-input-unread form book config input broken fault (inl memory) = inl memory
-input-unread form book config input broken fault (inr unread) = inr (subst (λ (f : BenchFault). ReportsInput form book config input broken (failed_as form.json f)) (sym unread.0) (elim unread.1 [
-  | inl broke ↦ subst (λ (b : Bool). ReportsInput form book config input b (failed_as form.json Read)) (sym broke) refl
-  | inr much ↦ subst (λ (b : Bool). ReportsInput form book config input b (failed_as form.json Read)) (sym much.0) (λ known is. long form book config known (much.1 known is))
+pub input-unread : (form : Form) (raw : Bool) (book : List Entry) (config : Config) (input : Option (List ℕ)) (broken : Bool) (fault : BenchFault) → IsUnread input broken fault
+    → ((fault ≡ NoMemory) × (broken ≡ false)) ⊎ ReportsInput form raw book config input broken (failed_as form.json fault)
+input-unread form raw book config input broken fault (inl memory) = inl memory
+input-unread form raw book config input broken fault (inr unread) = inr (subst (λ (f : BenchFault). ReportsInput form raw book config input broken (failed_as form.json f)) (sym unread.0) (elim unread.1 [
+  | inl broke ↦ subst (λ (b : Bool). ReportsInput form raw book config input b (failed_as form.json Read)) (sym broke) refl
+  | inr much ↦ subst (λ (b : Bool). ReportsInput form raw book config input b (failed_as form.json Read)) (sym much.0) (λ known is. long form raw book config known (much.1 known is))
 ]))
 
--- a text is refused whose limits are out of range
-pub limits-refused : (form : Form) (book : List Entry) (config : Config) (spelled : Option (List ℕ)) → is_allowed config ≡ false → ReportsSpelled form book config spelled (failed_as form.json (limits_fault spelled))
-limits-refused form book config None e = refl
-limits-refused form book config (Some octets) e = rw e refl
+-- a text that gives no octets, or is refused for the limits or for memory
+pub none-given : (form : Form) (book : List Entry) (config : Config) (given : Option (List ℕ)) (fault : BenchFault) → fault ≡ input_fault given (is_allowed config)
+    → ReportsSpelled form book config given (failed_as form.json fault)
+none-given form book config given fault is = go given (is_allowed config) refl is
+  where
+    go : (given : Option (List ℕ)) (allowed : Bool) → is_allowed config ≡ allowed → fault ≡ input_fault given allowed → ReportsSpelled form book config given (failed_as form.json fault)
+    go None allowed limits is = rw is refl
+    go (Some octets) false limits is = rw (limits, is) refl
+    go (Some octets) true limits is = rw (limits, is) (inr (inl refl))

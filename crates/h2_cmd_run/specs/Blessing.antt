@@ -103,6 +103,6 @@ writes_files None = false
 writes_files (Some (batch b)) = false
 writes_files (Some (debug config book)) = false
 writes_files (Some (serve config port count watched book)) = false
-writes_files (Some (explain config view file book)) = false
+writes_files (Some (explain config view raw file book)) = false
 writes_files (Some (check config book bless in_place junit names)) = writes_for bless in_place junit
 writes_files (Some (against config book port wait path authority judge junit names)) = false

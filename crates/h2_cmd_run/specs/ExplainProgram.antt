@@ -15,8 +15,7 @@ use Rattle.h2_explain.specs.declared.run.ExplainFault.{ExplainFault}
 use Rattle.h2_explain.specs.declared.run.ExplainFault.TheVariants as explained
 use Rattle.h2_cmd_args.specs.Grammar.{BookAsked, FormAsked}
 use Rattle.h2_cmd_batch.specs.Books.{book_said}
-use Rattle.h2_cmd_batch.specs.Input.{most}
-use Rattle.h2_io.specs.HexText.{octets_spelled}
+use Rattle.h2_cmd_batch.specs.Input.{most, octets_of}
 use Rattle.h2_cmd_batch.specs.Printing.{Printed, failed, failed_as, failed_after_as, refused_as}
 use Rattle.h2_cmd_batch.specs.CommandEnd.{PrintsSome}
 use Rattle.h2_cmd_batch.specs.declared.commands.each.PrintFault.{PrintFault}
@@ -65,57 +64,57 @@ abbrev pub ReportsSpelled : Form → List Entry → Config → Option (List ℕ)
 ReportsSpelled form book config None t = t ≡ failed_as form.json BadHex
 ReportsSpelled form book config (Some octets) t = ReportsAllowed form (is_allowed config) book config octets t
 
--- of a text of hex
-abbrev pub ReportsText : Form → List Entry → Config → List ℕ → Printed → Type 0
-ReportsText form book config text t = ReportsSpelled form book config (octets_spelled text) t
+-- of a text: the octets themselves, or their hex
+abbrev pub ReportsText : Form → (raw : Bool) → List Entry → Config → List ℕ → Printed → Type 0
+ReportsText form raw book config text t = ReportsSpelled form book config (octets_of raw text) t
 
 -- ---- where the text is
 
 -- a text that is too long is not read
-abbrev pub ReportsIfShort : Form → Bool → List Entry → Config → List ℕ → Printed → Type 0
-ReportsIfShort form true book config text t = t ≡ failed_as form.json Read
-ReportsIfShort form false book config text t = ReportsText form book config text t
+abbrev pub ReportsIfShort : Form → (raw : Bool) → Bool → List Entry → Config → List ℕ → Printed → Type 0
+ReportsIfShort form raw true book config text t = t ≡ failed_as form.json Read
+ReportsIfShort form raw false book config text t = ReportsText form raw book config text t
 
-abbrev pub ReportsRead : Form → List Entry → Config → List ℕ → Printed → Type 0
-ReportsRead form book config text t = ReportsIfShort form (nat_lt most (length text)) book config text t
+abbrev pub ReportsRead : Form → (raw : Bool) → List Entry → Config → List ℕ → Printed → Type 0
+ReportsRead form raw book config text t = ReportsIfShort form raw (nat_lt most (length text)) book config text t
 
 -- the text of a file
-abbrev pub ReportsFile : Form → List Entry → Config → Option (List ℕ) → Printed → Type 0
-ReportsFile form book config None t = t ≡ failed_as form.json Read
-ReportsFile form book config (Some text) t = ReportsRead form book config text t
+abbrev pub ReportsFile : Form → (raw : Bool) → List Entry → Config → Option (List ℕ) → Printed → Type 0
+ReportsFile form raw book config None t = t ≡ failed_as form.json Read
+ReportsFile form raw book config (Some text) t = ReportsRead form raw book config text t
 
 -- the text of the input, where no read failed
-abbrev pub ReportsInput : Form → List Entry → Config → Option (List ℕ) → Bool → Printed → Type 0
-ReportsInput form book config input true t = t ≡ failed_as form.json Read
-ReportsInput form book config input false t = (text : List ℕ) → input ≡ Some text → ReportsRead form book config text t
+abbrev pub ReportsInput : Form → (raw : Bool) → List Entry → Config → Option (List ℕ) → Bool → Printed → Type 0
+ReportsInput form raw book config input true t = t ≡ failed_as form.json Read
+ReportsInput form raw book config input false t = (text : List ℕ) → input ≡ Some text → ReportsRead form raw book config text t
 
 -- that of the file where one is named, else that of the input
-abbrev pub ReportsFrom : Form → Directory → List ℕ → Option (List ℕ) → Bool → List Entry → Config → Printed → Type 0
-ReportsFrom form files [] input input_failed book config t = ReportsInput form book config input input_failed t
-ReportsFrom form files (octet ∷ octets) input input_failed book config t = ReportsFile form book config (files (octet ∷ octets)) t
+abbrev pub ReportsFrom : Form → (raw : Bool) → Directory → List ℕ → Option (List ℕ) → Bool → List Entry → Config → Printed → Type 0
+ReportsFrom form raw files [] input input_failed book config t = ReportsInput form raw book config input input_failed t
+ReportsFrom form raw files (octet ∷ octets) input input_failed book config t = ReportsFile form raw book config (files (octet ∷ octets)) t
 
 -- ---- the program
 
 -- the fault of the book is found before anything is read
-abbrev pub ReportsWith : Form → Result (List Entry) ℕ → Directory → List ℕ → Option (List ℕ) → Bool → Config → Printed → Type 0
-ReportsWith form (Err fault) files file input input_failed config t = t ≡ refused_as form.json fault
-ReportsWith form (Ok book) files file input input_failed config t = ReportsFrom form files file input input_failed book config t
+abbrev pub ReportsWith : Form → (raw : Bool) → Result (List Entry) ℕ → Directory → List ℕ → Option (List ℕ) → Bool → Config → Printed → Type 0
+ReportsWith form raw (Err fault) files file input input_failed config t = t ≡ refused_as form.json fault
+ReportsWith form raw (Ok book) files file input input_failed config t = ReportsFrom form raw files file input input_failed book config t
 
 -- memory was refused before anything was written, for words that were not parsed too, and no read failed
 abbrev pub IsOutOfMemory : (json input_failed : Bool) → Printed → Type 0
 IsOutOfMemory json input_failed t = ((t ≡ failed NoMemory) ⊎ (t ≡ failed_as json NoMemory)) × (input_failed ≡ false)
 
 -- that, or what is reported with this book
-abbrev pub IsReported : Form → Directory → Config → List ℕ → List Entry → Option (List ℕ) → Bool → Printed → Type 0
-IsReported form files config file book input input_failed t = IsOutOfMemory form.json input_failed t ⊎ ReportsFrom form files file input input_failed book config t
+abbrev pub IsReported : Form → (raw : Bool) → Directory → Config → List ℕ → List Entry → Option (List ℕ) → Bool → Printed → Type 0
+IsReported form raw files config file book input input_failed t = IsOutOfMemory form.json input_failed t ⊎ ReportsFrom form raw files file input input_failed book config t
 
 -- that, or this is reported. So where a read failed, `fault 22` is all that is reported
-abbrev pub IsExplained : Form → Directory → Config → List ℕ → BookAsked → Option (List ℕ) → Bool → Printed → Type 0
-IsExplained form files config file book input input_failed t = IsOutOfMemory form.json input_failed t ⊎ ReportsWith form (book_said files book) files file input input_failed config t
+abbrev pub IsExplained : Form → (raw : Bool) → Directory → Config → List ℕ → BookAsked → Option (List ℕ) → Bool → Printed → Type 0
+IsExplained form raw files config file book input input_failed t = IsOutOfMemory form.json input_failed t ⊎ ReportsWith form raw (book_said files book) files file input input_failed config t
 
 -- where no write failed: the output gained such a text, and the status is its
-abbrev pub EndsExplain : Form → Directory → Config → List ℕ → BookAsked → Option (List ℕ) → Bool → Option (List ℕ) → Option (List ℕ) → ℕ → Type 0
-EndsExplain form files config file book input input_failed before after status = PrintsSome (λ t. IsExplained form files config file book input input_failed t) before after status
+abbrev pub EndsExplain : Form → (raw : Bool) → Directory → Config → List ℕ → BookAsked → Option (List ℕ) → Bool → Option (List ℕ) → Option (List ℕ) → ℕ → Type 0
+EndsExplain form raw files config file book input input_failed before after status = PrintsSome (λ t. IsExplained form raw files config file book input input_failed t) before after status
 
 -- ---- how an explanation ends
 

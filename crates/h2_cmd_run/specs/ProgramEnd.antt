@@ -25,7 +25,8 @@ use Rattle.h2_cmd_batch.specs.Books.{book_said}
 use Rattle.h2_cmd_batch.specs.CommandEnd.{Prints, PrintsSome, asks_why_batch}
 use Rattle.h2_cmd_batch.specs.Faults.{fault_line}
 use Rattle.h2_cmd_batch.specs.Printed.{Printed, cut_short, failed, places_within, refused, printed_within}
-use Rattle.h2_cmd_batch.specs.declared.fault.BenchFault.TheVariants.{NoMemory, Read}
+use Rattle.h2_cmd_batch.specs.Input.{octets_of}
+use Rattle.h2_cmd_batch.specs.declared.fault.BenchFault.TheVariants.{BadConfig, BadHex, NoMemory, Read}
 
 -- the same where nobody sees which calls failed
 abbrev pub EndsSomehow : Directory → BatchAsked → Option (List ℕ) → Option (List ℕ) → Option (List ℕ) → ℕ → Type 0
@@ -59,19 +60,28 @@ SessionAs IsSome (Ok entries) config input left input_failed before after status
     (octets held : List ℕ) → input ≡ Some octets → before ≡ Some held
     → (t : session.Printed) × IsSome entries config octets input_failed left t × session.Prints t held after status
 
--- memory for the book was refused, and nothing was read; or this is such a session; `left` is what the input has left
--- after it
-abbrev pub EndsSessionAs : SessionKind → Directory → Config → BookAsked → Option (List ℕ) → Option (List ℕ) → Bool → Option (List ℕ) → Option (List ℕ) → ℕ → Type 0
-EndsSessionAs IsSome files config book input left input_failed before after status =
-    (PrintsSome (λ t. t ≡ failed NoMemory) before after status × (input_failed ≡ false)) ⊎ SessionAs IsSome (book_said files book) config input left input_failed before after status
+-- a text and its status, as h2_debug has them
+abbrev pub in_session : Printed → session.Printed
+in_session t = record { text = t.text; status = t.status }
+
+-- memory was refused, and nothing was read; or this is such a session; `left` is what the input has left after it
+abbrev pub EndsSessionAs : SessionKind → Result (List Entry) ℕ → Config → Option (List ℕ) → Option (List ℕ) → Bool → Option (List ℕ) → Option (List ℕ) → ℕ → Type 0
+EndsSessionAs IsSome book config input left input_failed before after status =
+    (PrintsSome (λ t. t ≡ failed NoMemory) before after status × (input_failed ≡ false)) ⊎ SessionAs IsSome book config input left input_failed before after status
 
 -- a session over an input
 abbrev pub EndsSession : Directory → Config → BookAsked → Option (List ℕ) → Option (List ℕ) → Bool → Option (List ℕ) → Option (List ℕ) → ℕ → Type 0
-EndsSession = EndsSessionAs session.IsSession
+EndsSession files config book = EndsSessionAs session.IsSession (book_said files book) config
 
--- a session over the octets that this line spells, which is not of the input
-abbrev pub EndsSessionOver : List ℕ → Directory → Config → BookAsked → Option (List ℕ) → Option (List ℕ) → Bool → Option (List ℕ) → Option (List ℕ) → ℕ → Type 0
-EndsSessionOver line = EndsSessionAs (session.IsSessionOver line)
+-- a session over octets that are not of the input, where there are some, and the limits are allowed
+abbrev pub IsSessionGiven : (allowed : Bool) → Option (List ℕ) → SessionKind
+IsSessionGiven allowed None book config octets input_failed left t = t ≡ in_session (failed BadHex)
+IsSessionGiven false (Some peer) book config octets input_failed left t = t ≡ in_session (failed BadConfig)
+IsSessionGiven true (Some peer) book config octets input_failed left t = session.IsSessionOver peer book config octets input_failed left t
+
+-- a session over the octets of a text that is not of the input
+abbrev pub EndsSessionOver : (raw : Bool) → List ℕ → Directory → Config → BookAsked → Option (List ℕ) → Option (List ℕ) → Bool → Option (List ℕ) → Option (List ℕ) → ℕ → Type 0
+EndsSessionOver raw text files config book = EndsSessionAs (IsSessionGiven (is_allowed config) (octets_of raw text)) (book_said files book) config
 
 -- nothing is printed for words that ask for connections to be served, and the status is 2; or memory was refused
 abbrev pub EndsServe : Option (List ℕ) → Option (List ℕ) → ℕ → Type 0
@@ -127,7 +137,7 @@ is_serve None = false
 is_serve (Some (batch b)) = false
 is_serve (Some (debug config book)) = false
 is_serve (Some (serve config port count watched book)) = true
-is_serve (Some (explain config view file book)) = false
+is_serve (Some (explain config view raw file book)) = false
 is_serve (Some (check config book bless in_place junit names)) = false
 is_serve (Some (against config book port wait path authority judge junit names)) = true
 
@@ -137,7 +147,7 @@ is_reader None = false
 is_reader (Some (batch b)) = true
 is_reader (Some (debug config book)) = true
 is_reader (Some (serve config port count watched book)) = false
-is_reader (Some (explain config view file book)) = true
+is_reader (Some (explain config view raw file book)) = true
 is_reader (Some (check config book bless in_place junit names)) = false
 is_reader (Some (against config book port wait path authority judge junit names)) = false
 
@@ -146,6 +156,6 @@ asks_why None = false
 asks_why (Some (batch b)) = asks_why_batch b
 asks_why (Some (debug config book)) = book.why
 asks_why (Some (serve config port count watched book)) = book.why
-asks_why (Some (explain config view file book)) = book.why
+asks_why (Some (explain config view raw file book)) = book.why
 asks_why (Some (check config book bless in_place junit names)) = book.why
 asks_why (Some (against config book port wait path authority judge junit names)) = book.why

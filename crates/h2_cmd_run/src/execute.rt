@@ -1,7 +1,8 @@
 //! What the words ask for, from an input to its output and the exit status. Definitions: `specs/ProgramEnd.antt`, over
 //! `specs/ExplainProgram.antt`, `specs/CheckProgram.antt` and those of h2_cmd_batch.
 
-ghost use Rattle.std.specs.Prelude.{◌≡◌, ◌==◌, ◌⊎◌, ℕ, Bool, List, [], Some, None, true, false, IfErr};
+ghost use Rattle.std.specs.Prelude.{◌≡◌, ◌==◌, ◌⊎◌, ℕ, Bool, List, [], Some, None, Ok, true, false, IfErr};
+ghost use Rattle.h2_spec.specs.State.{is_allowed};
 ghost use Rattle.h2_spec.specs.declared.connection.Config.{Config};
 ghost use Rattle.h2_cmd_args.specs.Grammar.{BatchAsked, BookAsked, FormAsked, asked_of, batch, check, debug, explain};
 ghost use Rattle.h2_cmd_args.specs.Plans.{asked_in, book_asked};
@@ -9,19 +10,25 @@ ghost use Rattle.h2_cmd_check.specs.Frames.{is_none};
 ghost use Rattle.h2_cmd_run.specs.Blessing.{EndsBless, writes_files};
 ghost use Rattle.h2_cmd_run.specs.CheckProgram.{EndsCheck};
 ghost use Rattle.h2_cmd_batch.specs.CommandEnd.{EndsBatch, KnowsFile, PrintsSome, file_of, no_files};
+ghost use Rattle.h2_cmd_batch.specs.Input.{octets_of};
 ghost use Rattle.h2_cmd_run.specs.ExplainProgram.{EndsExplain, form_of};
 ghost use Rattle.h2_cmd_run.specs.JUnitProgram.{EndsJUnit};
 ghost use Rattle.h2_cmd_batch.specs.Results.{ChangesAlone};
-ghost use Rattle.h2_cmd_run.specs.ProgramEnd.{EndsServe, EndsSession, EndsSessionOver, EndsSomehow, PrintsRefusal, asks_why, is_reader, is_serve, printed_for};
+ghost use Rattle.h2_cmd_run.specs.ProgramEnd.{EndsServe, EndsSession, EndsSessionAs, EndsSessionOver, EndsSomehow, IsSessionGiven, PrintsRefusal, asks_why, is_reader, is_serve, printed_for};
 
 use crate::check::check_plan;
 use crate::print::explain_plan;
 use h2_cmd_args::Words;
 use h2_cmd_args::command::{Debug, Plan, Refusal, parse};
-use h2_cmd_batch::{BenchFault, book_for_words, print, print_fault, respond};
+use h2_cmd_batch::{
+    BenchFault, book_for_words, print, print_fault, read_for, respond, write_reason,
+};
 use h2_cmd_book_file::{Files, FilesInMemory};
+use h2_cmd_messages::Reasons;
 use h2_debug::{debug_session, debug_session_over};
 use h2_io::{FromRead, Input, IntoWrite, Output};
+use h2_request_book::book::Book;
+use h2_spec::connection::Config;
 use std::alloc::Global;
 use std::io;
 use std::io::{Read, Write};
@@ -53,13 +60,42 @@ fn debug<F: Files, I: Input, O: Output, E: Output>(
     }
 }
 
-/// Makes the book of a session, and runs it over the octets that `line` spells in hex, which is not of the input.
+/// Runs a session over the octets of a text that is not of the input; the reasons say why it has none.
+fn session_over<I: Input, O: Output>(
+    alloc: Global,
+    config: Config,
+    raw: bool,
+    text: Vec<u8>,
+    book: &Book<Global>,
+    input: &mut I,
+    output: &mut O,
+    reasons: &mut Reasons<'_>,
+) -> u8
+    requires reader { I.has_failed input.old ≡ false }
+    requires writer { O.has_failed output.old ≡ false }
+    ensures printed { O.has_failed output.new ≡ false
+        → EndsSessionAs (IsSessionGiven (is_allowed config) (octets_of raw text.items)) (Ok book.now) config (I.remaining input.old)
+        (I.remaining input.new) (I.has_failed input.new) (O.written output.old) (O.written output.new) result }
+    ensures flag { O.has_failed output.new ≡ (result == 3) }
+    ensures input { I.name input.new ≡ I.name input.old }
+    ensures name { O.name output.new ≡ O.name output.old }
+{
+    match read_for(alloc, config, raw, text, reasons) {
+        Ok(octets) => debug_session_over(book, config, octets, input, output),
+        Err(fault) => print_fault(output, fault),
+    }
+}
+
+/// Makes the book of a session, and runs it over the octets of a text that is not of the input: the text itself where it is raw,
+/// else what its hex spells. Why the text has no octets is written to `errors`, and what is strange about them, where the words do
+/// not ask for quiet.
 ///
 /// The status and the faults are those of `carry_out` for a session.
 pub fn debug_over<F: Files, I: Input, O: Output, E: Output>(
     alloc: Global,
     debug: &Debug<'_>,
-    line: Vec<u8>,
+    raw: bool,
+    text: Vec<u8>,
     files: &mut F,
     input: &mut I,
     output: &mut O,
@@ -68,7 +104,7 @@ pub fn debug_over<F: Files, I: Input, O: Output, E: Output>(
     requires reader { I.has_failed input.old ≡ false }
     requires writer { O.has_failed output.old ≡ false }
     ensures printed { KnowsFile debug.now.book.file.now (F.is_printed files.old) → O.has_failed output.new ≡ false
-        → EndsSessionOver line.items (F.file files.old) debug.now.config (book_asked debug.now.book) (I.remaining input.old)
+        → EndsSessionOver raw text.items (F.file files.old) debug.now.config (book_asked debug.now.book) (I.remaining input.old)
         (I.remaining input.new) (I.has_failed input.new) (O.written output.old) (O.written output.new) result }
     ensures flag { O.has_failed output.new ≡ (result == 3) }
     ensures input { I.name input.new ≡ I.name input.old }
@@ -77,10 +113,15 @@ pub fn debug_over<F: Files, I: Input, O: Output, E: Output>(
     ensures errors { E.name errors.new ≡ E.name errors.old }
     ensures same_files { F.file files.new ≡ F.file files.old }
 {
-    match book_for_words(alloc, &debug.book, files, errors) {
-        Ok(book) => debug_session_over(alloc, &book, debug.config, line, input, output),
-        Err(fault) => print_fault(output, fault),
-    }
+    let book = match book_for_words(alloc, &debug.book, files, errors) {
+        Ok(book) => book,
+        Err(fault) => return print_fault(output, fault),
+    };
+    let mut reasons = Reasons::new(alloc, debug.input);
+    let config = debug.config;
+    let status = session_over(alloc, config, raw, text, &book, input, output, &mut reasons);
+    write_reason(errors, debug.book.why, reasons.out.finish());
+    status
 }
 
 /// Does what was asked for, and gives the exit status. Where that is nothing, connections to be served or a server to be
@@ -110,10 +151,10 @@ pub fn carry_out<F: Files, I: Input, O: Output, E: Output>(
         → KnowsFile book.file (F.is_printed files.old) → O.has_failed output.new ≡ false
         → EndsSession (F.file files.old) config book (I.remaining input.old) (I.remaining input.new)
         (I.has_failed input.new) (O.written output.old) (O.written output.new) result }
-    ensures explains { (config : Config) → (view : FormAsked) → (file : List ℕ) → (book : BookAsked)
-        → asked_in asked.now ≡ Some (explain config view file book)
+    ensures explains { (config : Config) → (view : FormAsked) → (raw : Bool) → (file : List ℕ) → (book : BookAsked)
+        → asked_in asked.now ≡ Some (explain config view raw file book)
         → KnowsFile book.file (F.is_printed files.old) → KnowsFile file (F.is_printed files.old) → O.has_failed output.new ≡ false
-        → EndsExplain (form_of view) (F.file files.old) config file book (I.remaining input.old) (I.has_failed input.new)
+        → EndsExplain (form_of view) raw (F.file files.old) config file book (I.remaining input.old) (I.has_failed input.new)
         (O.written output.old) (O.written output.new) result }
     ensures checks { (config : Config) → (book : BookAsked) → (in_place : Bool) → (names : List (List ℕ))
         → asked_in asked.now ≡ Some (check config book false in_place [] names)
@@ -172,10 +213,10 @@ pub fn run_on<F: Files, I: Input, O: Output, E: Output>(
         → KnowsFile book.file (F.is_printed files.old) → O.has_failed output.new ≡ false
         → EndsSession (F.file files.old) config book (I.remaining input.old) (I.remaining input.new)
         (I.has_failed input.new) (O.written output.old) (O.written output.new) result }
-    ensures explains { (config : Config) → (view : FormAsked) → (file : List ℕ) → (book : BookAsked)
-        → asked_of words.now ≡ Some (explain config view file book)
+    ensures explains { (config : Config) → (view : FormAsked) → (raw : Bool) → (file : List ℕ) → (book : BookAsked)
+        → asked_of words.now ≡ Some (explain config view raw file book)
         → KnowsFile book.file (F.is_printed files.old) → KnowsFile file (F.is_printed files.old) → O.has_failed output.new ≡ false
-        → EndsExplain (form_of view) (F.file files.old) config file book (I.remaining input.old) (I.has_failed input.new)
+        → EndsExplain (form_of view) raw (F.file files.old) config file book (I.remaining input.old) (I.has_failed input.new)
         (O.written output.old) (O.written output.new) result }
     ensures checks { (config : Config) → (book : BookAsked) → (in_place : Bool) → (names : List (List ℕ))
         → asked_of words.now ≡ Some (check config book false in_place [] names)
@@ -207,9 +248,10 @@ pub fn run<R: Read, W: Write>(alloc: Global, words: &Words, input: &mut R, outpu
     ensures debugs { (config : Config) → (book : BookAsked) → asked_of words.now ≡ Some (debug config book)
         → (result ≡ 3)
         ⊎ ((failed : Bool) × EndsSession no_files config book (R.remaining input.old) (R.remaining input.new) failed (W.contents output.old) (W.contents output.new) result) }
-    ensures explains { (config : Config) → (view : FormAsked) → (file : List ℕ) → (book : BookAsked)
-        → asked_of words.now ≡ Some (explain config view file book) → (result ≡ 3)
-        ⊎ ((failed : Bool) × EndsExplain (form_of view) no_files config file book (R.remaining input.old) failed (W.contents output.old) (W.contents output.new) result) }
+    ensures explains { (config : Config) → (view : FormAsked) → (raw : Bool) → (file : List ℕ) → (book : BookAsked)
+        → asked_of words.now ≡ Some (explain config view raw file book) → (result ≡ 3)
+        ⊎ ((failed : Bool) × EndsExplain (form_of view) raw no_files config file book (R.remaining input.old) failed
+        (W.contents output.old) (W.contents output.new) result) }
     ensures checks { (config : Config) → (book : BookAsked) → (in_place : Bool) → (names : List (List ℕ))
         → asked_of words.now ≡ Some (check config book false in_place [] names) → (result ≡ 3)
         ⊎ EndsCheck no_files config book names (W.contents output.old) (W.contents output.new) result }

@@ -1,7 +1,7 @@
-//! The program `explain`: a connection over the octets that hex text spells, explained item by item. Definitions:
+//! The program `explain`: a connection over the octets of a text, explained item by item. Definitions:
 //! `specs/ExplainProgram.antt`.
 
-ghost use Rattle.std.specs.Prelude.{◌≡◌, ◌==◌, [], ◌≤◌, ◌<◌, ◌^◌, ◌++◌, ◌⊎◌, ℕ, List, Some, Ok, true, false, length, option_map, is_some, IfErr, IfOk};
+ghost use Rattle.std.specs.Prelude.{◌≡◌, ◌==◌, [], ◌≤◌, ◌<◌, ◌^◌, ◌++◌, ◌⊎◌, ℕ, Bool, List, Some, Ok, true, false, length, option_map, is_some, IfErr, IfOk};
 ghost use Rattle.std.specs.Vec.{vec_len};
 ghost use Rattle.h2_spec.specs.Requests.Answer.{Entry};
 ghost use Rattle.h2_conn.specs.Connection.{going};
@@ -15,7 +15,7 @@ ghost use Rattle.h2_cmd_batch.specs.CommandEnd.{KnowsFile};
 ghost use Rattle.h2_cmd_batch.specs.declared.fault.BenchFault.TheVariants.{NoMemory};
 
 use h2_cmd_args::command::Explain;
-use h2_cmd_batch::{BenchFault, PrintFault, read_all, read_hex, refused_limits};
+use h2_cmd_batch::{BenchFault, PrintFault, read_all, read_for};
 use h2_cmd_book_file::{Files, FilesFault};
 use h2_cmd_messages::{Reasons, say_too_long, say_unread};
 use h2_conn::Conn;
@@ -60,11 +60,13 @@ fn read_file<F: Files>(
     path: &str,
     reasons: &mut Reasons<'_>,
 ) -> Result<Vec<u8>, BenchFault>
-    ensures ok { F.is_printed files.old ≡ true → IfOk result (λ text. (form : ExplainForm) → (book : List Entry) → (config : Config) → (t : Printed)
-        → ReportsText form book config text.items t → ReportsFile form book config (F.file files.old path.now) t) }
+    ensures ok { F.is_printed files.old ≡ true → IfOk result (λ text. (form : ExplainForm) → (raw : Bool) → (book : List Entry)
+        → (config : Config) → (t : Printed)
+        → ReportsText form raw book config text.items t → ReportsFile form raw book config (F.file files.old path.now) t) }
     ensures within { IfOk result (λ text. length text.items ≤ most) }
     ensures err { F.is_printed files.old ≡ true → IfErr result (λ fault. (fault ≡ NoMemory)
-        ⊎ ((form : ExplainForm) → (book : List Entry) → (config : Config) → ReportsFile form book config (F.file files.old path.now) (failed_as form.json fault))) }
+        ⊎ ((form : ExplainForm) → (raw : Bool) → (book : List Entry) → (config : Config)
+        → ReportsFile form raw book config (F.file files.old path.now) (failed_as form.json fault))) }
     ensures same_files { F.file files.new ≡ F.file files.old }
 {
     match files.read(alloc, path, MAX_INPUT) {
@@ -93,13 +95,14 @@ pub fn read_text<F: Files, I: Input>(
     reasons: &mut Reasons<'_>,
 ) -> Result<Vec<u8>, BenchFault>
     requires reader { I.has_failed input.old ≡ false }
-    ensures ok { KnowsFile file.now (F.is_printed files.old) → IfOk result (λ text. (form : ExplainForm) → (book : List Entry) → (config : Config) → (t : Printed)
-        → ReportsText form book config text.items t
-        → ReportsFrom form (F.file files.old) file.now (I.remaining input.old) (I.has_failed input.new) book config t) }
+    ensures ok { KnowsFile file.now (F.is_printed files.old) → IfOk result (λ text. (form : ExplainForm) → (raw : Bool)
+        → (book : List Entry) → (config : Config) → (t : Printed)
+        → ReportsText form raw book config text.items t
+        → ReportsFrom form raw (F.file files.old) file.now (I.remaining input.old) (I.has_failed input.new) book config t) }
     ensures within { IfOk result (λ text. length text.items ≤ most) }
     ensures err { KnowsFile file.now (F.is_printed files.old) → IfErr result (λ fault. ((fault ≡ NoMemory) × (I.has_failed input.new ≡ false))
-        ⊎ ((form : ExplainForm) → (book : List Entry) → (config : Config)
-        → ReportsFrom form (F.file files.old) file.now (I.remaining input.old) (I.has_failed input.new) book config (failed_as form.json fault))) }
+        ⊎ ((form : ExplainForm) → (raw : Bool) → (book : List Entry) → (config : Config)
+        → ReportsFrom form raw (F.file files.old) file.now (I.remaining input.old) (I.has_failed input.new) book config (failed_as form.json fault))) }
     ensures input { I.name input.new ≡ I.name input.old }
     ensures same_files { F.file files.new ≡ F.file files.old }
 {
@@ -172,32 +175,30 @@ fn explain_octets<O: Output>(
     }
 }
 
-/// Explains a new connection over the octets that hex text spells; says how it ended.
+/// Explains a new connection over the octets of a text, which has them as they are where it is raw; says how it ended.
 ///
-/// `BadHex` where the text is no hex text, then `BadConfig` where a limit or a setting is out of range; nothing is
+/// `BadHex` where the text gives no octets, then `BadConfig` where a limit or a setting is out of range; nothing is
 /// written then, and the reasons say which. `NoMemory` where memory is refused: some first items may have been explained. `NotWritten` where a
 /// write failed.
 pub fn explain_text<O: Output>(
     alloc: Global,
     form: Form,
+    raw: bool,
     config: Config,
     book: &Book<Global>,
-    text: &[u8],
+    text: Vec<u8>,
     output: &mut O,
     reasons: &mut Reasons<'_>,
 ) -> Result<ExplainOutcome, PrintFault>
-    requires few { length text.now ≤ most }
+    requires few { length text.items ≤ most }
     requires writer { O.has_failed output.old ≡ false }
     ensures printed { O.has_failed output.new ≡ false → (held : List ℕ) → O.written output.old ≡ Some held
         → (said : List ℕ) × (O.written output.new ≡ Some (held ++ said))
-        × ReportsText form book.now config text.now (explained_after form.json said result) }
+        × ReportsText form raw book.now config text.items (explained_after form.json said result) }
     ensures flag { O.has_failed output.new ≡ cut_off result }
     ensures name { O.name output.new ≡ O.name output.old }
 {
-    if !config.is_allowed() {
-        return Err(PrintFault::Fault(refused_limits(config, text, reasons)));
-    }
-    match read_hex(alloc, text, reasons) {
+    match read_for(alloc, config, raw, text, reasons) {
         Ok(octets) => explain_octets(alloc, form, config, book, octets.as_slice(), output),
         Err(fault) => Err(PrintFault::Fault(fault)),
     }

@@ -32,7 +32,7 @@ pub struct Ran {
 
 /// Does what the words ask for over memory, and gives what is printed for it, whole, and the exit status. Each file is a
 /// path and its octets; where two have one path, the first is the file there. What the words say of devices
-/// (`--in`, `--raw`, `--prompt`) is for a program that has them: here the input is `input`.
+/// (`--in`, `--prompt`, `--raw` of `debug`) is for a program that has them: here the input is `input`.
 ///
 /// No call of a device can fail here: the status is never 3, and `fault 22` is printed only where the input or a file is
 /// too long, or a file is not there.
@@ -50,9 +50,9 @@ pub fn run_in_memory(
         → IfOk result (λ ran. OrCutShort (places_within (file_in files.now) asked input.now) (printed_within (file_in files.now) asked input.now) (printed_in ran)) }
     ensures debugs { (config : Config) → (book : BookAsked) → asked_of words.now ≡ Some (debug config book)
         → IfOk result (λ ran. IsDebugged (file_in files.now) config book input.now (printed_in ran)) }
-    ensures explains { (config : Config) → (view : FormAsked) → (file : List ℕ) → (book : BookAsked)
-        → asked_of words.now ≡ Some (explain config view file book)
-        → IfOk result (λ ran. IsExplained (form_of view) (file_in files.now) config file book (Some input.now) false (printed_in ran)) }
+    ensures explains { (config : Config) → (view : FormAsked) → (raw : Bool) → (file : List ℕ) → (book : BookAsked)
+        → asked_of words.now ≡ Some (explain config view raw file book)
+        → IfOk result (λ ran. IsExplained (form_of view) raw (file_in files.now) config file book (Some input.now) false (printed_in ran)) }
     ensures checks { (config : Config) → (book : BookAsked) → (in_place : Bool) → (names : List (List ℕ))
         → asked_of words.now ≡ Some (check config book false in_place [] names)
         → IfOk result (λ ran. IsCheck (file_in files.now) config book names (printed_in ran)) }

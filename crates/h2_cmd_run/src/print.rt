@@ -47,14 +47,15 @@ fn print_text<O: Output>(
     alloc: Global,
     plan: &Explain<'_>,
     book: &Book<Global>,
-    text: &[u8],
+    text: Vec<u8>,
     output: &mut O,
     reasons: &mut Reasons<'_>,
 ) -> u8
-    requires few { length text.now ≤ most }
+    requires few { length text.items ≤ most }
     requires writer { O.has_failed output.old ≡ false }
     ensures printed { O.has_failed output.new ≡ false
-        → PrintsSome (λ t. ReportsText (form_of (form_asked plan.now)) book.now plan.now.config text.now t) (O.written output.old) (O.written output.new) result }
+        → PrintsSome (λ t. ReportsText (form_of (form_asked plan.now)) plan.now.raw book.now plan.now.config text.items t)
+        (O.written output.old) (O.written output.new) result }
     ensures flag { O.has_failed output.new ≡ (result == 3) }
     ensures name { O.name output.new ≡ O.name output.old }
 {
@@ -67,7 +68,16 @@ fn print_text<O: Output>(
         errors: plan.errors,
         stream: plan.stream,
     };
-    let ended = explain_text(alloc, form, plan.config, book, text, output, reasons);
+    let ended = explain_text(
+        alloc,
+        form,
+        plan.raw,
+        plan.config,
+        book,
+        text,
+        output,
+        reasons,
+    );
     say_end(&ended, reasons);
     print_explained(output, plan.json, ended)
 }
@@ -85,7 +95,8 @@ fn explain_read<F: Files, I: Input, O: Output>(
     requires reader { I.has_failed input.old ≡ false }
     requires writer { O.has_failed output.old ≡ false }
     ensures printed { KnowsFile plan.now.file.now (F.is_printed files.old) → O.has_failed output.new ≡ false
-        → PrintsSome (IsReported (form_of (form_asked plan.now)) (F.file files.old) plan.now.config plan.now.file.now book.now (I.remaining input.old) (I.has_failed input.new))
+        → PrintsSome (IsReported (form_of (form_asked plan.now)) plan.now.raw (F.file files.old) plan.now.config plan.now.file.now book.now
+        (I.remaining input.old) (I.has_failed input.new))
         (O.written output.old) (O.written output.new) result }
     ensures flag { O.has_failed output.new ≡ (result == 3) }
     ensures input { I.name input.new ≡ I.name input.old }
@@ -93,7 +104,7 @@ fn explain_read<F: Files, I: Input, O: Output>(
     ensures same_files { F.file files.new ≡ F.file files.old }
 {
     match read_text(alloc, plan.file, files, input, reasons) {
-        Ok(text) => print_text(alloc, plan, book, text.as_slice(), output, reasons),
+        Ok(text) => print_text(alloc, plan, book, text, output, reasons),
         Err(fault) => {
             say_memory(fault, reasons);
             print_fault_as(output, plan.json, fault)
@@ -115,8 +126,8 @@ pub fn explain_plan<F: Files, I: Input, O: Output, E: Output>(
     requires writer { O.has_failed output.old ≡ false }
     ensures printed { KnowsFile plan.now.book.file.now (F.is_printed files.old) → KnowsFile plan.now.file.now (F.is_printed files.old)
         → O.has_failed output.new ≡ false
-        → EndsExplain (form_of (form_asked plan.now)) (F.file files.old) plan.now.config plan.now.file.now (book_asked plan.now.book) (I.remaining input.old)
-        (I.has_failed input.new) (O.written output.old) (O.written output.new) result }
+        → EndsExplain (form_of (form_asked plan.now)) plan.now.raw (F.file files.old) plan.now.config plan.now.file.now (book_asked plan.now.book)
+        (I.remaining input.old) (I.has_failed input.new) (O.written output.old) (O.written output.new) result }
     ensures flag { O.has_failed output.new ≡ (result == 3) }
     ensures input { I.name input.new ≡ I.name input.old }
     ensures name { O.name output.new ≡ O.name output.old }

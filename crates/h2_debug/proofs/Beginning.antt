@@ -110,27 +110,27 @@ session-responded book config octets held line (Ok d) LineFeed first last before
     let f = responds refl k.0 held k.1 refl in
     (f.0, session-followed book config octets line k.0 input_failed first last before middle rest d f.0 e k.1 zero le takes ok f.1, f.2)
 
--- a session over a line that is not of the input
-pub over-responded : (book : List Entry) (config : Config) (octets held line : List ℕ) (loaded : Result Debugging SessionFault) (first : ℕ) (before rest : Option (List ℕ)) (input_failed : Bool)
+-- a session over octets that are not of the input
+pub over-responded : (book : List Entry) (config : Config) (octets held peer : List ℕ) (loaded : Result Debugging SessionFault) (first : ℕ) (before rest : Option (List ℕ)) (input_failed : Bool)
     (written : Option (List ℕ)) (status : ℕ) → before ≡ Some octets → first ≡ 0
-    → IfOk loaded (Loads book config (octets_spelled line)) → IfErr loaded (λ fault. fault ≡ load_fault (octets_spelled line) (is_allowed config))
+    → IfOk loaded (Loads book config (Some peer)) → IfErr loaded (λ fault. fault ≡ load_fault (Some peer) (is_allowed config))
     → IfOk loaded (λ d. IsResponse d LineFeed (most - first) before input_failed rest false (Some held) written status)
     → IfErr loaded (λ fault. IsRefusal fault false (Some held) written status)
     → OnErr loaded (input_failed ≡ false)
-    → (t : Printed) × IsSessionOver line book config octets input_failed rest t × Prints t held written status
-over-responded book config octets held line (Err fault) first before rest input_failed written status e zero ok err responds refuses well =
+    → (t : Printed) × IsSessionOver peer book config octets input_failed rest t × Prints t held written status
+over-responded book config octets held peer (Err fault) first before rest input_failed written status e zero ok err responds refuses well =
     let whole = nat_le (length octets) most in
     let lines = cond whole (lines_of octets) (ended_lines (take most octets)) in
     let given : IsGiven most octets input_failed rest lines whole = rw well (refl, refl) in (
       failed (fault_number fault),
-      elim (not-loaded book config (octets_spelled line) fault lines whole err) [
+      elim (not-loaded book config (Some peer) fault lines whole err) [
         | inl none ↦ inl (ap (λ (f : SessionFault). failed (fault_number f)) none, well)
         | inr loads ↦ inr (lines, whole, given, loads)
       ],
       refuses refl held refl,
     )
-over-responded book config octets held line (Ok d) first before rest input_failed written status e zero ok err responds refuses well =
+over-responded book config octets held peer (Ok d) first before rest input_failed written status e zero ok err responds refuses well =
     let f = responds refl octets held e refl in
     let a = f.1 in
     let given : IsGiven most octets input_failed rest a.0 a.1 = rw zero at a.2 in
-    (f.0, inr (a.0, a.1, given, answered-loads book config (octets_spelled line) d a.0 a.1 f.0 ok a.3), f.2)
+    (f.0, inr (a.0, a.1, given, answered-loads book config (Some peer) d a.0 a.1 f.0 ok a.3), f.2)

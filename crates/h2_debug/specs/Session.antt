@@ -69,10 +69,10 @@ abbrev pub IsSession : List Entry → Config → List ℕ → Bool → Option (L
 IsSession book config octets input_failed rest printed = ((printed ≡ failed 0) × (input_failed ≡ false))
     ⊎ ((lines : List (List ℕ)) × (whole : Bool) × IsGiven most octets input_failed rest lines whole × IsBegun book config lines whole printed)
 
--- a session over the octets that a line spells which is not of the input: all lines of the input are commands
-abbrev pub IsSessionOver : List ℕ → List Entry → Config → List ℕ → Bool → Option (List ℕ) → Printed → Type 0
-IsSessionOver line book config octets input_failed rest printed = ((printed ≡ failed 0) × (input_failed ≡ false))
-    ⊎ ((lines : List (List ℕ)) × (whole : Bool) × IsGiven most octets input_failed rest lines whole × IsBegun book config (line ∷ lines) whole printed)
+-- a session over octets that are not of the input: all lines of the input are commands
+abbrev pub IsSessionOver : (peer : List ℕ) → List Entry → Config → List ℕ → Bool → Option (List ℕ) → Printed → Type 0
+IsSessionOver peer book config octets input_failed rest printed = ((printed ≡ failed 0) × (input_failed ≡ false))
+    ⊎ ((lines : List (List ℕ)) × (whole : Bool) × IsGiven most octets input_failed rest lines whole × IsLoaded book config (Some peer) lines whole printed)
 
 -- the output gained the text, and the status is its
 abbrev pub Prints : Printed → List ℕ → Option (List ℕ) → ℕ → Type 0

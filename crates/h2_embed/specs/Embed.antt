@@ -39,7 +39,7 @@ abbrev pub RunsAs : List (List ℕ) → Directory → List ℕ → Printed → T
 RunsAs words files input t =
     ((asked : BatchAsked) → asked_of words ≡ Some (batch asked) → OrCutShort (places_within files asked input) (printed_within files asked input) t)
     × ((config : Config) → (book : BookAsked) → asked_of words ≡ Some (debug config book) → IsDebugged files config book input t)
-    × ((config : Config) → (view : FormAsked) → (file : List ℕ) → (book : BookAsked) → asked_of words ≡ Some (explain config view file book) → IsExplained (form_of view) files config file book (Some input) false t)
+    × ((config : Config) → (view : FormAsked) → (raw : Bool) → (file : List ℕ) → (book : BookAsked) → asked_of words ≡ Some (explain config view raw file book) → IsExplained (form_of view) raw files config file book (Some input) false t)
     × ((config : Config) → (book : BookAsked) → (in_place : Bool) → (names : List (List ℕ)) → asked_of words ≡ Some (check config book false in_place [] names) → IsCheck files config book names t)
     × (is_serve (asked_of words) ≡ true → (t ≡ unserved) ⊎ (t ≡ failed bench.NoMemory))
     × (asked_of words ≡ None → IsRefusal t)

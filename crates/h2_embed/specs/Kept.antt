@@ -90,7 +90,7 @@ OpensBy None files k = ⊥
 OpensBy (Some (batch asked)) files k = ⊥
 OpensBy (Some (debug config book)) files k = ⊥
 OpensBy (Some (serve config port count report book)) files k = ⊥
-OpensBy (Some (explain config view file book)) files k = OpensWith (form_of view) config (book_said files book) k
+OpensBy (Some (explain config view raw file book)) files k = OpensWith (form_of view) config (book_said files book) k
 OpensBy (Some (check config book bless in_place junit names)) files k = ⊥
 OpensBy (Some (against config book port wait path authority judge junit names)) files k = ⊥
 
@@ -106,7 +106,7 @@ OpensNoneBy None files = Unit {0}
 OpensNoneBy (Some (batch asked)) files = Unit {0}
 OpensNoneBy (Some (debug config book)) files = Unit {0}
 OpensNoneBy (Some (serve config port count report book)) files = Unit {0}
-OpensNoneBy (Some (explain config view file book)) files = OpensNone (is_allowed config) (book_said files book)
+OpensNoneBy (Some (explain config view raw file book)) files = OpensNone (is_allowed config) (book_said files book)
 OpensNoneBy (Some (check config book bless in_place junit names)) files = Unit {0}
 OpensNoneBy (Some (against config book port wait path authority judge junit names)) files = Unit {0}
 

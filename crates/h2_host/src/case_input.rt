@@ -4,7 +4,6 @@
 use crate::devices::files::STANDARD_INPUT;
 use crate::devices::input::read_file;
 use crate::dump_input::hex_of_dump;
-use crate::hex_of;
 use h2_cmd_args::Words;
 use h2_cmd_args::command::{Devices, Plan, Refusal};
 use h2_cmd_cases::{ShellFault, add_case_words, idle_place};
@@ -22,8 +21,10 @@ use std::str;
 pub struct CaseInput {
     /// The words of the command, and after them those of the case.
     pub words: Words,
-    /// The octets of its script, or of a dump, as hex; of what is neither what it had, or why it can't be read.
+    /// The octets of its script; of a dump, as hex; of what is neither what it had, or why it can't be read.
     pub text: Result<Vec<u8>, ErrorKind>,
+    /// Whether these are the octets themselves.
+    pub raw: bool,
     /// Why it is refused, if it is.
     pub refusal: Option<String>,
 }
@@ -152,7 +153,8 @@ fn case_in(
     };
     Ok(Some(CaseInput {
         words,
-        text: Ok(hex_of(alloc, script.as_slice())?),
+        text: Ok(script),
+        raw: true,
         refusal,
     }))
 }
@@ -190,6 +192,7 @@ fn no_case(
     Ok(Some(CaseInput {
         words: copy_of(rt.alloc(), words)?,
         text,
+        raw: false,
         refusal: None,
     }))
 }

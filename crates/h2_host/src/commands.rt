@@ -25,13 +25,14 @@ pub trait Commands {
         requires reader { I.has_failed input.old ≡ false }
         requires writer { O.has_failed output.old ≡ false };
 
-    /// Does what `carry_out` does of a session, over the octets that `line` spells in hex: all lines of the input are
-    /// commands.
+    /// Does what `carry_out` does of a session, over the octets of a text, which has them as they are where it is raw, else
+    /// as hex: all lines of the input are commands. Why it has none is written to `errors`, and what is strange about them.
     fn debug_over<F: Files, I: Input, O: Output, E: Output>(
         &self,
         alloc: Global,
         debug: &Debug<'_>,
-        line: Vec<u8>,
+        raw: bool,
+        text: Vec<u8>,
         files: &mut F,
         input: &mut I,
         output: &mut O,

@@ -3,7 +3,6 @@
 pub(crate) mod copied;
 pub(crate) mod file_word;
 pub(crate) mod files;
-pub(crate) mod hexed;
 pub(crate) mod input;
 pub(crate) mod stopwatch;
 pub(crate) mod taken;

@@ -5,7 +5,10 @@ use crate::devices::input::Given;
 use crate::refused_words::say_refused_words;
 use h2_cmd_args::Words;
 use h2_cmd_args::command::{Plan, Refusal, Serve};
-use h2_cmd_messages::{TextBuilder, say_limits, say_port, say_unread, say_unwritten};
+use h2_cmd_messages::{
+    InputSource, TextBuilder, say_limits, say_port, say_too_long, say_unread, say_unwritten,
+};
+use h2_io::MAX_INPUT;
 use std::io::{ErrorKind, Write};
 
 /// How a command ended.
@@ -61,6 +64,9 @@ fn say_of_plan<C: Commands>(
         return;
     }
     match plan {
+        Plan::Debug(_) if given.taken.count() > MAX_INPUT => {
+            say_too_long(InputSource::Input, MAX_INPUT, out);
+        }
         _ if ending.is_said => {}
         Plan::Serve(serve) => say_served(serve, ending, out),
         Plan::Debug(debug) => given.say_session(ending.status, debug.config, out),

@@ -19,7 +19,6 @@ mod version;
 
 pub use commands::Commands;
 pub use devices::files::NamedFiles;
-pub use devices::hexed::{Hexed, hex_of};
 pub use devices::stopwatch::Stopwatch;
 pub use devices::taken::{Front, TakenInput};
 pub use devices::waiting::{WaitingInput, WaitingOutput};

@@ -74,7 +74,7 @@ fn run_session<C: Commands, O: Output, E: Output>(
     let has_dots = devices.prompt == "dot";
     let state = given.state;
     let line = given.first_command(devices);
-    let octets = given.taken.take_line();
+    let text = given.taken.take_text();
     let mut input = FromRead::new(&mut given.taken);
     let mut watched = SessionOutput::new(
         rt.alloc(),
@@ -85,11 +85,12 @@ fn run_session<C: Commands, O: Output, E: Output>(
         state,
         line,
     );
-    if let (Ok(Plan::Debug(debug)), Some(octets)) = (asked, octets) {
+    if let (Ok(Plan::Debug(debug)), Some(text)) = (asked, text) {
         return commands.debug_over(
             rt.alloc(),
             debug,
-            octets,
+            devices.raw,
+            text,
             &mut files,
             &mut input,
             &mut watched,
@@ -203,6 +204,7 @@ fn run_case<C: Commands>(
     let CaseInput {
         words,
         text,
+        raw,
         refusal,
     } = case;
     if let Some(refusal) = refusal {
@@ -213,6 +215,7 @@ fn run_case<C: Commands>(
         Err(Refusal::Words(printed)) => Err(refused_in(rt, path, printed.as_str())),
         asked => asked,
     };
+    let devices = Devices { raw, ..devices };
     run_over(
         rt,
         commands,

@@ -1,42 +1,35 @@
-//! What is said about the octets of a session: h2_debug is below the sentences, and answers numbers.
+//! What is said about the octets of a session on standard input: h2_debug is below the sentences, and answers numbers.
 
 use h2_cmd_messages::{
-    InputSource, TextBuilder, has_digits, say_limits, say_more_octets, say_no_hex, say_too_long,
-    say_warnings,
+    InputSource, TextBuilder, has_digits, say_limits, say_more_octets, say_no_hex, say_warnings,
 };
-use h2_io::{MAX_INPUT, is_hex_text};
+use h2_io::is_hex_text;
 use h2_spec::connection::Config;
 
-/// How a session ended.
+/// How a session over standard input ended.
 #[derive(Clone, Copy)]
 pub struct SessionEnd<'s> {
     /// The exit status.
     pub status: u8,
     /// The limits and the settings of the server.
     pub config: Config,
-    /// Where its octets come from.
-    pub source: InputSource<'s>,
-    /// What it was given: the text of a file, or all of standard input.
+    /// What it was given.
     pub seen: &'s [u8],
-    /// How many octets standard input gave.
-    pub count: usize,
 }
 
 impl SessionEnd<'_> {
-    /// The text of the octets: that of a file, or the first line.
+    /// The text of the octets: the first line.
     fn text(&self) -> &[u8] {
-        match (self.source, self.seen.split(|octet| *octet == b'\n').next()) {
-            (InputSource::Input, Some(line)) => line,
-            _ => self.seen,
+        match self.seen.split(|octet| *octet == b'\n').next() {
+            Some(line) => line,
+            None => &[],
         }
     }
 
     /// Says why it did not begin.
     fn say_refused(&self, out: &mut TextBuilder) {
-        if self.count > MAX_INPUT {
-            say_too_long(InputSource::Input, MAX_INPUT, out);
-        } else if !is_hex_text(self.text()) {
-            say_no_hex(self.source, self.text(), out);
+        if !is_hex_text(self.text()) {
+            say_no_hex(InputSource::Input, self.text(), out);
         } else if !self.config.is_allowed() {
             say_limits(self.config, out);
         }
@@ -44,11 +37,9 @@ impl SessionEnd<'_> {
 
     /// Says what is strange about what it was given.
     fn say_strange(&self, out: &mut TextBuilder) {
-        if let InputSource::Input = self.source {
-            say_more_octets(self.seen, out);
-        }
+        say_more_octets(self.seen, out);
         if has_digits(self.text()) {
-            say_warnings(self.source, self.text(), out);
+            say_warnings(InputSource::Input, self.text(), out);
         }
     }
 

@@ -155,13 +155,14 @@ impl Commands for Program {
         &self,
         alloc: Global,
         debug: &Debug<'_>,
-        line: Vec<u8>,
+        raw: bool,
+        text: Vec<u8>,
         files: &mut F,
         input: &mut I,
         output: &mut O,
         errors: &mut E,
     ) -> u8 {
-        debug_over(alloc, debug, line, files, input, output, errors)
+        debug_over(alloc, debug, raw, text, files, input, output, errors)
     }
 
     fn serve<W: Write>(&self, rt: &HostRuntime, plan: &Serve<'_>, output: &mut W) -> Ending {

@@ -1,4 +1,4 @@
-//! The program `play`: a connection over the octets that hex text spells. Definitions: `specs/Printed.antt`.
+//! The program `play`: a connection over the octets of its input. Definitions: `specs/Printed.antt`.
 
 ghost use Rattle.std.specs.Prelude.{◌≡◌, ◌⊎◌, ◌<◌, ◌^◌, [], Err, Some, true, false, length, is_err, is_some, IfErr, IfOk, OnOk};
 ghost use Rattle.h2_spec.specs.Texts.View.{view};
@@ -7,9 +7,7 @@ ghost use Rattle.hex.specs.Hex.{encode_lower};
 ghost use Rattle.h2_spec.specs.State.{is_allowed};
 ghost use Rattle.h2_conn.specs.Runs.{Opens};
 ghost use Rattle.h2_cmd_batch.specs.Each.{WritesSome, not_written};
-ghost use Rattle.h2_cmd_batch.specs.Input.{IsNoHex};
-ghost use Rattle.h2_io.specs.HexText.{octets_spelled};
-ghost use Rattle.h2_cmd_batch.specs.Limits.{limits_fault};
+ghost use Rattle.h2_cmd_batch.specs.Input.{octets_of};
 ghost use Rattle.h2_cmd_batch.specs.declared.commands.each.PrintFault.TheVariants.{Fault};
 ghost use Rattle.h2_cmd_batch.specs.Pieces.{piece_lengths};
 ghost use Rattle.h2_cmd_batch.specs.Printed.{OrCutShort, done, places_play, places_played, sent_and_state, printed_play, printed_played};
@@ -17,13 +15,13 @@ ghost use Rattle.h2_cmd_batch.specs.declared.fault.BenchFault.TheVariants.{BadCo
 
 use crate::commands::each::{PrintFault, write_places};
 use crate::fault::BenchFault;
-use crate::input::read_hex;
+use crate::input::read_for;
 use h2_cmd_args::command::Play;
-use h2_cmd_messages::{Reasons, say_limits, say_no_hex};
+use h2_cmd_messages::Reasons;
 use h2_conn::play::open_and_feed;
 use h2_conn::{Conn, ConnFault};
 use h2_frame::{Outbox, Outgoing};
-use h2_io::{DeviceFault, HexText, Output, Text, is_hex_text};
+use h2_io::{DeviceFault, HexText, Output, Text};
 use h2_request_book::book::Book;
 use h2_spec::connection::Config;
 use std::alloc::{AllocError, Global};
@@ -187,36 +185,10 @@ fn write_played<O: Output>(
     }
 }
 
-/// The octets that hex text spells; the text is given back.
-fn octets_of(
-    alloc: Global,
-    input: Vec<u8>,
-    reasons: &mut Reasons<'_>,
-) -> Result<Vec<u8>, BenchFault>
-    ensures ok { IfOk result (λ octets. octets_spelled input.items ≡ Some octets.items) }
-    ensures err { IfErr result (λ fault. IsNoHex (octets_spelled input.items) fault) }
-{
-    read_hex(alloc, input.as_slice(), reasons)
-}
-
-/// Why an input is refused whose limits or settings are out of range: it is no hex text, or it is for them. The reasons say
-/// which.
-pub fn refused_limits(config: Config, input: &[u8], reasons: &mut Reasons<'_>) -> BenchFault
-    ensures { result ≡ limits_fault (octets_spelled input.now) }
-{
-    if is_hex_text(input) {
-        say_limits(config, &mut reasons.out);
-        BenchFault::BadConfig
-    } else {
-        say_no_hex(reasons.source, input, &mut reasons.out);
-        BenchFault::BadHex
-    }
-}
-
 /// Writes what `play` prints of its input, however the octets are cut: the octets sent, and the state after all of
 /// them; or the same of each place.
 ///
-/// `BadHex` where the input is no hex text, then `BadConfig` where a limit or a setting is out of range; nothing is
+/// `BadHex` where the input gives no octets, then `BadConfig` where a limit or a setting is out of range; nothing is
 /// written then, no memory is needed, and the reasons say which. `NoMemory` where memory is refused: nothing was written, or some first
 /// places. `NotWritten` where a write failed.
 pub fn write_play<O: Output>(
@@ -228,18 +200,14 @@ pub fn write_play<O: Output>(
     reasons: &mut Reasons<'_>,
 ) -> Result<(), PrintFault>
     requires { O.has_failed output.old ≡ false }
-    ensures printed { O.has_failed output.new ≡ false → let spelled = octets_spelled input.items in
-        WritesSome (OrCutShort (places_play play.now.each book.now play.now.config spelled) (printed_play play.now.each book.now play.now.config spelled))
+    ensures printed { O.has_failed output.new ≡ false → let given = octets_of play.now.raw input.items in
+        WritesSome (OrCutShort (places_play play.now.each book.now play.now.config given) (printed_play play.now.each book.now play.now.config given))
         result (O.written output.old) (O.written output.new) }
-    ensures memory { result ≡ Err (Fault NoMemory) → (is_allowed play.now.config ≡ true) × (is_some (octets_spelled input.items) ≡ true) }
+    ensures memory { result ≡ Err (Fault NoMemory) → (is_allowed play.now.config ≡ true) × (is_some (octets_of play.now.raw input.items) ≡ true) }
     ensures flag { O.has_failed output.new ≡ not_written result }
     ensures name { O.name output.new ≡ O.name output.old }
 {
-    if !play.config.is_allowed() {
-        let fault = refused_limits(play.config, input.as_slice(), reasons);
-        return Err(PrintFault::Fault(fault));
-    }
-    match octets_of(alloc, input, reasons) {
+    match read_for(alloc, play.config, play.raw, input, reasons) {
         Ok(octets) => write_played(alloc, play, book, octets.as_slice(), output),
         Err(fault) => Err(PrintFault::Fault(fault)),
     }

@@ -149,6 +149,26 @@ fn refused_limits(line: &[u8]) -> SessionFault
     }
 }
 
+/// A debugger over octets.
+///
+/// `BadConfig` where a limit or a setting is out of range, found without memory; elsewhere `NoMemory`.
+fn load_octets<'b>(
+    book: &'b Book<Global>,
+    config: Config,
+    octets: Vec<u8>,
+) -> Result<Debugger<'b, Global>, SessionFault>
+    ensures ok { IfOk result (λ debugger. Loads book.now config (Some octets.items) debugger) }
+    ensures err { IfErr result (λ fault. fault ≡ load_fault (Some octets.items) (is_allowed config)) }
+{
+    if !config.is_allowed() {
+        return Err(SessionFault::BadConfig);
+    }
+    match Debugger::load(book, config, octets) {
+        Ok(debugger) => Ok(debugger),
+        Err(_) => Err(SessionFault::NoMemory),
+    }
+}
+
 /// A debugger over the octets that a line spells.
 ///
 /// `BadHex` where it spells none, then `BadConfig` where a limit or a setting is out of range; elsewhere `NoMemory`.
@@ -165,10 +185,7 @@ fn load<'b>(
         return Err(refused_limits(line.as_slice()));
     }
     let octets = spelled(alloc, line.as_slice())?;
-    match Debugger::load(book, config, octets) {
-        Ok(debugger) => Ok(debugger),
-        Err(_) => Err(SessionFault::NoMemory),
-    }
+    load_octets(book, config, octets)
 }
 
 /// The program `debug`: loads the octets that the first line spells in hex, answers each further line, and gives the
@@ -205,29 +222,29 @@ pub fn debug_session<I: Input, O: Output>(
     }
 }
 
-/// The same session over the octets that `line` spells in hex, which is not of the input: all lines of the input are
-/// commands, and have at most 16,777,216 octets by themselves.
+/// The same session over the octets of a peer that are not of the input: all lines of the input are commands, and have at most 16,777,216
+/// octets by themselves.
 ///
-/// The status and the faults are those of `debug_session`.
+/// The status and the faults are those of `debug_session`, but for 25.
 pub fn debug_session_over<I: Input, O: Output>(
-    alloc: Global,
     book: &Book<Global>,
     config: Config,
-    line: Vec<u8>,
+    peer: Vec<u8>,
     input: &mut I,
     output: &mut O,
 ) -> u8
     requires reader { I.has_failed input.old ≡ false }
     requires writer { O.has_failed output.old ≡ false }
     ensures printed { O.has_failed output.new ≡ false → (octets held : List ℕ) → I.remaining input.old ≡ Some octets → O.written output.old ≡ Some held
-        → (t : Printed) × IsSessionOver line.items book.now config octets (I.has_failed input.new) (I.remaining input.new) t × Prints t held (O.written output.new) result }
+        → (t : Printed) × IsSessionOver peer.items book.now config octets (I.has_failed input.new) (I.remaining input.new) t
+        × Prints t held (O.written output.new) result }
     ensures flag { O.has_failed output.new ≡ (result == 3) }
     ensures input { I.name input.new ≡ I.name input.old }
     ensures name { O.name output.new ≡ O.name output.old }
 {
     let mut reader = Reader::new();
-    let mut loaded = load(alloc, book, config, line);
-    let status = respond(&mut loaded, LineEnd::LineFeed, &mut reader, input, output);
-    drop(loaded);
+    let mut debugger = load_octets(book, config, peer);
+    let status = respond(&mut debugger, LineEnd::LineFeed, &mut reader, input, output);
+    drop(debugger);
     status
 }

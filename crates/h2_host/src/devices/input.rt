@@ -1,17 +1,15 @@
-//! Which device is the input of a command: standard input, a file that the words name, or the lines of a console; and
-//! the octets themselves or their hex.
+//! Which device is the input of a command: standard input, a file that the words name, or the lines of a console.
 
 use crate::commands::Commands;
 use crate::devices::files::{NamedFiles, STANDARD_INPUT};
 use crate::prompt::session_explainer::SessionExplainer;
 use crate::session_end::SessionEnd;
 use crate::{
-    Behind, Console, Front, Hexed, Manner, SessionState, TakenInput, WaitingInput, WaitingOutput,
-    hex_of,
+    Behind, Console, Front, Manner, SessionState, TakenInput, WaitingInput, WaitingOutput,
 };
 use h2_cmd_args::command::{Against, Batch, Check, Devices, Plan, Refusal, ServeReport};
 use h2_cmd_book_file::{Files, FilesFault};
-use h2_cmd_messages::{InputSource, TextBuilder, UNCLEAR, has_offsets, is_capture, say_no_memory};
+use h2_cmd_messages::{InputSource, TextBuilder, UNCLEAR, has_offsets, say_no_memory};
 use h2_io::MAX_INPUT;
 use h2_spec::connection::Config;
 use std::alloc::AllocError;
@@ -21,7 +19,7 @@ use std::io::{ErrorKind, Stderr, Stdin, Stdout};
 pub type Standard<'r> = WaitingOutput<'r, HostRuntime, Stdout>;
 
 /// Standard input as a command reads it.
-type StandardInput<'r> = Hexed<WaitingInput<'r, HostRuntime, Stdin>>;
+type StandardInput<'r> = WaitingInput<'r, HostRuntime, Stdin>;
 
 /// The input of a command.
 pub type CommandInput<'r, 'c, C> = TakenInput<Lines<'r, 'c, C>>;
@@ -61,20 +59,21 @@ impl<C: Commands> Given<'_, '_, C> {
         }
     }
 
-    /// Says why a session with this status did not begin, or what is strange about its octets.
+    /// Says why a session with this status did not begin, or what is strange about its octets, where it has no file.
     pub fn say_session(&self, status: u8, config: Config, out: &mut TextBuilder) {
         let taken = &self.taken;
-        if !taken.is_cut() {
-            let session = SessionEnd {
-                status,
-                config,
-                source: self.source,
-                seen: taken.seen(),
-                count: taken.count(),
-            };
-            session.say(out);
-        } else if status == 1 {
-            say_no_memory(out);
+        match self.source {
+            InputSource::File(_) => {}
+            InputSource::Input if !taken.is_cut() => {
+                let session = SessionEnd {
+                    status,
+                    config,
+                    seen: taken.seen(),
+                };
+                session.say(out);
+            }
+            InputSource::Input if status == 1 => say_no_memory(out),
+            InputSource::Input => {}
         }
     }
 }
@@ -250,27 +249,27 @@ pub fn refusal_for_devices(
     }
 }
 
-/// The path of the file that is the input: that of `--in`; of `explain` also its FILE, where it is a case, or the words say
-/// that it has the octets themselves, since the command itself reads hex. Empty where standard input, or the command itself,
-/// has the input.
+/// The path of the file that is the input: that of `--in`; of `explain` also its FILE, where that is a case, whose octets are
+/// then its input. Empty where standard input, or the command itself, has the input.
 fn file_of<'w>(
     asked: &mut Result<Plan<'w>, Refusal>,
     devices: Devices<'w>,
     is_case: bool,
 ) -> &'w str {
     match asked {
-        Ok(Plan::Explain(explain)) if explain.file != "" && (devices.raw || is_case) => {
+        Ok(Plan::Explain(explain)) if is_case => {
+            explain.raw = devices.raw;
             let file = explain.file;
             explain.file = "";
-            file
+            if file == "" { devices.file } else { file }
         }
         _ => devices.file,
     }
 }
 
 /// Standard input.
-fn standard<'r>(rt: &'r HostRuntime, is_raw: bool) -> StandardInput<'r> {
-    Hexed::new(WaitingInput::new(rt, rt.stdin()), is_raw)
+fn standard<'r>(rt: &'r HostRuntime) -> StandardInput<'r> {
+    WaitingInput::new(rt, rt.stdin())
 }
 
 /// What is read of standard input: its octets, or the lines of a console. Those of a session over a file are commands
@@ -283,7 +282,7 @@ fn behind<'r, 'c, C: Commands>(
     state: &'c SessionState,
 ) -> Lines<'r, 'c, C> {
     if devices.prompt == "" {
-        return Behind::Plain(standard(rt, devices.raw && octets.is_none()));
+        return Behind::Plain(standard(rt));
     }
     let manner = Manner {
         has_prompt: devices.prompt == "line",
@@ -294,7 +293,7 @@ fn behind<'r, 'c, C: Commands>(
     };
     Behind::Console(Console::new(
         rt.alloc(),
-        standard(rt, false),
+        standard(rt),
         rt.stdout(),
         rt.stderr(),
         manner,
@@ -313,25 +312,10 @@ pub fn read_file(rt: &HostRuntime, path: &str, most: usize) -> Result<Vec<u8>, E
     }
 }
 
-/// The text of a file: as it is, or the hex of its octets. A capture stays as it is, and so is refused as no hex.
-fn text_of(rt: &HostRuntime, path: &str, is_raw: bool) -> Result<Vec<u8>, ErrorKind> {
-    if !is_raw {
-        return read_file(rt, path, MAX_INPUT);
-    }
-    let octets = read_file(rt, path, MAX_INPUT / 2)?;
-    if is_capture(octets.as_slice()) {
-        return Ok(octets);
-    }
-    match hex_of(rt.alloc(), octets.as_slice()) {
-        Ok(text) => Ok(text),
-        Err(_) => Err(ErrorKind::OutOfMemory),
-    }
-}
-
-/// What `explain` or a session is given of a text. One with offsets is a dump whose octets are not clear, since a dump that
+/// What `explain` or a session is given of a text. Hex with offsets is a dump whose octets are not clear, since a dump that
 /// is read has none any more.
-fn clear_text(rt: &HostRuntime, text: Vec<u8>) -> Result<Vec<u8>, AllocError> {
-    if has_offsets(text.as_slice()) {
+fn clear_text(rt: &HostRuntime, raw: bool, text: Vec<u8>) -> Result<Vec<u8>, AllocError> {
+    if !raw && has_offsets(text.as_slice()) {
         UNCLEAR.to_vec(rt.alloc())
     } else {
         Ok(text)
@@ -341,17 +325,16 @@ fn clear_text(rt: &HostRuntime, text: Vec<u8>) -> Result<Vec<u8>, AllocError> {
 /// What a session is given of a file: its text; and that once more, where a person or a program may ask what it means.
 fn session_front(
     rt: &HostRuntime,
-    has_prompt: bool,
+    devices: Devices<'_>,
     text: Vec<u8>,
 ) -> Result<(Front, Vec<u8>), AllocError> {
-    let text = clear_text(rt, text)?;
-    let octets = if has_prompt {
+    let text = clear_text(rt, devices.raw, text)?;
+    let octets = if devices.prompt != "" {
         text.as_slice().to_vec(rt.alloc())?
     } else {
         Vec::new(rt.alloc())
     };
     let front = Front {
-        seen: text.as_slice().to_vec(rt.alloc())?,
         reads_on: true,
         ..Front::of(text)
     };
@@ -362,13 +345,13 @@ fn session_front(
 fn front_over(
     rt: &HostRuntime,
     asked: &Result<Plan<'_>, Refusal>,
-    has_prompt: bool,
+    devices: Devices<'_>,
     text: Vec<u8>,
 ) -> Result<(Front, Vec<u8>), AllocError> {
     let none = Vec::new(rt.alloc());
     match asked {
-        Ok(Plan::Debug(_)) => session_front(rt, has_prompt, text),
-        Ok(Plan::Explain(_)) => Ok((Front::of(clear_text(rt, text)?), none)),
+        Ok(Plan::Debug(_)) => session_front(rt, devices, text),
+        Ok(Plan::Explain(_)) => Ok((Front::of(clear_text(rt, devices.raw, text)?), none)),
         _ => Ok((Front::of(text), none)),
     }
 }
@@ -383,13 +366,13 @@ fn front_of(
 ) -> (Front, Vec<u8>) {
     let read = match case {
         Some(read) => read,
-        None => text_of(rt, path, devices.raw),
+        None => read_file(rt, path, MAX_INPUT),
     };
     let text = match read {
         Ok(text) => text,
         Err(kind) => return (Front::unread(rt.alloc(), kind), Vec::new(rt.alloc())),
     };
-    match front_over(rt, asked, devices.prompt != "", text) {
+    match front_over(rt, asked, devices, text) {
         Ok(front) => front,
         Err(_) => (
             Front::unread(rt.alloc(), ErrorKind::OutOfMemory),
@@ -416,7 +399,7 @@ pub fn input_of<'r, 'c, 'w: 'c, C: Commands>(
     state: &'c SessionState,
 ) -> Given<'r, 'c, C> {
     let path = file_of(asked, devices, case.is_some());
-    let explainer = SessionExplainer::new(rt, commands, asked);
+    let explainer = SessionExplainer::new(rt, commands, asked, devices.raw);
     if path == "" && case.is_none() {
         let behind = behind(rt, devices, None, explainer, state);
         return Given {

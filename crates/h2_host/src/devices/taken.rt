@@ -13,8 +13,6 @@ use std::{io, mem};
 pub struct Front {
     /// What is given of it.
     pub text: Vec<u8>,
-    /// What a session is given of it.
-    pub seen: Vec<u8>,
     /// Why the file was not read, where it was not.
     pub failure: Option<ErrorKind>,
     /// Whether the reader is read.
@@ -36,7 +34,6 @@ impl Front {
     /// A text alone.
     pub fn of(text: Vec<u8>) -> Front {
         Front {
-            seen: Vec::new(*text.allocator()),
             text,
             failure: None,
             reads_on: false,
@@ -62,7 +59,7 @@ pub struct TakenInput<R> {
     reader: R,
     /// Whether the reader is read after what is given first.
     reads_on: bool,
-    /// What a session was given: the text of the file, or of the reader where there is no file.
+    /// What the reader gave a session, where there is no file.
     seen: Vec<u8>,
     /// Whether the reader's text is kept there.
     keeps: bool,
@@ -84,11 +81,11 @@ impl<R: Read> TakenInput<R> {
         TakenInput {
             keeps: front.keeps,
             count: 0,
+            seen: Vec::new(*front.text.allocator()),
             front: front.text,
             given: 0,
             reader,
             reads_on: front.reads_on,
-            seen: front.seen,
             is_reader_failure: false,
             is_cut: false,
             unread: front.failure,
@@ -96,13 +93,13 @@ impl<R: Read> TakenInput<R> {
         }
     }
 
-    /// What a session was given.
+    /// What standard input gave a session that has no file.
     pub fn seen(&self) -> &[u8] {
         self.seen.as_slice()
     }
 
-    /// The octets of a session in hex, where a file gave them, and the reader gives commands alone.
-    pub fn take_line(&mut self) -> Option<Vec<u8>> {
+    /// The text of a session's octets, where a file gave it, and the reader gives commands alone.
+    pub fn take_text(&mut self) -> Option<Vec<u8>> {
         if self.keeps || !self.reads_on {
             return None;
         }

@@ -72,7 +72,7 @@ impl Held {
 
 /// What explains octets, once a session is asked for it.
 pub trait OctetsExplainer {
-    /// What `explain` prints of a text of hex.
+    /// What `explain` prints of the octets of a text.
     fn explain(&self, alloc: Global, text: &[u8]) -> Result<Vec<u8>, AllocError>;
 }
 
@@ -88,7 +88,7 @@ pub struct Console<'c, R, O, E, X> {
     has_dots: bool,
     /// Whether the next line is the octets, which are given as they are.
     is_first: bool,
-    /// The octets in hex: those of a file, or of the first line.
+    /// The text of the octets: that of a file, or the first line.
     octets: Vec<u8>,
     /// Whether memory for them was refused.
     is_cut: bool,
@@ -119,7 +119,7 @@ pub struct Manner<X> {
     pub has_dots: bool,
     /// Whether the first line has the octets; else they are those of a file.
     pub has_first: bool,
-    /// The octets of the file, in hex.
+    /// The text of the file's octets.
     pub octets: Vec<u8>,
     pub explainer: X,
 }

@@ -13,6 +13,8 @@ pub struct SessionExplainer<'r, 'c, C> {
     commands: &'r C,
     /// The words of the session; of another command there are none.
     words: Option<Debug<'c>>,
+    /// Whether its octets are given as they are, not as hex.
+    raw: bool,
 }
 
 impl<'r, 'c, C> Drop for SessionExplainer<'r, 'c, C> {
@@ -21,6 +23,7 @@ impl<'r, 'c, C> Drop for SessionExplainer<'r, 'c, C> {
             rt: _,
             commands: _,
             words: _,
+            raw: _,
         } = self;
     }
 }
@@ -41,11 +44,12 @@ fn words_of<'c>(alloc: Global, debug: &Debug<'c>) -> Result<Debug<'c>, AllocErro
     Ok(Debug {
         config: debug.config,
         book,
+        input: debug.input,
     })
 }
 
 /// `explain` with the limits, the settings and the book of a session.
-fn plan_of<'c>(alloc: Global, words: &Debug<'c>) -> Result<Plan<'c>, AllocError> {
+fn plan_of<'c>(alloc: Global, words: &Debug<'c>, raw: bool) -> Result<Plan<'c>, AllocError> {
     let book = book_of(alloc, words)?;
     Ok(Plan::Explain(Explain {
         config: words.config,
@@ -56,6 +60,7 @@ fn plan_of<'c>(alloc: Global, words: &Debug<'c>) -> Result<Plan<'c>, AllocError>
         brief: false,
         errors: false,
         stream: None,
+        raw,
         file: "",
         book,
         input: "",
@@ -74,6 +79,7 @@ impl<'r, 'c, C: Commands> SessionExplainer<'r, 'c, C> {
         rt: &'r HostRuntime,
         commands: &'r C,
         asked: &mut Result<Plan<'c>, Refusal>,
+        raw: bool,
     ) -> SessionExplainer<'r, 'c, C> {
         let words = match asked {
             Ok(Plan::Debug(debug)) => words_of(rt.alloc(), debug).ok(),
@@ -81,6 +87,7 @@ impl<'r, 'c, C: Commands> SessionExplainer<'r, 'c, C> {
                 rt,
                 commands,
                 words: None,
+                raw,
             },
         };
         if words.is_none() {
@@ -90,6 +97,7 @@ impl<'r, 'c, C: Commands> SessionExplainer<'r, 'c, C> {
             rt,
             commands,
             words,
+            raw,
         }
     }
 }
@@ -99,7 +107,7 @@ impl<C: Commands> OctetsExplainer for SessionExplainer<'_, '_, C> {
         let Some(words) = &self.words else {
             return Ok(Vec::new(alloc));
         };
-        let asked: Result<Plan<'_>, Refusal> = Ok(plan_of(alloc, words)?);
+        let asked: Result<Plan<'_>, Refusal> = Ok(plan_of(alloc, words, self.raw)?);
         let mut files = NamedFiles { rt: self.rt };
         let mut input = text;
         let mut output = Gathered::new(alloc);

@@ -81,7 +81,7 @@ pub fn explain_over<'b, O: Output, K: Keeper, S: Wire>(
     let Ok(explanation) = RunExplainer::new(alloc, form) else {
         return Err(ServeFault::NoMemory);
     };
-    let printer = Printer::new(output, prefix, form.json);
+    let printer = Printer::new(alloc, output, prefix, form.json);
     let mut watched = ExplainedConn {
         alloc,
         conn,

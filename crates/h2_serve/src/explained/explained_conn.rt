@@ -89,7 +89,7 @@ impl<'b, O: Output, K: Keeper> Driven<ItemOutbox<'b, Global>> for ExplainedConn<
             &mut text,
             self.keeper,
         );
-        self.printer.print_gathered(self.alloc, &text);
+        self.printer.print_gathered(&text);
         match fed {
             Ok(()) => Ok(()),
             Err(_) => {
@@ -153,7 +153,7 @@ impl<'b, 'o, O: Output, K: Keeper> ExplainedConn<'b, 'o, O, K> {
         }
         let mut text = Gathered::new(self.alloc);
         let ended = self.explanation.end(self.alloc, &self.conn, &mut text);
-        self.printer.print_gathered(self.alloc, &text);
+        self.printer.print_gathered(&text);
         Conclusion {
             is_cut: ended.is_err(),
             summary: Some(self.explanation.summary(&self.conn)),

@@ -130,6 +130,8 @@ pub(crate) struct Printer<'o, O> {
     /// What each line begins with.
     prefix: Vec<u8>,
     json: bool,
+    /// The lines of the last text, whose memory the next one takes.
+    lines: Vec<u8>,
     /// Whether a line begins.
     fresh: bool,
     fault: Option<TextFault>,
@@ -137,7 +139,12 @@ pub(crate) struct Printer<'o, O> {
 
 impl<'o, O: Output> Printer<'o, O> {
     /// A printer to this output that has printed nothing.
-    pub(crate) fn new(output: &'o mut O, prefix: Vec<u8>, json: bool) -> Printer<'o, O>
+    pub(crate) fn new(
+        alloc: Global,
+        output: &'o mut O,
+        prefix: Vec<u8>,
+        json: bool,
+    ) -> Printer<'o, O>
         ensures lines { (result.prefix ≡ prefix) × (result.json ≡ json) × (result.fresh ≡ true) × (result.fault ≡ None) }
         ensures output { result.output.now ≡ output.entry.now }
         ensures same_reference { result.output.ghost_name ≡ output.entry.ghost_name }
@@ -146,6 +153,7 @@ impl<'o, O: Output> Printer<'o, O> {
             output,
             prefix,
             json,
+            lines: Vec::new(alloc),
             fresh: true,
             fault: None,
         }
@@ -161,7 +169,7 @@ impl<'o, O: Output> Printer<'o, O> {
     }
 
     /// Prints a text, each line after the prefix.
-    pub(crate) fn print(&mut self, alloc: Global, text: &[u8])
+    pub(crate) fn print(&mut self, text: &[u8])
         requires flag { O.has_failed self.old.output.now ≡ failed_by self.old.fault }
         ensures flag { O.has_failed self.new.output.now ≡ failed_by self.new.fault }
         ensures grows { Grows self.old.fault self.new.fault (O.written self.old.output.now) (O.written self.new.output.now) }
@@ -173,21 +181,21 @@ impl<'o, O: Output> Printer<'o, O> {
         if self.fault.is_some() {
             return;
         }
-        let mut lines = Vec::new(alloc);
+        self.lines.clear();
         match put_text(
             self.prefix.as_slice(),
             self.json,
             &mut self.fresh,
             text,
-            &mut lines,
+            &mut self.lines,
         ) {
-            Ok(()) => self.fault = write_now(self.output, lines.as_slice()),
+            Ok(()) => self.fault = write_now(self.output, self.lines.as_slice()),
             Err(_) => self.fault = Some(TextFault::NoMemory),
         }
     }
 
     /// Prints what was gathered, each line after the prefix; nothing where memory for some of it was refused.
-    pub(crate) fn print_gathered(&mut self, alloc: Global, text: &Gathered)
+    pub(crate) fn print_gathered(&mut self, text: &Gathered)
         requires flag { O.has_failed self.old.output.now ≡ failed_by self.old.fault }
         ensures flag { O.has_failed self.new.output.now ≡ failed_by self.new.fault }
         ensures grows { Grows self.old.fault self.new.fault (O.written self.old.output.now) (O.written self.new.output.now) }
@@ -199,6 +207,6 @@ impl<'o, O: Output> Printer<'o, O> {
         if text.failed {
             return;
         }
-        self.print(alloc, text.octets.as_slice());
+        self.print(text.octets.as_slice());
     }
 }

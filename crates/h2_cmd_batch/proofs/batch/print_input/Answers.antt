@@ -16,5 +16,5 @@ returns-in-Asm-clause-printed g c = λ well held is.
 pub returns-in-Dis-clause-printed : goal.returns-in-Dis-clause-printed
 returns-in-Dis-clause-printed g c = λ well held is.
     let such = subst (λ (b : Batch). OrCutShort (places c.args.book.now (batch_asked b) c.args.input.items) (printed c.args.book.now (batch_asked b) c.args.input.items) (seen c.whole-report.result)) (sym c.in-Dis.is)
-    (given c.whole-report.result _ _ (c.whole-report.ensures _ (rw c.as_slice-in-Dis.ensures.value at c.dis_text.ensures))) in
+    (given c.whole-report.result _ _ (c.whole-report.ensures _ c.dis_text.ensures)) in
     (seen c.whole-report.result, such, c.print_report-in-Dis.ensures.printed well held is)

@@ -69,22 +69,22 @@ returns-clause-debugs g c = λ config book planned.
     c.run_on-status.result c.run_on-status.new.output.failed c.run_on-status.new.input.failed _
     (search rules) (search rules) (search rules) (search rules) c.run_on-status.ensures.flag refl (c.run_on-status.ensures.debugs config book planned (inr refl))
 
-explained-or-three : (form : Form) (config : Config) (file : List ℕ) (book : BookAsked) (input input' before before' after after' : Option (List ℕ)) (status : ℕ) (broken input_failed b : Bool)
+explained-or-three : (form : Form) (raw : Bool) (config : Config) (file : List ℕ) (book : BookAsked) (input input' before before' after after' : Option (List ℕ)) (status : ℕ) (broken input_failed b : Bool)
     → input ≡ input' → before ≡ before' → after ≡ after' → broken ≡ (status == 3) → (status == 3) ≡ b
-    → (broken ≡ false → EndsExplain form no_files config file book input input_failed before after status)
-    → (status ≡ 3) ⊎ ((failed : Bool) × EndsExplain form no_files config file book input' failed before' after' status)
-explained-or-three form config file book input input' before before' after after' status broken input_failed true i w o flag e printed = inl (eqb-true status 3 e)
-explained-or-three form config file book input input' before before' after after' status broken input_failed false i w o flag e printed =
+    → (broken ≡ false → EndsExplain form raw no_files config file book input input_failed before after status)
+    → (status ≡ 3) ⊎ ((failed : Bool) × EndsExplain form raw no_files config file book input' failed before' after' status)
+explained-or-three form raw config file book input input' before before' after after' status broken input_failed true i w o flag e printed = inl (eqb-true status 3 e)
+explained-or-three form raw config file book input input' before before' after after' status broken input_failed false i w o flag e printed =
     inr (input_failed, rw (← i, ← w, ← o) (printed (flag ∙ e)))
 
 pub returns-clause-explains : goal.returns-clause-explains
-returns-clause-explains g c = λ config view file book planned.
+returns-clause-explains g c = λ config view raw file book planned.
     let from = c.into_inner-reader.ensures.same_reference ∙ c.run_on-status.ensures.input ∙ c.new-from.ensures.same_reference in
     let into = c.into_inner-writer.ensures.same_reference ∙ c.run_on-status.ensures.name ∙ c.new-into.ensures.same_reference in
-    explained-or-three (form_of view) config file book (g.R.Read.remaining c.new-from.result.inner.now) (g.R.Read.remaining c.args.input.now)
+    explained-or-three (form_of view) raw config file book (g.R.Read.remaining c.new-from.result.inner.now) (g.R.Read.remaining c.args.input.now)
     (g.W.Write.contents c.new-into.result.inner.now) (g.W.Write.contents c.args.output.now) (g.W.Write.contents c.run_on-status.new.output.inner.now) _
     c.run_on-status.result c.run_on-status.new.output.failed c.run_on-status.new.input.failed _
-    (search rules) (search rules) (search rules) c.run_on-status.ensures.flag refl (c.run_on-status.ensures.explains config view file book planned (inr refl) (inr refl))
+    (search rules) (search rules) (search rules) c.run_on-status.ensures.flag refl (c.run_on-status.ensures.explains config view raw file book planned (inr refl) (inr refl))
 
 checked-or-three : (config : Config) (book : BookAsked) (names : List (List ℕ)) (before before' after after' : Option (List ℕ)) (status : ℕ) (broken b : Bool)
     → before ≡ before' → after ≡ after' → broken ≡ (status == 3) → (status == 3) ≡ b

@@ -18,8 +18,8 @@ returns-clause-debugs g c = λ config book words file well. elim (parsed _ c.par
 ]
 
 pub returns-clause-explains : goal.returns-clause-explains
-returns-clause-explains g c = λ config view file book words bookfile textfile well. elim (parsed _ c.parse-asked.result c.parse-asked.ensures.ok c.parse-asked.ensures.refused) [
-  | inl same ↦ c.carry_out.ensures.explains config view file book (same ∙ words) bookfile textfile well
+returns-clause-explains g c = λ config view raw file book words bookfile textfile well. elim (parsed _ c.parse-asked.result c.parse-asked.ensures.ok c.parse-asked.ensures.refused) [
+  | inl same ↦ c.carry_out.ensures.explains config view raw file book (same ∙ words) bookfile textfile well
   | inr memory ↦ let unread = (rw memory at c.carry_out.ensures.unread) refl in
       prints-other _ _ _ _ _ (λ t e. inl (inl e, unread.1)) ((rw memory at c.carry_out.ensures.refused) well)
 ]

@@ -13,9 +13,9 @@ pub returns-clause-debugs : goal.returns-clause-debugs
 returns-clause-debugs c = λ config book words. session-whole _ config book _ _ _ _ (rw c.new-output.ensures.0 at (c.run_on-status.ensures.debugs config book words (inr refl) c.if-output.false))
 
 pub returns-clause-explains : goal.returns-clause-explains
-returns-clause-explains c = λ config view file book words.
-    printed-such (λ (t : Printed). IsExplained (form_of view) (file_in c.args.files.now) config file book (Some c.args.input.now) false t) _ _
-    (rw c.new-output.ensures.0 at (c.run_on-status.ensures.explains config view file book words (inr refl) (inr refl) c.if-output.false))
+returns-clause-explains c = λ config view raw file book words.
+    printed-such (λ (t : Printed). IsExplained (form_of view) raw (file_in c.args.files.now) config file book (Some c.args.input.now) false t) _ _
+    (rw c.new-output.ensures.0 at (c.run_on-status.ensures.explains config view raw file book words (inr refl) (inr refl) c.if-output.false))
 
 pub returns-clause-checks : goal.returns-clause-checks
 returns-clause-checks c = λ config book in_place names words.
