@@ -5,7 +5,7 @@ ghost use Rattle.std.specs.Prelude.{◌≡◌, ◌++◌, ℕ, List, codes, lengt
 ghost use Rattle.std.specs.String.{string_bytes};
 ghost use Rattle.h2_explain_text.specs.Why.{head_line};
 ghost use Rattle.h2_explain_words.specs.Sent.{first_seen};
-ghost use Rattle.h2_cmd_inject.specs.Asides.{ArePartLines, IsFrameLine, frames_in, unjudged_line, unjudged_lines, without_end};
+ghost use Rattle.h2_cmd_inject.specs.Asides.{ArePartLines, IsFrameLine, frame_line, frames_in, unjudged_line, unjudged_lines, without_end};
 ghost use Rattle.h2_cmd_inject.specs.Results.{AppendsOne, AppendsSome};
 
 use h2_cmd_dialogue::weave::Parts;

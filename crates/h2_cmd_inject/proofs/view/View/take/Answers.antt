@@ -33,7 +33,7 @@ returns-clause-taken g c =
         since_is = c.in_ok-show.ensures.since;
         tally_is = c.in_ok-show.ensures.tally;
         items_are = number;
-        offset_is = c.saturating_add.ensures ∙ ap (λ (n : ℕ). sum_of n o.taken.used) c.show.ensures.counts.1 ∙ ap (sum_of v.offset) (sym used);
+        offset_is = c.saturating_add-self.ensures ∙ ap (λ (n : ℕ). sum_of n o.taken.used) c.show.ensures.counts.1 ∙ ap (sum_of v.offset) (sym used);
       };
       shown = text.1;
     }, text.2)

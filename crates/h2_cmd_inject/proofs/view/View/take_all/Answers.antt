@@ -19,6 +19,14 @@ loop-used-smaller g c =
         c.take.new.out.items c.in-Some.used c.loop-used.invariant.within one in
     omega (arith, within.0, within.1)
 
+pub overflow_add-at : goal.overflow_add-at
+overflow_add-at g c =
+    let v = c.loop-used.self in
+    let one = rw (c.octets_from.ensures, c.in-Some.is) at c.in_ok-used.ensures.taken in
+    let within = takes-within c.args.form c.args.steps.now v.opening (viewing_of v) (viewing_of c.take.new.self) c.args.octets.now c.loop-used.at c.loop-used.out.items
+        c.take.new.out.items c.in-Some.used c.loop-used.invariant.within one in
+    omega (arith, within.1)
+
 pub loop-used-preserved : goal.loop-used-preserved
 loop-used-preserved g c =
     let v = c.loop-used.self in
