@@ -1,5 +1,4 @@
-use Rattle.std.proofs.Common.{◌≡◌, ◌∙◌, ℕ, List, ap, length, subst, sym}
-use Rattle.h2_explain.specs.Explains.{summary_since}
+use Rattle.std.proofs.Common.{◌∙◌, ℕ, List, ap}
 use Rattle.h2_serve.specs.Numbered.{prefix_of, prefixed}
 use Rattle.h2_cmd_inject.proofs.ViewLaws.{view-whole}
 use Rattle.h2_cmd_inject.specs.Views.{viewing_of}
@@ -14,5 +13,5 @@ returns g c =
     let is = view-whole form c.args.steps.now c.args.conn.state c.args.octets.now (viewing_of v) (viewing_of w) v.opening w.opening _ c.octets_from-rest.result.now
         c.new-text.result.items c.put_opening.new.out.items c.take_all.new.out.items text c.summary_since-summary.result c.new-text.ensures.items c.in_ok-view.ensures.view
         c.in_ok-view.ensures.opening c.in_ok-used.ensures.opening c.octets_from-rest.ensures c.in_ok-put_opening.ensures c.in_ok-used.ensures.taken c.in_ok-end.ensures
-        (c.summary_since-summary.ensures ∙ ap (summary_since w.since w.tally w.conn.state w.items) c.len-left.ensures) in
+        c.summary_since-summary.ensures in
     (text, is, c.in_ok-shown.ensures ∙ ap (prefixed (prefix_of form.json c.args.number) form.json _) c.as_slice.ensures.value)
