@@ -1,10 +1,10 @@
 -- Lines below an item, one after another.
-use Rattle.std.proofs.Common.{◌≡◌, ◌∙◌, ℕ, zero, suc, ◌+◌, ◌-◌, ◌<◌, ◌≤◌, Bool, true, false, List, [], ◌∷◌, ◌++◌, Option, Some, None, Result, OnOk, ap, arith, codes, length, refl, subst, sym}
+use Rattle.std.proofs.Common.{◌≡◌, ◌∙◌, ℕ, zero, suc, ◌+◌, ◌-◌, ◌<◌, ◌≤◌, Bool, true, false, List, [], ◌∷◌, ◌++◌, Option, Some, None, Result, OnOk, ap, arith, codes, refl, subst, sym}
 use Rattle.std.proofs.lemmas.List.{append_assoc, append-nil}
 use Rattle.std.proofs.lemmas.Result.{on_ok_weaker}
 use Rattle.h2_cmd_dialogue.specs.Woven.{Parts}
 use Rattle.h2_cmd_inject.proofs.ResultLaws.{Would, would-end, would-next}
-use Rattle.h2_cmd_inject.specs.Asides.{AreFrameLines, ArePartLines, IsFrameLine, frames_if, frames_in, unjudged_lines}
+use Rattle.h2_cmd_inject.specs.Asides.{AreFrameLines, ArePartLines, frames_if, frames_in, unjudged_lines}
 use Rattle.h2_cmd_inject.specs.Results.{AppendsOne, AppendsSome}
 use Rattle.h2_cmd_inject.specs.Views.{AreOpeningLines, IsBelow}
 use Rattle.h2_explain_item.specs.declared.item.Explained.{Explained}

@@ -18,9 +18,7 @@ use Rattle.h2_explain_item.specs.declared.notes.StreamNote.{StreamNote}
 use Rattle.h2_explain_step.specs.Account.{ListsChanges}
 use Rattle.h2_explain_step.specs.Explained.{IsItemOf, IsTextWith}
 use Rattle.h2_explain_step.proofs.Taken.{item-uses}
-use Rattle.h2_spec.specs.Frames.Parse.{Stop}
 use Rattle.h2_spec.specs.State.{State}
-use Rattle.h2_spec.specs.Trace.{next_event}
 
 -- ---- one item
 
@@ -101,9 +99,11 @@ end-json form opening v left text old new so is put = (text, subst (λ (b : Bool
 pub end-text : (form : Form) (opening : Parts) (v : Viewing) (left : ℕ) (text old mid new : List ℕ) → form.json ≡ false
     → IsRestText v.since form v.state v.items v.tally left text → mid ≡ old ++ text → AppendsOne (AreOpeningLines form.color (is_opening form v.items) opening) mid new
     → AppendsOne (IsEnd form opening v left) old new
-end-text form opening v left text old mid new so is put below =
-    (text ++ below.0, subst (λ (b : Bool). IsEndIf b (is_opening form v.items) form opening v left (text ++ below.0)) (sym so) (text, below.0, is, below.1, refl),
-    below.2 ∙ ap (λ (k : List ℕ). k ++ below.0) put ∙ append_assoc old text below.0)
+end-text form opening v left text old mid new so is put below = (
+  text ++ below.0,
+  subst (λ (b : Bool). IsEndIf b (is_opening form v.items) form opening v left (text ++ below.0)) (sym so) (text, below.0, is, below.1, refl),
+  below.2 ∙ ap (λ (k : List ℕ). k ++ below.0) put ∙ append_assoc old text below.0,
+)
 
 -- ---- a view
 

@@ -1,4 +1,4 @@
-use Rattle.std.proofs.Common.{◌≡◌, ◌++◌, ℕ, List, Option, Some, ap, subst, sym}
+use Rattle.std.proofs.Common.{◌++◌, ℕ, List, Option, ap, subst, sym}
 use Rattle.h2_cmd_inject.specs.Founds.{AreSeen, IsSeen}
 use Rattle.h2_conn.specs.Connection.{Connection}
 use Rattle.h2_explain.specs.declared.run.Form.{Form}

@@ -11,7 +11,7 @@ returns g c =
     let w = c.take_all.new.self in
     let text : List ℕ = c.end.new.out.items in
     let is = view-whole form c.args.steps.now c.args.conn.state c.args.octets.now (viewing_of v) (viewing_of w) v.opening w.opening _ c.octets_from-rest.result.now
-        c.new-text.result.items c.put_opening.new.out.items c.take_all.new.out.items text c.summary_since-summary.result c.new-text.ensures.items c.in_ok-view.ensures.view
-        c.in_ok-view.ensures.opening c.in_ok-used.ensures.opening c.octets_from-rest.ensures c.in_ok-put_opening.ensures c.in_ok-used.ensures.taken c.in_ok-end.ensures
-        c.summary_since-summary.ensures in
+    c.new-text.result.items c.put_opening.new.out.items c.take_all.new.out.items text c.summary_since-summary.result c.new-text.ensures.items c.in_ok-view.ensures.view
+    c.in_ok-view.ensures.opening c.in_ok-used.ensures.opening c.octets_from-rest.ensures c.in_ok-put_opening.ensures c.in_ok-used.ensures.taken c.in_ok-end.ensures
+    c.summary_since-summary.ensures in
     (text, is, c.in_ok-shown.ensures ∙ ap (prefixed (prefix_of form.json c.args.number) form.json _) c.as_slice.ensures.value)

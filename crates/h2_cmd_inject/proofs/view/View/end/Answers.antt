@@ -1,7 +1,6 @@
 use Rattle.std.proofs.Common.{◌≡◌, ◌∙◌, ◌++◌, ℕ, List, ap, length}
 use Rattle.std.proofs.lemmas.Result.{on_ok_weaker}
 use Rattle.std.specs.String.{string_bytes}
-use Rattle.h2_explain.specs.Explains.{IsRestText}
 use Rattle.h2_explain_text.specs.declared.rest.InputRest.{InputRest}
 use Rattle.h2_cmd_inject.proofs.ViewLaws.{end-json, end-text}
 use Rattle.h2_cmd_inject.specs.Views.{viewing_of}

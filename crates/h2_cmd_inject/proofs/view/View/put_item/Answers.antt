@@ -16,7 +16,7 @@ returns-clause-text c =
     let old : List ℕ = c.args.out.now.items in
     let sent = c.as_slice-sent.ensures.value ∙ ap (λ (p : Parts). p.sent) c.parts.view_is in
     let of = subst (λ (s : List ℕ). IsItemOf (judged_of v.since x) x.number x.offset x.ahead.now s y) sent
-        (subst (λ (o : Observed). IsItemOf o x.number x.offset x.ahead.now c.as_slice-sent.result.now y) c.judged-observed.ensures c.item-shown.ensures) in
+    (subst (λ (o : Observed). IsItemOf o x.number x.offset x.ahead.now c.as_slice-sent.result.now y) c.judged-observed.ensures c.item-shown.ensures) in
     let own : List ℕ = c.put_text.new.lines in
     on_ok_weaker c.put_aside.result
     (item-put (shows_item c.args.form x v.account.warnings) c.args.form (is_opening c.args.form v.items) v.opening v.since c.args.parts.now x y v.account.changes.items

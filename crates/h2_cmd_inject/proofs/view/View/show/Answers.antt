@@ -25,7 +25,7 @@ returns-clause-text g c =
     let changes = ap (λ (k : View). k.account.changes.items) fit ∙ ap (λ (k : View). k.account.changes.items) judge in
     let weaver = ap (λ (k : View). k.weaver) fit ∙ ap (λ (k : View). k.weaver) judge in
     let parts : c.in_ok-parts.parts ≡ item_parts c.args.steps.now v.weaver x = c.in_ok-parts.ensures.parts
-        ∙ ap (λ (w : Weaving). parts_of c.args.steps.now w (incoming_of c.incoming.result) x.sent.now) weaver ∙ ap (λ (i : Incoming). parts_of c.args.steps.now v.weaver i x.sent.now) c.incoming.ensures in
+    ∙ ap (λ (w : Weaving). parts_of c.args.steps.now w (incoming_of c.incoming.result) x.sent.now) weaver ∙ ap (λ (i : Incoming). parts_of c.args.steps.now v.weaver i x.sent.now) c.incoming.ensures in
     item-viewed c.args.form v.conn.state (is_opening c.args.form v.items) v.opening v.since (item_parts c.args.steps.now v.weaver x) x _ _ a.facts a.warnings
     c.fit.new.self.account.warnings a.changes.items c.args.out.now.items c.put_item.new.out.items c.in_ok-account.ensures.changes c.in_ok-account.ensures.warnings
     (λ (none : v.since ≡ None). ap (λ (k : View). k.account.warnings) fit ∙ ap (λ k. k.warnings) (c.judge.ensures.warnings none))

@@ -16,7 +16,7 @@ loop-used-smaller g c =
     let v = c.loop-used.self in
     let one = rw (c.octets_from.ensures, c.in-Some.is) at c.in_ok-used.ensures.taken in
     let within = takes-within c.args.form c.args.steps.now v.opening (viewing_of v) (viewing_of c.take.new.self) c.args.octets.now c.loop-used.at c.loop-used.out.items
-        c.take.new.out.items c.in-Some.used c.loop-used.invariant.within one in
+    c.take.new.out.items c.in-Some.used c.loop-used.invariant.within one in
     omega (arith, within.0, within.1)
 
 pub overflow_add-at : goal.overflow_add-at
@@ -24,7 +24,7 @@ overflow_add-at g c =
     let v = c.loop-used.self in
     let one = rw (c.octets_from.ensures, c.in-Some.is) at c.in_ok-used.ensures.taken in
     let within = takes-within c.args.form c.args.steps.now v.opening (viewing_of v) (viewing_of c.take.new.self) c.args.octets.now c.loop-used.at c.loop-used.out.items
-        c.take.new.out.items c.in-Some.used c.loop-used.invariant.within one in
+    c.take.new.out.items c.in-Some.used c.loop-used.invariant.within one in
     omega (arith, within.1)
 
 pub loop-used-preserved : goal.loop-used-preserved
@@ -33,7 +33,7 @@ loop-used-preserved g c =
     let i = c.loop-used.invariant in
     let one = rw (c.octets_from.ensures, c.in-Some.is) at c.in_ok-used.ensures.taken in
     let within = takes-within c.args.form c.args.steps.now v.opening (viewing_of v) (viewing_of c.take.new.self) c.args.octets.now c.loop-used.at c.loop-used.out.items
-        c.take.new.out.items c.in-Some.used i.within one in
+    c.take.new.out.items c.in-Some.used i.within one in
     record {
       ready = c.in_ok-used.ensures.ready;
       within = within.1;
