@@ -21,6 +21,7 @@ use Rattle.h2_explain_words.specs.Sent.{FirstFrame, first_frame}
 use Rattle.h2_spec.specs.State.{State}
 use Rattle.h2_spec.specs.Stream.{stream_at}
 use Rattle.h2_spec.specs.Hpack.Field.{Field}
+use Rattle.h2_explain_item.specs.FollowedTable.{Following, TableFollowed, begun, block_followed, following}
 use Rattle.h2_explain_item.specs.Item.{frame_in, head_in, part_in}
 use Rattle.h2_explain_item.specs.ShownBlock.{BlocksRead, read_on, unread}
 use Rattle.h2_explain_item.specs.Notes.{AreNotes, block_end_after, note_of, with_later_note, with_note}
@@ -144,6 +145,38 @@ begun_by x begun = begun_after begun x.number x.before.block x.what
 abbrev pub ended_with : (begun number : ℕ) → Option BlockView → Option Head → ℕ
 ended_with begun number block None = number
 ended_with begun number block (Some h) = if is_of_block block h then begun else number
+
+-- ---- the header table of the client
+
+-- a block begins where none is open
+abbrev pub table_begun : Option BlockView → TableFollowed → TableFollowed
+table_begun None f = begun f
+table_begun (Some block) f = f
+
+-- nothing is listed once the connection has ended
+abbrev pub listed_unless : (is_ended : Bool) → Following → Following
+listed_unless true w = record w { listed = [] }
+listed_unless false w = w
+
+-- the table followed over what a frame has of a block, after what was listed before
+abbrev pub block_of_frame : Explained → List Field → BlocksRead → Following → Following
+block_of_frame x fields b w =
+    listed_unless (is_ended x.after.counts.phase) (block_followed x.number x.before.counts.own.table b fields (following (table_begun x.before.block w.followed) w.listed))
+
+-- the same with a frame that is of the block, or is not
+abbrev pub frame_followed : Explained → List Field → BlocksRead → TableFollowed → Head → Following
+frame_followed x fields b f h = if is_of_block x.before.block h then block_of_frame x fields b (following f []) else following f []
+
+-- the same with an item, by what it is
+abbrev pub item_followed : Explained → List Field → BlocksRead → TableFollowed → ItemHead → Following
+item_followed x fields b f head.Preface = following f []
+item_followed x fields b f head.BadPreface = following f []
+item_followed x fields b f (head.Oversize h) = following f []
+item_followed x fields b f (head.Frame h) = frame_followed x fields b f h
+
+-- the table after an item, and what the item entered and evicted; its block has these fields and is read so
+abbrev pub followed_with : Explained → List Field → BlocksRead → TableFollowed → Following
+followed_with x fields b f = item_followed x fields b f x.what
 
 -- ---- what an item changed
 

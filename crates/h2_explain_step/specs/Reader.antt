@@ -6,3 +6,7 @@ use Rattle.h2_explain_step.specs.declared.explainer.ItemExplainer.{ItemExplainer
 -- they were
 abbrev pub KeepsReader : {A : Type 0} → ItemExplainer A → ItemExplainer A → Type 0
 KeepsReader before after = (after.reader ≡ before.reader) × (after.memory ≡ before.memory) × (after.is_full ≡ before.is_full)
+
+-- the same, and the client's header table
+abbrev pub KeepsTable : {A : Type 0} → ItemExplainer A → ItemExplainer A → Type 0
+KeepsTable before after = (after.reader ≡ before.reader) × (after.memory ≡ before.memory) × (after.is_full ≡ before.is_full) × (after.table ≡ before.table)

@@ -5,10 +5,11 @@ ghost use Rattle.std.specs.Prelude.{◌≡◌, ◌++◌, Some, false, IfOk, OnOk
 ghost use Rattle.std.specs.BTreeMap.{IsEmpty};
 ghost use Rattle.std.specs.Option.{option_map};
 ghost use Rattle.h2_explain_item.specs.Item.{frame_in, head_in, part_in};
-ghost use Rattle.h2_explain_step.specs.Account.{KeepsBlocks, ListsChanges, NotesItem, begun_by, blocks_with, block_end_with, changes_of_sent, changes_seen, ended_with, fragment_in, is_compression, is_of_block, is_of_fields, moves_windows, noted_with, notes_of_sent, notes_seen, opening_if, reads_fields, shows_fields_with};
+ghost use Rattle.h2_explain_step.specs.Account.{KeepsBlocks, ListsChanges, NotesItem, begun_by, block_of_frame, blocks_with, block_end_with, changes_of_sent, changes_seen, ended_with, followed_with, fragment_in, is_compression, is_of_block, is_of_fields, moves_windows, noted_with, notes_of_sent, notes_seen, opening_if, reads_fields, shows_fields_with};
 ghost use Rattle.h2_conn.specs.Shown.{fields_at_hand};
+ghost use Rattle.h2_explain_item.specs.FollowedTable.{empty, following};
 ghost use Rattle.h2_explain_item.specs.ShownBlock.{fields_seen, shown_fields, unread};
-ghost use Rattle.h2_explain_step.specs.Reader.{KeepsReader};
+ghost use Rattle.h2_explain_step.specs.Reader.{KeepsReader, KeepsTable};
 ghost use Rattle.h2_explain_item.specs.Notes.{AreNotes, note_of};
 ghost use Rattle.h2_explain_item.specs.RunFacts.{empties_after, run_facts};
 ghost use Rattle.h2_explain_item.specs.Warnings.{AreWarnings};
@@ -167,6 +168,7 @@ impl<A: Allocator + Copy> ItemExplainer<A> {
     pub fn new(alloc: A) -> Result<ItemExplainer<A>, AllocError>
         ensures streams { IfOk result (λ explainer. IsEmpty explainer.notes.streams) }
         ensures reader { IfOk result (λ explainer. explainer.reader ≡ unread) }
+        ensures table { IfOk result (λ explainer. explainer.table ≡ empty 4096) }
         ensures blocks { IfOk result (λ explainer. (explainer.notes.block ≡ 0) × (explainer.notes.block_end ≡ 0)) }
     {
         Ok(ItemExplainer {
@@ -188,6 +190,7 @@ impl<A: Allocator + Copy> ItemExplainer<A> {
         ensures shows { IfOk result (λ shows. shows ≡ shows_fields_with item.now) }
         ensures reader { OnOk result (self.new.reader ≡ blocks_with item.now (fields_at_hand conn.now.state.block self.old.memory.decoding.fields) self.old.reader) }
         ensures memory { self.new.memory ≡ self.old.memory }
+        ensures table { self.new.table ≡ self.old.table }
         ensures notes { OnOk result (self.new.notes ≡ record self.old.notes { block = begun_by item.now self.old.notes.block }) }
         ensures full { self.new.is_full ≡ self.old.is_full }
     {
@@ -232,7 +235,7 @@ impl<A: Allocator + Copy> ItemExplainer<A> {
         ensures changes { OnOk result (out.new.items ≡ out.old.items ++ changes_of_sent item.now conn.now.state (note_of self.old.notes)) }
         ensures notes { OnOk result (AreNotes self.new.notes (notes_of_sent item.now conn.now.state (note_of self.old.notes))) }
         ensures blocks { OnOk result (KeepsBlocks self.old.notes self.new.notes) }
-        ensures keeps { KeepsReader self.old self.new }
+        ensures keeps { KeepsTable self.old self.new }
     {
         let mut rest = item.sent;
         for _frame in 0..item.sent.len() {
@@ -257,7 +260,7 @@ impl<A: Allocator + Copy> ItemExplainer<A> {
         ensures changes { OnOk result (out.new.items ≡ out.old.items ++ changes_seen item.now conn.now.state (note_of self.old.notes) stream) }
         ensures notes { OnOk result (AreNotes self.new.notes (notes_seen item.now conn.now.state (note_of self.old.notes) stream)) }
         ensures blocks { OnOk result (KeepsBlocks self.old.notes self.new.notes) }
-        ensures keeps { KeepsReader self.old self.new }
+        ensures keeps { KeepsTable self.old self.new }
     {
         match self.notes.of(stream) {
             Some(note) => self.see_again(conn, item, stream, &note, out),
@@ -279,7 +282,7 @@ impl<A: Allocator + Copy> ItemExplainer<A> {
         ensures changes { OnOk result (out.new.items ≡ out.old.items ++ changes_seen item.now conn.now.state (note_of self.old.notes) stream) }
         ensures notes { OnOk result (AreNotes self.new.notes (notes_seen item.now conn.now.state (note_of self.old.notes) stream)) }
         ensures blocks { OnOk result (KeepsBlocks self.old.notes self.new.notes) }
-        ensures keeps { KeepsReader self.old self.new }
+        ensures keeps { KeepsTable self.old self.new }
     {
         let now = conn.stream(stream);
         if now.id == stream && note.is_settled() && is_same_stream(&note.seen, &now) {
@@ -419,7 +422,7 @@ impl<A: Allocator + Copy> ItemExplainer<A> {
     /// Notes that the server has reset a stream at an item that ended the client's side, if it is so.
     fn note_refused_end(&mut self, item: &Explained<'_>) -> Result<(), AllocError>
         ensures notes { self.new.notes ≡ self.old.notes }
-        ensures keeps { KeepsReader self.old self.new }
+        ensures keeps { KeepsTable self.old self.new }
     {
         let stream = item.after.stream.id;
         match (item.before.stream.kind, item.after.stream.kind) {
@@ -446,7 +449,7 @@ impl<A: Allocator + Copy> ItemExplainer<A> {
         ensures block { OnOk result (self.new.notes.block ≡ self.old.notes.block) }
         ensures block_end { OnOk result (self.new.notes.block_end ≡ block_end_with self.old.notes.block_end item.now.number (head_in item.now.what)) }
         ensures still { OnOk result (moves_windows item.now ≡ false → self.new.notes.streams ≡ self.old.notes.streams) }
-        ensures keeps { KeepsReader self.old self.new }
+        ensures keeps { KeepsTable self.old self.new }
     {
         self.note_refused_end(item)?;
         note_moved(conn, item, &mut self.notes, &mut self.live, sent)?;
@@ -476,6 +479,7 @@ impl<A: Allocator + Copy> ItemExplainer<A> {
         ensures full { self.new.is_full ≡ self.old.is_full }
         ensures reader { OnOk result (self.new.reader ≡ blocks_with item.now (fields_at_hand conn.now.state.block self.old.memory.decoding.fields) self.old.reader) }
         ensures memory { self.new.memory ≡ self.old.memory }
+        ensures table { OnOk result (following self.new.table account.new.entries.items ≡ followed_with item.now (fields_at_hand conn.now.state.block self.old.memory.decoding.fields) self.new.reader self.old.table) }
     {
         let empties = self.empties;
         let run = run_facts(&mut self.granted, empties, item)?;
@@ -515,6 +519,7 @@ impl<A: Allocator + Copy> ItemExplainer<A> {
     ) -> Result<(), AllocError>
         ensures notes { self.new.notes ≡ self.old.notes }
         ensures keeps { KeepsReader self.old self.new }
+        ensures table { OnOk result (following self.new.table entries.new.items ≡ followed_with item.now (fields_at_hand conn.now.state.block self.old.memory.decoding.fields) self.old.reader self.old.table) }
     {
         entries.clear();
         let ItemHead::Frame(head) = item.what else {
@@ -538,6 +543,7 @@ impl<A: Allocator + Copy> ItemExplainer<A> {
     ) -> Result<(), AllocError>
         ensures notes { self.new.notes ≡ self.old.notes }
         ensures keeps { KeepsReader self.old self.new }
+        ensures table { OnOk result (following self.new.table entries.new.items ≡ block_of_frame item.now (fields_at_hand conn.now.state.block self.old.memory.decoding.fields) self.old.reader (following self.old.table entries.old.items)) }
     {
         if item.before.block.is_none() {
             self.table.begin();
@@ -564,7 +570,7 @@ impl<A: Allocator + Copy> ItemExplainer<A> {
         ensures changes { OnOk result (ListsChanges item.now conn.now.state self.old.notes.block (note_of self.old.notes) list.new.items) }
         ensures notes { OnOk result (AreNotes self.new.notes (notes_of_sent item.now conn.now.state (noted_with item.now self.old.notes.block (note_of self.old.notes)))) }
         ensures blocks { OnOk result (KeepsBlocks self.old.notes self.new.notes) }
-        ensures keeps { KeepsReader self.old self.new }
+        ensures keeps { KeepsTable self.old self.new }
     {
         list.clear();
         let (before, after) = (&item.before, &item.after);
@@ -579,7 +585,7 @@ impl<A: Allocator + Copy> ItemExplainer<A> {
     fn see_own(&mut self, item: &Explained<'_>) -> Result<(), AllocError>
         ensures notes { OnOk result (AreNotes self.new.notes (noted_with item.now self.old.notes.block (note_of self.old.notes))) }
         ensures blocks { OnOk result (KeepsBlocks self.old.notes self.new.notes) }
-        ensures keeps { KeepsReader self.old self.new }
+        ensures keeps { KeepsTable self.old self.new }
     {
         if item.after.stream.id == 0 {
             return Ok(());

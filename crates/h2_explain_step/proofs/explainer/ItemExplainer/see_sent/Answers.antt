@@ -12,7 +12,7 @@ loop-frame-init g c =
       changes = rw all refl;
       notes = λ id. rw all refl;
       blocks = (refl, refl);
-      keeps = (refl, refl, refl);
+      keeps = (refl, refl, refl, refl);
     }
 
 pub loop-frame-preserved : goal.loop-frame-preserved
@@ -29,7 +29,7 @@ loop-frame-preserved g c =
       notes = one_noted _ c.args.item.now.number at (note_of c.loop-frame.self.notes) (note_of c.see.new.self.notes) _ left c.loop-frame.rest.now (first_seen (c.in-Some.frame, c.in-Some.after)) most
           (sym c.in-Some.ensures) c.loop-frame.invariant.notes c.in_ok-see.ensures.notes;
       blocks = (c.in_ok-see.ensures.blocks.0 ∙ c.loop-frame.invariant.blocks.0, c.in_ok-see.ensures.blocks.1 ∙ c.loop-frame.invariant.blocks.1);
-      keeps = (c.see.ensures.keeps.0 ∙ c.loop-frame.invariant.keeps.0, c.see.ensures.keeps.1 ∙ c.loop-frame.invariant.keeps.1, c.see.ensures.keeps.2 ∙ c.loop-frame.invariant.keeps.2);
+      keeps = (c.see.ensures.keeps.0 ∙ c.loop-frame.invariant.keeps.0, c.see.ensures.keeps.1 ∙ c.loop-frame.invariant.keeps.1, c.see.ensures.keeps.2 ∙ c.loop-frame.invariant.keeps.2, c.see.ensures.keeps.3 ∙ c.loop-frame.invariant.keeps.3);
     }
 
 pub returns-in_default-clause-changes : goal.returns-in_default-clause-changes
