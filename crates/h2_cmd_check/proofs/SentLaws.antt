@@ -100,7 +100,7 @@ summed_front line b =
     at None is = ap (λ (x : Option Head). summed_by line (first_frame (take (length_by x) b))) is ∙ ap (λ (x : Option Head). summed_by line (frame_with x (take 9 b))) (head_front 0 b ∙ is) ∙ sym (ap (λ (x : Option Head). summed_by line (frame_with x b)) is)
     at (Some h) is = ap (λ (x : Option Head). summed_by line (first_frame (take (length_by x) b))) is ∙ ap (λ (x : Option Head). summed_by line (frame_with x (take (9 + h.length) b))) (head_front h.length b ∙ is) ∙ with_head line b h ∙ sym (ap (λ (x : Option Head). summed_by line (frame_with x b)) is)
 
--- what is sent for an item goes behind what is in front
+-- what is sent for an item goes after what is in front
 pub takes_behind : (front : List ℕ) (s : State) (b out : List ℕ) (t : State) (out' : List ℕ) (used : Option ℕ)
     → TakesIfAny s b out t out' used → TakesIfAny s b (front ++ out) t (front ++ out') used
 takes_behind front s b out t out' None x = record { none = x.none; same = x.same; quiet = ap (λ (o : List ℕ). front ++ o) x.quiet }

@@ -11,7 +11,7 @@ returns-clause-walks c = λ start before.
     let is = c.let_go.ensures.walks start c.args.conn.now before in
     let gone = is.seen.gone in
     let more = c.args.more.now in
-    let items : c.extend_from_slice.new.self.items ≡ w.octets.items ++ more = c.in_ok.ensures.items in
+    let items : c.extend_from_slice.new.self.items ≡ w.octets.items ++ more = c.in_ok-extend_from_slice.ensures.items in
     let slice : c.as_slice.result.now ≡ w.octets.items ++ more = c.as_slice.ensures.value ∙ items in
     record {
       within = (c.in_ok-take_items.ensures.few, rw c.as_slice.ensures.value at c.in_ok-take_items.ensures.within);
