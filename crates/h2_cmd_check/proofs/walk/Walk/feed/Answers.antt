@@ -14,14 +14,14 @@ returns-clause-walks c = λ start before.
     let items : c.extend_from_slice.new.self.items ≡ w.octets.items ++ more = c.in_ok-extend_from_slice.ensures.items in
     let slice : c.as_slice.result.now ≡ w.octets.items ++ more = c.as_slice.ensures.value ∙ items in
     record {
-      within = (c.in_ok-take_items.ensures.few, rw c.as_slice.ensures.value at c.in_ok-take_items.ensures.within);
+      within = (c.in_ok-self.ensures.few, rw c.as_slice.ensures.value at c.in_ok-self.ensures.within);
       ready = c.take_items.ensures.ready;
-      state = rw items (state_fed start.state c.args.conn.now.state c.take_items.new.conn.state w.octets.items more w.at is.within.1 is.state is.rest (rw slice at c.in_ok-take_items.ensures.state));
-      rest = rw items (rest_fed start.state c.args.conn.now.state w.octets.items more w.at _ is.within.1 is.state is.rest (rw slice at c.in_ok-take_items.ensures.rest));
+      state = rw items (state_fed start.state c.args.conn.now.state c.take_items.new.conn.state w.octets.items more w.at is.within.1 is.state is.rest (rw slice at c.in_ok-self.ensures.state));
+      rest = rw items (rest_fed start.state c.args.conn.now.state w.octets.items more w.at _ is.within.1 is.state is.rest (rw slice at c.in_ok-self.ensures.rest));
       seen = record {
         gone = gone;
         count = c.take_items.ensures.gone ∙ is.seen.count;
         seen = rw items (seen_fed start.state c.args.conn.now.state start.sent w.octets.items more w.at (with_gone gone (seen_by w.seen)) (with_gone gone (seen_by c.take_items.new.seen)) is.within.1 is.state is.rest is.seen.seen
-            (ap (λ (x : Sight). with_gone gone x) (rw slice at c.in_ok-take_items.ensures.seen) ∙ sym (items_with_gone c.args.conn.now.state gone (seen_by w.seen) (parse_all next_event c.args.conn.now.state (drop w.at (w.octets.items ++ more))).elements)));
+            (ap (λ (x : Sight). with_gone gone x) (rw slice at c.in_ok-self.ensures.seen) ∙ sym (items_with_gone c.args.conn.now.state gone (seen_by w.seen) (parse_all next_event c.args.conn.now.state (drop w.at (w.octets.items ++ more))).elements)));
       };
     }
