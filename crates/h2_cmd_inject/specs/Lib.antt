@@ -3,5 +3,7 @@ pub mod Whys
 pub mod ScriptLines
 pub mod Dialogues
 pub mod Results
+pub mod Wants
+pub mod Asides
 pub mod Views
 pub mod Founds

@@ -53,7 +53,7 @@ cause_by end.NoFrames s octets = None
 cause_by end.TooMuch s octets = None
 cause_by end.Late s octets = None
 
--- ---- the texts of findings, one after another
+-- ---- texts one after another
 
 abbrev pub joined : List (List ℕ) → List ℕ
 joined [] = []
@@ -61,16 +61,16 @@ joined (p ∷ []) = p
 joined (p ∷ q ∷ ps) = p ++ joined (q ∷ ps)
 
 -- the text of each, in their order
-abbrev pub Each : (Finding → List ℕ → Type 0) → List Finding → List ℕ → Type 0
+abbrev pub Each : {X : Type 0} → (X → List ℕ → Type 0) → List X → List ℕ → Type 0
 Each Is [] text = text ≡ []
-Each Is (f ∷ fs) text = (one rest : List ℕ) × Is f one × Each Is fs rest × (text ≡ one ++ rest)
+Each Is (x ∷ xs) text = (one rest : List ℕ) × Is x one × Each Is xs rest × (text ≡ one ++ rest)
 
 -- a text was put after octets
 abbrev pub AppendsOne : (List ℕ → Type 0) → (old new : List ℕ) → Type 0
 AppendsOne Is old new = (text : List ℕ) × Is text × (new ≡ old ++ text)
 
-abbrev pub AppendsSome : (Finding → List ℕ → Type 0) → List Finding → (old new : List ℕ) → Type 0
-AppendsSome Is findings old new = AppendsOne (Each Is findings) old new
+abbrev pub AppendsSome : {X : Type 0} → (X → List ℕ → Type 0) → List X → (old new : List ℕ) → Type 0
+AppendsSome Is xs old new = AppendsOne (Each Is xs) old new
 
 -- ---- verdicts in YAML
 

@@ -1,9 +1,9 @@
 //! `serve --inject`: a dialogue is read, a port is listened on, and clients are served, the first one with the script.
 
-ghost use Rattle.std.specs.Prelude.{◌≡◌, ◌==◌, ◌-◌, [], IfOk, None, OnErr, Some, drop, false, slice_get, take};
+ghost use Rattle.std.specs.Prelude.{◌≡◌, ◌==◌, ◌-◌, ◌++◌, [], IfOk, None, OnErr, Some, drop, false, slice_get, take};
 ghost use Rattle.h2_conn.specs.Connection.{going};
 ghost use Rattle.h2_spec.specs.State.{opening};
-ghost use Rattle.h2_cmd_inject.specs.Founds.{found_status};
+ghost use Rattle.h2_cmd_inject.specs.Founds.{AreSeen, IsSeen, book_with, config_with, found_status};
 ghost use Rattle.h2_cmd_inject.specs.Results.{cause_by};
 ghost use Rattle.h2_cmd_inject.specs.Stops.{is_unwritten, is_written};
 ghost use Rattle.h2_cmd_inject.specs.declared.serving.Stop.TheVariants.{NoMemory};
@@ -241,6 +241,7 @@ fn show<K: ScriptKeeper, O: Output>(
 ) -> Result<Summary, Stop>
     requires new { conn ≡ going conn.state [] }
     requires writer { O.has_failed output.old ≡ false }
+    ensures summary { IfOk result (λ summary. IsSeen form steps.now number conn.entry.state (course.now.octets ++ course.now.inbox) summary) }
     ensures flag { O.has_failed output.new ≡ is_unwritten result }
 {
     let mut octets = Vec::from_slice(alloc, course.octets())?;
@@ -264,6 +265,8 @@ fn show_if<K: ScriptKeeper, O: Output>(
     output: &mut O,
 ) -> Result<Clients, Stop>
     requires writer { O.has_failed output.old ≡ false }
+    ensures clients { IfOk result (AreSeen form steps.now number (opening common.entry.book.now common.entry.config)
+        (course.now.octets ++ course.now.inbox) clients) }
     ensures flag { O.has_failed output.new ≡ is_unwritten result }
 {
     let Some(form) = form else {
@@ -498,7 +501,10 @@ fn common_of<'c, K: ScriptKeeper>(
     common: Common<'c>,
     own: &'c Option<CaseSetup>,
     keeper: &mut K,
-) -> Common<'c> {
+) -> Common<'c>
+    ensures config { result.config ≡ config_with common.entry.config own.now }
+    ensures book { result.book.now ≡ book_with common.entry.book.now own.now }
+{
     let Some(own) = own else {
         return common;
     };

@@ -4,6 +4,7 @@
 ghost use Rattle.std.specs.Prelude.{◌≡◌, IfOk, OnOk};
 ghost use Rattle.std.specs.Option.{option_map};
 ghost use Rattle.std.specs.String.{string_bytes};
+ghost use Rattle.h2_cmd_inject.specs.Wants.{going_on, text_at, unsaid, why_allowed};
 ghost use Rattle.h2_cmd_inject.specs.Results.{AppendsOne, AppendsSome, AreVerdicts, IsNote, IsNoteIf, IsResult, IsVerdict, IsVerdictIf, decides, directive, has_broken, is_allowed, is_open, is_shown, is_unsettled, line_shown, note_mark};
 
 use h2_cmd_check::{Title, result_front};
@@ -16,7 +17,7 @@ use h2_io::say::{EscapedText, Hex, HexOctet, Say, TextBuilder};
 use h2_io::say_all;
 use h2_spec::causes::Cause;
 use h2_spec::frames::type_name;
-use h2_spec::octets::first_octets;
+use h2_spec::octets::{first_octets, octets_from};
 use std::alloc::{AllocError, Global};
 
 /// How many seconds a silent client is waited for.
@@ -36,15 +37,22 @@ pub struct Ending<'p> {
 }
 
 /// The text of a line, after its mark.
-fn text_at<'t>(lines: &[&'t [u8]], line: usize) -> &'t [u8] {
-    match lines.get(line.saturating_sub(1)) {
-        Some(text) => text.get(3..).unwrap_or_default(),
-        None => &[],
+fn text_at<'t>(lines: &[&'t [u8]], line: usize) -> &'t [u8]
+    ensures { result.now ≡ text_at lines.now line }
+{
+    let Some(text) = lines.get(line.saturating_sub(1)) else {
+        return &[];
+    };
+    if text.len() < 3 {
+        return &[];
     }
+    octets_from(text, 3)
 }
 
 /// What is wanted where no line says it.
-fn unsaid(found: Found) -> &'static str {
+fn unsaid(found: Found) -> &'static str
+    ensures { result.now ≡ unsaid found }
+{
     match found {
         Found::Limit(_) | Found::Late(_) => "the limits of SETTINGS",
         Found::Ended(End::ByServer(_)) => "a client that the server goes on with",
@@ -52,15 +60,6 @@ fn unsaid(found: Found) -> &'static str {
         Found::Ended(_) | Found::Reaction(_, _) | Found::Sends(_) | Found::Missing => {
             "frames of a client, and their end"
         }
-    }
-}
-
-/// What is wanted.
-fn say_wanted(lines: &[&[u8]], finding: Finding, out: &mut TextBuilder) {
-    if finding.line == 0 {
-        unsaid(finding.found).say(out);
-    } else {
-        EscapedText(text_at(lines, finding.line)).say(out);
     }
 }
 
@@ -90,7 +89,9 @@ fn say_end(ending: Ending<'_>, out: &mut TextBuilder) {
 }
 
 /// Why the RFC allows a reaction that a line does not say, if it does.
-fn why_allowed(wanted: Wanted, taken: Taken) -> &'static str {
+fn why_allowed(wanted: Wanted, taken: Taken) -> &'static str
+    ensures { result.now ≡ why_allowed wanted taken }
+{
     match (wanted, taken) {
         (Wanted::GoesOn, _) => "",
         (_, Taken::Closed) => ": no GOAWAY; 5.4.1 has SHOULD",
@@ -106,7 +107,9 @@ fn why_allowed(wanted: Wanted, taken: Taken) -> &'static str {
 }
 
 /// That a client goes on, in words. Where an error of a stream is wanted, it may end by itself, and its command fail.
-fn going_on(wanted: Wanted, end: End) -> &'static str {
+fn going_on(wanted: Wanted, end: End) -> &'static str
+    ensures { result.now ≡ going_on wanted end }
+{
     match (wanted, end) {
         (Wanted::Stream(_, _), End::Silent) => "goes on, and the connection stays open",
         _ => "goes on",
@@ -234,10 +237,15 @@ fn line_shown(first: usize, finding: Finding) -> usize
     }
 }
 
-/// What is wanted, as a text.
-fn wanted_text(alloc: Global, lines: &[&[u8]], finding: Finding) -> Result<String, AllocError> {
+/// What is wanted, as a text: that of its line, with the characters escaped that have to be.
+fn wanted_text(alloc: Global, lines: &[&[u8]], finding: Finding) -> Result<String, AllocError>
+    ensures { finding.line ≡ 0 → IfOk result (λ text. string_bytes text ≡ unsaid finding.found) }
+{
+    if finding.line == 0 {
+        return String::from_str(alloc, unsaid(finding.found));
+    }
     let mut out = TextBuilder::with(alloc, true);
-    say_wanted(lines, finding, &mut out);
+    EscapedText(text_at(lines, finding.line)).say(&mut out);
     out.finish()
 }
 
