@@ -2,7 +2,7 @@
 
 use h2_cmd_args::Words;
 use h2_cmd_args::command::{Plan, parse};
-use h2_cmd_messages::{InputSource, TextBuilder};
+use h2_cmd_messages::TextBuilder;
 use h2_cmd_run::Ran;
 use h2_host::{SessionEnd, say_refused_words};
 use h2_spec::connection::Config;
@@ -24,9 +24,7 @@ fn say(alloc: Global, words: &Words, input: &[u8], status: u8, out: &mut TextBui
                 let session = SessionEnd {
                     status,
                     config,
-                    source: InputSource::Input,
                     seen: input,
-                    count: input.len(),
                 };
                 session.say(out);
             }
