@@ -219,12 +219,13 @@ def names():
         objects = json.load(file)["$defs"]
     objects = {**objects, "warned": objects["warning"], "end": objects["end"]["properties"]["end"], "counted": objects["verdict"]["properties"]["errors"]["items"]}
     objects |= {f"{name}left": objects["wait"]["properties"][name]["oneOf"][1] for name in ("answer", "request")}
+    of_serve = ("connection", "time", "withheld", "script", "not_judged")
     objects["change"] = {"properties": {name: it for one in objects["change"]["oneOf"] for name, it in one["properties"].items()}, "required": ["stream", "what"]}
     for name in h2_bench.__all__:
         kind = getattr(h2_bench, name)
         if dataclasses.is_dataclass(kind):
             it, missing = objects[name.lower()], dataclasses.MISSING
-            wanted = {member: member in it.get("required", []) for member in it["properties"] if name != "Item" or member not in ("connection", "time")}
+            wanted = {member: member in it.get("required", []) for member in it["properties"] if name not in ("Item", "End") or member not in of_serve}
             found = {member.name: member.default is missing for member in dataclasses.fields(kind) if member.name != "json"}
             check(f"the members of {name}", found == wanted, set(found.items()) ^ set(wanted.items()))
 

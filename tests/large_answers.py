@@ -5,7 +5,8 @@ A client opens its windows and asks for a body of 1 MiB again and again. A row i
 octet. Memory is the peak of resident memory that the kernel counts. `serve` is read from as fast as it writes, over 127.0.0.1. It prints a table in Markdown;
 with WORD the rows that have it in their name. The status is 1 where a program doesn't answer all. tests/floods.py calls it.
 
---explained: only a few requests, of servers that explain and record, each of which has to be bounded. The last line is `N passed, M failed`.
+--explained: only a few requests, of servers that explain and record, and of a case whose lines say what is sent; each has to be bounded. The last line is
+`N passed, M failed`.
 """
 
 import os
@@ -55,15 +56,26 @@ ROWS = [
 ]
 
 
-def play(program, words, octets, _):
-    """The peak of `play`, in KiB, and whether it answered."""
-    with tempfile.TemporaryFile() as text:
-        text.write(octets.hex().encode())
-        text.seek(0)
-        ran = subprocess.Popen([program, "play", *words], stdin=text, stdout=subprocess.DEVNULL)
+def measured(program, words, text):
+    """The peak of a program that reads this text, in KiB, and whether its status is 0."""
+    with tempfile.TemporaryFile() as held:
+        held.write(text.encode())
+        held.seek(0)
+        ran = subprocess.Popen([program, *words], stdin=held, stdout=subprocess.DEVNULL)
         _, status, used = os.wait4(ran.pid, 0)
     ran.returncode = os.waitstatus_to_exitcode(status)
     return used.ru_maxrss, ran.returncode == 0
+
+
+def play(program, words, octets, _):
+    """The peak of `play`, in KiB, and whether it answered."""
+    return measured(program, ["play", *words], octets.hex())
+
+
+def case_of(count, path, said):
+    """A case of so many requests, with these lines behind each that say what is sent for it."""
+    opening = f"RAW {(PREFACE + LARGE_WINDOWS + OPEN).hex()}\n;< ...\n"
+    return opening + "".join(f"RAW {get(2 * place + 1, path).hex()}\n{said}" for place in range(count))
 
 
 def peak(process):
@@ -110,19 +122,22 @@ def serve(program, words, octets, wanted):
 
 
 def explained(program):
-    """Whether memory is bounded where what is sent is explained, printed and recorded too."""
+    """Whether memory is bounded where what is sent is explained, printed, recorded, or compared with the lines of a case."""
     passed, failed = 0, 0
     with tempfile.TemporaryDirectory() as made:
         book = write_book(made)
-        for options in (["--explain"], ["--json", "--full"], ["--strict"], ["--record", made]):
-            words = ["--book", book, "--quiet", *options]
-            small, answers_small = serve(program, words, asked(FEW, SMALL), FEW)
-            large, answers_large = serve(program, words, asked(FEW, LARGE), FEW * BODY)
+        rows = [(["serve", "--quiet", *options], lambda words, path, octets: serve(program, words[1:], asked(FEW, path), octets))
+                for options in (["--explain"], ["--json", "--full"], ["--strict"], ["--record", made])]
+        for said in ("", ";< ...\n"):
+            rows.append((["check", "-"], lambda words, path, _, said=said: measured(program, words, case_of(FEW, path, said))))
+        for words, run in rows:
+            small, answers_small = run([*words, "--book", book], SMALL, FEW)
+            large, answers_large = run([*words, "--book", book], LARGE, FEW * BODY)
             if answers_small and answers_large and large - small <= MOST:
                 passed += 1
             else:
                 failed += 1
-                print(f"serve {' '.join(options)}: {FEW} answers of 1 MiB take {(large - small) / 1024:,.0f} MiB more than small ones, or were not read whole")
+                print(f"{' '.join(words)}: {FEW} answers of 1 MiB take {(large - small) / 1024:,.0f} MiB more than small ones, or were not answered whole")
     print(f"{passed} passed, {failed} failed")
     sys.exit(1 if failed else 0)
 

@@ -24,7 +24,7 @@ __all__ = [
     "Reactions", "RequestLeft", "Sent", "Setting", "Spelling", "Verdict", "Wait", "Warned", "assemble", "check", "disassemble", "explain", "run",
 ]
 
-VERSION = 1  # of what the library takes and gives; that of the JSON is Item.version of item 0
+VERSION = 1  # of the calls and members of this module; that of the JSON is Item.version of item 0
 
 
 class Fault(Exception):

@@ -4,5 +4,6 @@ pub mod Feeds
 pub mod Gains
 pub mod Going
 pub mod Items
+pub mod SentLaws
 pub mod TextLaws
 pub mod XmlGains

@@ -11,6 +11,7 @@ mod growing;
 mod junit;
 mod pattern;
 mod run;
+mod sent;
 mod tap;
 mod texts;
 mod verdict;

@@ -6,7 +6,7 @@ ghost use Rattle.h2_embed.specs.Kept.{Feeds, IsEnd, IsState, Opens, Says};
 use crate::fault::{RunEnd, RunFault, given, refused};
 use crate::open::open_lines;
 use crate::put::put_text;
-use crate::slot::{Slot, put, take};
+use crate::slot::{Slot, close, put, take};
 use std::alloc::Global;
 
 /// Opens a connection of a new server in a slot; one that was there is closed. `words` and the file are those of a command
@@ -25,7 +25,7 @@ pub extern "C" fn h2_bench_kept_open(
 )
     ensures { Opens words.now name.now file.now slot.new.hold.kept end.new }
 {
-    drop(take(alloc, slot));
+    close(alloc, slot);
     match open_lines(alloc, words, name, file) {
         Ok(kept) => {
             put(slot, kept);
@@ -131,5 +131,5 @@ pub extern "C" fn h2_bench_kept_state(
 pub extern "C" fn h2_bench_kept_close(alloc: Global, slot: &mut Slot)
     ensures { slot.new.hold.kept ≡ None }
 {
-    drop(take(alloc, slot));
+    close(alloc, slot);
 }

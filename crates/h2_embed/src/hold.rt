@@ -11,10 +11,8 @@ use std::alloc::Global;
 use std::marker::Model;
 use std::ptr;
 
-/// Holds a connection that stays between calls, or nothing. What is held when it is dropped is not given back: take it
-/// out before.
+/// Holds a connection that stays between calls, or nothing. It is no `Drop`, so that none is let go while it holds one.
 #[repr(C)]
-#[derive(Drop)]
 pub struct Hold {
     ptr: *mut u8,
     alloc: Global,
@@ -57,5 +55,12 @@ impl Hold {
             ptr: ptr as *mut KeptConnection,
             alloc,
         }
+    }
+
+    /// Lets a hold of nothing go.
+    pub(crate) fn end(self)
+        requires { self.kept ≡ None }
+    {
+        let Hold { ptr: _, alloc: _ } = self;
     }
 }

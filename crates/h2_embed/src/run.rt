@@ -51,14 +51,12 @@ fn run_words(
 ) -> Result<Said, AllocError>
     ensures { IfOk result (λ said. RunsAs words.now (one_file name.now file.now) input.now (printed_in said.ran)) }
 {
-    let ran = match run_in_memory(alloc, words, &[(name, file)], input) {
-        Ok(ran) => ran,
-        Err(error) => return Err(error),
-    };
-    match second_look(alloc, words, input, &ran) {
-        Ok(second_look) => Ok(Said { ran, second_look }),
-        Err(error) => Err(error),
-    }
+    let ran = run_in_memory(alloc, words, &[(name, file)], input)?;
+    let sentence = second_look(alloc, words, input, &ran)?;
+    Ok(Said {
+        ran,
+        second_look: sentence,
+    })
 }
 
 /// Carries out the command of the words that a text says.

@@ -12,7 +12,6 @@ use std::mem;
 
 /// A connection that stays between calls, or none. All octets 0 are a slot with none.
 #[repr(C)]
-#[derive(Drop)]
 pub struct Slot {
     /// Whether there is a connection.
     is_open: bool,
@@ -51,11 +50,23 @@ pub(crate) fn take(alloc: Global, slot: &mut Slot) -> Option<Box<KeptConnection>
         hold: Hold::none(alloc),
     };
     let Slot { is_open, hold } = mem::replace(slot, empty);
-    if is_open { Some(release(hold)) } else { None }
+    if is_open {
+        return Some(release(hold));
+    }
+    hold.end();
+    None
+}
+
+/// Gives the connection of a slot back, if it has one.
+pub(crate) fn close(alloc: Global, slot: &mut Slot)
+    ensures { slot.new.hold.kept ≡ None }
+{
+    drop(take(alloc, slot));
 }
 
 /// Puts a connection into a slot, from which the one before was taken.
 pub(crate) fn put(slot: &mut Slot, kept: Box<KeptConnection>)
+    requires none { slot.old.hold.kept ≡ None }
     requires ready { IsReady kept.value }
     ensures { slot.new.hold.kept ≡ Some kept.value }
 {
@@ -63,5 +74,6 @@ pub(crate) fn put(slot: &mut Slot, kept: Box<KeptConnection>)
         is_open: true,
         hold: keep(kept),
     };
-    let _none = mem::replace(slot, full);
+    let Slot { is_open: _, hold } = mem::replace(slot, full);
+    hold.end();
 }

@@ -39,10 +39,7 @@ fn add_lines(words: &mut Words, lines: &[&[u8]]) -> Result<(), WordsFault>
     ensures err { IfErr result (λ fault. (fault ≡ NoMemory) ⊎ (words_from words.old (map (λ l. l.now) lines.now) ≡ None)) }
 {
     for line in lines {
-        match add_line(words, line) {
-            Ok(()) => {}
-            Err(fault) => return Err(fault),
-        }
+        add_line(words, line)?;
     }
     Ok(())
 }
@@ -56,8 +53,6 @@ pub(crate) fn words_in(alloc: Global, text: &[u8]) -> Result<Words, WordsFault>
     let Ok(lines) = lines_in(alloc, text) else {
         return Err(WordsFault::NoMemory);
     };
-    match add_lines(&mut words, lines.as_slice()) {
-        Ok(()) => Ok(words),
-        Err(fault) => Err(fault),
-    }
+    add_lines(&mut words, lines.as_slice())?;
+    Ok(words)
 }

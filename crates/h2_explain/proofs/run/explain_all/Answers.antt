@@ -40,7 +40,7 @@ returns-in_err-take_piece-clause-gains g c = λ well.
     let b = c.args.octets.now in
     let start = subst (λ (d : Connection). IsExplaining s [] d e) (sym c.requires.new) (new-explains e.form s e c.requires.fresh) in
     let p = err_from_is_err_and c.from_residual.result c.from_residual.ensures.1 in
-    rw (p.1, p.2) (gains-map (λ (more : List ℕ). (later : List ℕ) → IsExplanation e.form true s (b ++ later) more) (λ (text : List ℕ). IsExplanation e.form true s b text)
+    rw p.1 (gains-map (λ (more : List ℕ). (later : List ℕ) → IsExplanation e.form true s (b ++ later) more) (λ (text : List ℕ). IsExplanation e.form true s b text)
     (λ t h. subst (λ (o : List ℕ). IsExplanation e.form true s o t) (append-nil b) (h []))
     (g.O.Output.written c.args.output.now) (g.O.Output.written c.take_piece.new.output)
     (c.in_err-take_piece.ensures.cut well s [] [] start (new-begins e.form s e c.requires.fresh)))
