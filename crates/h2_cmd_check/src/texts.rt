@@ -174,9 +174,10 @@ fn explain_items(
     let mut at = 0usize;
     loop {
         let rest = octets_from(octets, at);
-        match take_text(alloc, explainer, conn, rest, at, &mut sent, &mut texts)? {
-            Some(used) => at += used,
-            None => return Ok(texts),
+        match take_text(alloc, explainer, conn, rest, at, &mut sent, &mut texts) {
+            Ok(Some(used)) => at += used,
+            Ok(None) => return Ok(texts),
+            Err(error) => return Err(error),
         }
     }
 }

@@ -109,6 +109,8 @@ pub fn check_case<'t>(
     ensures allowed { OnOk result (is_allowed config ≡ true) }
     ensures fault { IfErr result (λ fault. (fault ≡ NoMemory) ⊎ ((fault ≡ BadConfig) × (is_allowed config ≡ false))) }
 {
-    let texts = item_texts(alloc, book, config, lines)?;
-    check_with(alloc, book, config, texts.as_slice(), lines, number)
+    match item_texts(alloc, book, config, lines) {
+        Ok(texts) => check_with(alloc, book, config, texts.as_slice(), lines, number),
+        Err(fault) => Err(fault),
+    }
 }
