@@ -15,10 +15,11 @@ use Rattle.h2_spec.specs.declared.connection.Phase.TheVariants.{Preface, Setting
 use Rattle.h2_spec.specs.declared.ignored.Ignored.{Ignored}
 use Rattle.h2_spec.specs.declared.special_cases.SpecialCase.{SpecialCase}
 use Rattle.h2_explain_text.specs.Why.{error_why, ignored_why, why_lines}
-use Rattle.h2_cmd_check.specs.Cases.{Start, closes, debugger_at}
+use Rattle.h2_cmd_check.specs.Cases.{Start, closes, debugger_at, sight_above}
 use Rattle.h2_cmd_check.specs.Commands.{answered, fault_in, is_memory_fault, is_refusal}
 use Rattle.h2_cmd_cases.specs.Lines as line
-use Rattle.h2_cmd_check.specs.Walks.{Begins, Closes, Commands, Finds, Loads, Passes, Sees, debugger_for, place_of}
+use Rattle.h2_cmd_check.specs.ItemsTaken.{seen_by}
+use Rattle.h2_cmd_check.specs.Walks.{Begins, Closes, Commands, Finds, Loads, Passes, debugger_for, place_of}
 use Rattle.h2_cmd_check.specs.declared.case_debugger.CaseDebugger.TheVariants.{Present}
 use Rattle.h2_cmd_check.specs.declared.command.Given.{Given}
 use Rattle.h2_cmd_check.specs.declared.walk.Walk.{Walk}
@@ -99,7 +100,7 @@ command_given given w one text d after fault l is x =
     }
 
 -- a command was given
-pub goes_commanded : (start : Start) (given : Given) (w one two three : Walk) (text : List ℕ) (fault : Option ℕ) → Begins start given → Sees start w
+pub goes_commanded : (start : Start) (given : Given) (w one two three : Walk) (text : List ℕ) (fault : Option ℕ) → Begins start given → seen_by w.seen ≡ sight_above start (place_of w)
     → Closes w one → Commands given text fault one two → Finds (not (is_some fault)) two three → Passes start (line.Command text) w three
 goes_commanded start given w one two three text fault b seen k c f =
     let same = debugger_is start given w one b k.debugger k.octets in
@@ -109,5 +110,5 @@ goes_commanded start given w one two three text fault b seen k c f =
       place = λ e.
           let obeyed : not (is_some fault) ≡ true = ap not refused ∙ (both (closes start (place_of w)) (not (is_refusal (answered (debugger_at start (place_of w)) text).text)) e).1 in
           let debugger = f.debugger ∙ c.debugger ∙ ap (λ (d : Debugging). Present (answered d text).after) same in
-          rw (f.octets ∙ c.octets ∙ k.octets, debugger, f.spoken obeyed ∙ c.spoken, f.speaks ∙ c.speaks ∙ k.speaks) refl;
+          rw (f.octets ∙ c.octets ∙ k.octets, f.spoken obeyed ∙ c.spoken, f.speaks ∙ c.speaks ∙ k.speaks, debugger) refl;
     }

@@ -1,13 +1,13 @@
 -- More octets after those of a run: what is seen then.
-use Rattle.std.proofs.Common.{◌≡◌, ◌∙◌, ◌++◌, ◌≤◌, ℕ, zero, suc, List, [], ◌∷◌, length, drop, refl, sym, ap, ap₂, append_assoc, arith, length-drop}
+use Rattle.std.proofs.Common.{◌≡◌, ◌∙◌, ◌++◌, ◌≤◌, ℕ, zero, suc, List, [], ◌∷◌, length, drop, refl, sym, ap, ap₂, arith, length-drop}
 use Rattle.std.proofs.lemmas.List.{drop-append-le}
-use Rattle.h2_spec.specs.Frames.Frame.{Next, NoItem, Got, frames_octets}
+use Rattle.h2_spec.specs.Frames.Frame.{Next, NoItem, Got}
 use Rattle.h2_spec.specs.Frames.Parse.{Front, Stop, One, Parsed, parse_all}
 use Rattle.h2_spec.specs.State.{State}
 use Rattle.h2_spec.specs.Trace.{Event, event_on, next_event, next_item, trace}
 use Rattle.h2_spec.proofs.ParseLaws.{Uses}
 use Rattle.h2_spec.proofs.TraceLaws.{event-uses, events-append}
-use Rattle.h2_cmd_check.specs.ItemsTaken.{Sight, no_item, sight, with_gone, with_item, with_items}
+use Rattle.h2_cmd_check.specs.ItemsTaken.{Sight, no_item, sight, with_item, with_items}
 use Rattle.h2_cmd_check.proofs.Items.{front}
 
 -- the state after the last of these events
@@ -43,13 +43,6 @@ last_state (suc n) s b h = at (λ t d. last_state n t d) (next_event s b) (event
 with_items-append : (s : State) (seen : Sight) (es fs : List Event) → with_items s seen (es ++ fs) ≡ with_items (ended s es) (with_items s seen es) fs
 with_items-append s seen [] fs = refl
 with_items-append s seen (e ∷ es) fs = with_items-append e.state (with_item s seen e) es fs
-
--- octets that were let go stay in front
-pub items_with_gone : (s : State) (gone : List ℕ) (seen : Sight) (es : List Event) → with_items s (with_gone gone seen) es ≡ with_gone gone (with_items s seen es)
-items_with_gone s gone seen [] = refl
-items_with_gone s gone seen (e ∷ es) =
-    ap (λ (o : List ℕ). with_items e.state (record (with_item s seen e) { sent = o }) es) (append_assoc gone seen.sent (frames_octets e.sent))
-    ∙ items_with_gone e.state gone (with_item s seen e) es
 
 -- the run from where the octets before have led
 key : (s t : State) (octets more : List ℕ) (at : ℕ) → at ≤ length octets

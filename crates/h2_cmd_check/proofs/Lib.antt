@@ -4,6 +4,5 @@ pub mod Feeds
 pub mod Gains
 pub mod Going
 pub mod Items
-pub mod SentLaws
 pub mod TextLaws
 pub mod XmlGains

@@ -3,8 +3,6 @@ use Rattle.std.specs.Prelude.{ℕ, ◌+◌, Bool, true, false, List, [], ◌∷�
 use Rattle.std.specs.List.{starts_with}
 use Rattle.std.specs.Str.{bytes_eq}
 use Rattle.h2_cmd_cases.specs.Frames.{octets_at, summed}
-use Rattle.h2_spec.specs.Frames.Frame.{head_at}
-use Rattle.h2_spec.specs.declared.frames.Head.{Head}
 
 -- nothing is left
 abbrev pub is_none : List ℕ → Bool
@@ -43,11 +41,3 @@ spoken_by text left all spoken =
     if bytes_eq text (codes "...") then all
     else if bytes_eq text (codes "-") then spoken
     else spoken + octets_next (next_of text left)
-
--- how many octets a frame has by its head; nine without one
-abbrev pub length_by : Option Head → ℕ
-length_by None = 9
-length_by (Some head) = 9 + head.length
-
-abbrev pub frame_length : List ℕ → ℕ
-frame_length octets = length_by (head_at octets)

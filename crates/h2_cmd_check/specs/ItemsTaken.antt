@@ -1,5 +1,5 @@
 -- What is seen of the items of a run: what was sent, and why items were errors or were ignored (RFC 9113, 5.4).
-use Rattle.std.specs.Prelude.{◌≡◌, ◌≤◌, ◌⊎◌, ℕ, ◌+◌, ◌++◌, List, [], ◌∷◌, length, Option, Some, None}
+use Rattle.std.specs.Prelude.{◌≡◌, ℕ, ◌+◌, ◌++◌, List, [], ◌∷◌, Option, Some, None}
 use Rattle.h2_spec.specs.Effect.{cause_of}
 use Rattle.h2_spec.specs.Frames.Frame.{frames_octets}
 use Rattle.h2_spec.specs.Causes.Ignored.{ignored_of}
@@ -71,11 +71,7 @@ sight_by (Left d) seen = seen
 
 -- the sight that a value has
 abbrev pub seen_by : ItemsTaken → Sight
-seen_by seen = record { items = seen.items; sent = seen.sent; first = seen.first; cause = seen.cause; ignored = seen.ignored }
-
--- it with octets in front of those that were sent
-abbrev pub with_gone : List ℕ → Sight → Sight
-with_gone gone seen = record seen { sent = gone ++ seen.sent }
+seen_by seen = record { items = seen.items; sent = seen.sent.items; first = seen.first; cause = seen.cause; ignored = seen.ignored }
 
 -- the next item of the octets was taken: it has that many of them
 pub record TakesItem (s : State) (b : List ℕ) (seen : Sight) (t : State) (seen' : Sight) (used : ℕ) : Type 0 where
@@ -93,7 +89,3 @@ pub record TakesNone (s : State) (b : List ℕ) (seen : Sight) (t : State) (seen
 abbrev pub TakesNext : State → List ℕ → Sight → State → Sight → Option ℕ → Type 0
 TakesNext s b seen t seen' None = TakesNone s b seen t seen'
 TakesNext s b seen t seen' (Some used) = TakesItem s b seen t seen' used
-
--- octets in front have that many, or no others follow
-abbrev pub IsEnough : ℕ → (front rest : List ℕ) → Type 0
-IsEnough n front rest = (n ≤ length front) ⊎ (rest ≡ [])

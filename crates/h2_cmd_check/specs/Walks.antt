@@ -10,9 +10,8 @@ use Rattle.h2_cmd_check.specs.Cases.{Outcome, Place, Start, Skipped, Holds, Fail
 use Rattle.h2_cmd_check.specs.Commands.{answered, debugger_or, is_present, is_refusal, left_with}
 use Rattle.h2_cmd_check.specs.Frames.{is_none, octets_next, sends, spoken_by}
 use Rattle.h2_cmd_cases.specs.Lines.{CaseLine}
-use Rattle.h2_cmd_check.specs.ItemsTaken.{Sight, seen_by, sight_by, with_gone}
-use Rattle.h2_cmd_check.specs.declared.case_debugger.CaseDebugger.{CaseDebugger}
-use Rattle.h2_cmd_check.specs.declared.case_debugger.CaseDebugger.TheVariants.{Absent, Present, Left}
+use Rattle.h2_cmd_check.specs.ItemsTaken.{Sight, seen_by, sight_by}
+use Rattle.h2_cmd_check.specs.declared.case_debugger.CaseDebugger.TheVariants.{Present}
 use Rattle.h2_cmd_check.specs.declared.command.Given.{Given}
 use Rattle.h2_cmd_check.specs.declared.walk.Walk.{Walk}
 use Rattle.h2_cmd_check.specs.Tap.{Gains}
@@ -20,17 +19,11 @@ use Rattle.h2_cmd_check.specs.declared.growing.Growing.{Growing}
 use Rattle.h2_cmd_check.specs.declared.verdict.CaseVerdict.{CaseVerdict}
 use Rattle.h2_cmd_check.specs.declared.verdict.CaseVerdict.TheVariants as verdict
 
--- how many octets lines have spoken about, with those that were let go, which a debugger has none of
-abbrev pub spoken_in : CaseDebugger → (gone spoken : ℕ) → ℕ
-spoken_in Absent gone spoken = gone + spoken
-spoken_in (Present d) gone spoken = spoken
-spoken_in (Left d) gone spoken = gone + spoken
-
 -- the place of a walk
 abbrev pub place_of : Walk → Place
-place_of w = record { above = w.octets.items; spoken = spoken_in w.debugger w.seen.gone w.spoken; speaks = w.speaks; debugging = w.debugger }
+place_of w = record { above = w.octets.items; spoken = w.spoken; speaks = w.speaks; debugging = w.debugger }
 
--- what is seen there; of the octets that were sent those that are held
+-- what is seen there
 abbrev pub sight_here : Walk → Sight
 sight_here w = sight_by w.debugger (seen_by w.seen)
 
@@ -47,19 +40,13 @@ pub record Begins (start : Start) (given : Given) : Type 0 where
 abbrev pub IsWithin : Walk → Type 0
 IsWithin w = (w.seen.items ≤ w.at) × (w.at ≤ length w.octets.items)
 
--- the walk has seen what is above its place, but for octets that it let go
-pub record Sees (start : Start) (w : Walk) : Type 0 where
-  pub gone : List ℕ
-  pub count : w.seen.gone ≡ length gone
-  pub seen : with_gone gone (seen_by w.seen) ≡ sight_above start (place_of w)
-
 -- the walk and its connection have got as far as the octets of its lines lead
 pub record Walks (start : Start) (w : Walk) (c : Connection) : Type 0 where
   pub within : IsWithin w
   pub ready : c ≡ going c.state []
   pub state : (parse_all next_event start.state w.octets.items).state ≡ c.state
   pub rest : (parse_all next_event start.state w.octets.items).rest ≡ drop w.at w.octets.items
-  pub seen : Sees start w
+  pub seen : seen_by w.seen ≡ sight_above start (place_of w)
 
 -- the walk has found whether something holds, and all else is as before
 pub record Finds (b : Bool) (w w' : Walk) : Type 0 where
@@ -93,7 +80,7 @@ pub record Leaves (more : List ℕ) (w w' : Walk) : Type 0 where
   pub seen : w'.seen ≡ w.seen
   pub speaks : w'.speaks ≡ w.speaks
   pub debugger : w'.debugger ≡ left_with more w.debugger
-  pub spoken : w'.spoken ≡ (if is_present w.debugger then length w.seen.sent else w.spoken)
+  pub spoken : w'.spoken ≡ (if is_present w.debugger then length w.seen.sent.items else w.spoken)
 
 -- the debugger of a walk, or a new one
 abbrev pub debugger_for : Given → Walk → Debugging

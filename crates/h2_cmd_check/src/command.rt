@@ -73,7 +73,10 @@ pub(crate) fn debugger_over<'b>(
 ) -> Result<Debugger<'b, Global>, AllocError>
     ensures { IfOk result (λ debugger. debugger ≡ loaded given.now.book.now given.now.config octets.now.items) }
 {
-    let octets = octets.clone()?;
+    let octets = match octets.clone() {
+        Ok(octets) => octets,
+        Err(error) => return Err(error),
+    };
     match Debugger::load(given.book, given.config, octets) {
         Ok(debugger) => Ok(debugger),
         Err(_) => Err(AllocError),

@@ -11,7 +11,6 @@ mod growing;
 mod junit;
 mod pattern;
 mod run;
-mod sent;
 mod tap;
 mod texts;
 mod verdict;

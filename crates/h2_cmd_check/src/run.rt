@@ -6,7 +6,6 @@ ghost use Rattle.h2_spec.specs.Frames.Parse.{parse_all};
 ghost use Rattle.h2_spec.specs.Trace.{next_event};
 ghost use Rattle.h2_cmd_check.specs.ItemsTaken.{TakesNext, cause_or, seen_by, with_items};
 
-use crate::sent::Sent;
 use h2_conn::{Conn, Scratch};
 use h2_spec::causes::Cause;
 use h2_spec::ignored::Ignored;
@@ -15,13 +14,11 @@ use std::alloc::{AllocError, Global};
 
 /// What is seen of the items that were taken.
 #[derive(Drop)]
-pub(crate) struct ItemsTaken<'b> {
+pub(crate) struct ItemsTaken {
     /// How many there were.
     pub items: usize,
-    /// How many of the octets that were sent first were let go.
-    pub gone: usize,
-    /// The octets that were sent after them, the opening SETTINGS first.
-    pub sent: Sent<'b>,
+    /// The octets that were sent, the opening SETTINGS first.
+    pub sent: Vec<u8>,
     /// Why the first error was one, if there was an error.
     pub first: Option<Cause>,
     /// Why the last item is an error, if it is one.
@@ -45,18 +42,17 @@ fn cause_or(one: Option<Cause>, other: Option<Cause>) -> Option<Cause>
 /// Takes the item that octets begin with, if there is a whole one, and gives how many octets it has.
 ///
 /// `AllocError` where memory is refused.
-fn take_item<'b>(
-    conn: &mut Conn<'b, Global>,
+fn take_item(
+    conn: &mut Conn<'_, Global>,
     octets: &[u8],
-    seen: &mut ItemsTaken<'b>,
+    seen: &mut ItemsTaken,
 ) -> Result<Option<usize>, AllocError>
     requires ready { conn.old ≡ going conn.old.state [] }
     requires few { seen.old.items < 2 ^ 63 }
     ensures ready { conn.new ≡ going conn.new.state [] }
     ensures takes { IfOk result (λ used. TakesNext conn.old.state octets.now (seen_by seen.old) conn.new.state (seen_by seen.new) used) }
-    ensures gone { seen.new.gone ≡ seen.old.gone }
 {
-    let Some(taken) = seen.sent.take(conn, octets, &mut seen.memory)? else {
+    let Some(taken) = conn.take_and_lend(octets, &mut seen.memory, &mut seen.sent)? else {
         return Ok(None);
     };
     seen.items += 1;
@@ -69,18 +65,17 @@ fn take_item<'b>(
 /// Takes the items that octets have from a place on, and gives the place after them.
 ///
 /// `AllocError` where memory is refused.
-pub(crate) fn take_items<'b>(
-    conn: &mut Conn<'b, Global>,
+pub(crate) fn take_items(
+    conn: &mut Conn<'_, Global>,
     octets: &[u8],
     start: usize,
-    seen: &mut ItemsTaken<'b>,
+    seen: &mut ItemsTaken,
 ) -> Result<usize, AllocError>
     requires ready { conn.old ≡ going conn.old.state [] }
     requires few { seen.old.items ≤ start }
     requires within { start ≤ length octets.now }
     ensures ready { conn.new ≡ going conn.new.state [] }
     ensures few { IfOk result (λ at. seen.new.items ≤ at) }
-    ensures gone { seen.new.gone ≡ seen.old.gone }
     ensures within { IfOk result (λ at. at ≤ length octets.now) }
     ensures state { IfOk result (λ at. (parse_all next_event conn.old.state (drop start octets.now)).state ≡ conn.new.state) }
     ensures rest { IfOk result (λ at. (parse_all next_event conn.old.state (drop start octets.now)).rest ≡ drop at octets.now) }

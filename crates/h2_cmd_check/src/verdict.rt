@@ -14,7 +14,6 @@ use crate::fault::CaseFault;
 use crate::texts::item_texts;
 use crate::walk::{Walk, check_lines};
 use h2_conn::{Conn, ConnFault};
-use h2_frame::Outbox;
 use h2_request_book::book::Book;
 use h2_spec::causes::Cause;
 use h2_spec::connection::Config;
@@ -45,16 +44,16 @@ pub enum CaseVerdict<'t> {
 }
 
 /// The verdict on a case whose connection is new.
-fn check_on<'t, 'b>(
+fn check_on<'t>(
     alloc: Global,
-    conn: &mut Conn<'b, Global>,
-    sent: Outbox<'b, Global>,
-    given: &Given<'_, 'b>,
+    conn: &mut Conn<'_, Global>,
+    sent: Vec<u8>,
+    given: &Given<'_, '_>,
     lines: &[&'t [u8]],
     number: usize,
 ) -> Result<CaseVerdict<'t>, CaseFault>
     requires ready { conn.old ≡ going conn.old.state [] }
-    ensures verdict { let start : Start = record { state = conn.old.state; sent = sent.entry; texts = map string_bytes given.now.texts.now; book = given.now.book.now; config = given.now.config } in
+    ensures verdict { let start : Start = record { state = conn.old.state; sent = sent.items; texts = map string_bytes given.now.texts.now; book = given.now.book.now; config = given.now.config } in
         IfOk result (λ verdict. outcome_by verdict
         ≡ outcome (all_hold start first_place (map line_said (map (λ l. l.now) lines.now))) (expect_something (map (λ l. l.now) lines.now))) }
     ensures fault { IfErr result (λ fault. fault ≡ NoMemory) }
@@ -84,7 +83,7 @@ fn check_with<'t>(
         book,
         config,
     };
-    let mut sent = Outbox::new(alloc);
+    let mut sent = Vec::new(alloc);
     match Conn::new(book, config, &mut sent) {
         Ok(mut conn) => check_on(alloc, &mut conn, sent, &given, lines, number),
         Err(ConnFault::BadConfig) => Err(CaseFault::BadConfig),

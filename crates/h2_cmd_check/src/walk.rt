@@ -1,16 +1,15 @@
 //! The lines of a case, one after another: those of the script are played, and the others are compared with what is
 //! seen of the run so far, or of the position of a debugger. Definitions: `specs/Cases.antt`, `specs/Walks.antt`.
 
-ghost use Rattle.std.specs.Prelude.{◌≡◌, ◌≤◌, ◌<◌, ◌^◌, ◌++◌, ◌&&◌, nat_eq, take, Bool, true, false, None, List, [], ℕ, length, drop, map, string_bytes, if◌then◌else◌, OnOk, IfOk};
-ghost use Rattle.std.specs.List.{starts_with};
-ghost use Rattle.h2_conn.specs.Connection.{Connection, going};
+ghost use Rattle.std.specs.Prelude.{◌≡◌, ◌≤◌, ◌<◌, ◌^◌, ◌++◌, ◌&&◌, Bool, true, false, None, List, [], ℕ, length, drop, map, string_bytes, if◌then◌else◌, OnOk, IfOk};
+ghost use Rattle.h2_conn.specs.Connection.{going};
 ghost use Rattle.h2_spec.specs.Texts.Assemble.{statement_at};
 ghost use Rattle.h2_spec.specs.Texts.Show.{show};
 ghost use Rattle.h2_spec.specs.Texts.View.{view};
-ghost use Rattle.h2_cmd_check.specs.Cases.{Start, all_hold, cause_text, closes, errs, ignores, outcome, passed, plays, played, reason_text};
+ghost use Rattle.h2_cmd_check.specs.Cases.{Start, all_hold, cause_text, closes, errs, ignores, outcome, passed, plays, played, reason_text, sight_above};
 ghost use Rattle.h2_cmd_check.specs.Commands.{text_by};
 ghost use Rattle.h2_cmd_cases.specs.Files.{expect_something};
-ghost use Rattle.h2_cmd_check.specs.Frames.{frame_length, is_none, next_of, next_whole, sends, spoken_by};
+ghost use Rattle.h2_cmd_check.specs.Frames.{is_none, next_of, next_whole, sends, spoken_by};
 ghost use Rattle.h2_cmd_cases.specs.Frames.{summed};
 ghost use Rattle.h2_cmd_check.specs.ItemTexts.{octets_at, text_before};
 ghost use Rattle.h2_cmd_cases.specs.Lines as said;
@@ -18,24 +17,22 @@ ghost use Rattle.h2_cmd_cases.specs.Lines.{line_said, said_by, CaseLine};
 ghost use Rattle.h2_cmd_check.specs.ItemsTaken.{no_item, seen_by};
 ghost use Rattle.h2_cmd_check.specs.Texts.{explains, shows};
 ghost use Rattle.h2_cmd_check.specs.declared.case_debugger.CaseDebugger.TheVariants.{Absent};
-ghost use Rattle.h2_cmd_check.specs.Walks.{Begins, Closes, Commands, Compares, Finds, Goes, IsWithin, Leaves, Loads, Passes, Sees, Speaks, Walks, left_by, outcome_by, place_of, sent_here, sight_here};
+ghost use Rattle.h2_cmd_check.specs.Walks.{Begins, Closes, Commands, Compares, Finds, Goes, IsWithin, Leaves, Loads, Passes, Speaks, Walks, left_by, outcome_by, place_of, sent_here, sight_here};
 
 use crate::case_debugger::CaseDebugger;
 use crate::command::{Given, fault_line, is_obeyed};
 use crate::pattern::{closest, explains, shows};
 use crate::run::{ItemsTaken, take_items};
-use crate::sent::{Sent, left_from, longer};
 use crate::texts::text_before;
 use crate::verdict::{CaseVerdict, Wrong};
 use h2_cmd_cases::{Line, expect_something, line_of, push_short_line, summed};
 use h2_conn::{Conn, Scratch};
 use h2_debug::{Reply, ReplyText};
-use h2_frame::{Outbox, read_head};
+use h2_explain_words::sent::next_frame;
 use h2_io::string_of;
 use h2_script::{LineFault, SyntaxKind, add_line, disassemble};
 use h2_spec::causes::Cause;
 use h2_spec::ignored::Ignored;
-use h2_spec::octets::first_octets;
 use std::alloc::{AllocError, Global};
 use std::{mem, str};
 
@@ -45,10 +42,9 @@ pub(crate) struct Walk<'t, 'b> {
     pub octets: Vec<u8>,
     /// How many of them were taken as items.
     pub at: usize,
-    pub seen: ItemsTaken<'b>,
+    pub seen: ItemsTaken,
     pub debugger: CaseDebugger<'b>,
-    /// How many of the octets sent that are held lines have spoken about; with a debugger, of those for the item of its
-    /// position.
+    /// How many of the octets sent lines have spoken about; with a debugger, of those for the item of its position.
     pub spoken: usize,
     /// Whether a line has spoken about them since the last octets or the last command, and the number of that line.
     pub speaks: bool,
@@ -92,12 +88,11 @@ impl<'t, 'b> Drop for Walk<'t, 'b> {
 
 /// What is seen at the place of a walk.
 #[derive(Clone, Copy)]
-pub(crate) struct Sight {
+pub(crate) struct Sight<'s> {
     /// How many items there are up to the place.
     pub items: usize,
-    /// How many of the octets that were sent are held, of which lines speak: those for all items, or for the item of a
-    /// debugger's position.
-    pub sent: usize,
+    /// The octets that were sent, of which lines speak: those for all items, or for the item of a debugger's position.
+    pub sent: &'s [u8],
     /// Why the first error is one; with a debugger why the item of its position is one.
     pub first: Option<Cause>,
     /// Why the item before is an error.
@@ -163,13 +158,24 @@ fn reason_name(reason: Option<Ignored>) -> &'static str
     }
 }
 
-/// How many octets the frame has that octets begin with, by its head; nine where they have none.
-fn frame_length(octets: &[u8]) -> usize
-    ensures { result ≡ frame_length octets.now }
+/// The octets from a place on; none where there are fewer.
+fn left_from(octets: &[u8], start: usize) -> &[u8]
+    ensures { result.now ≡ drop start octets.now }
 {
-    match read_head(octets) {
-        Some(head) => 9 + head.length as usize,
-        None => 9,
+    if start < octets.len() {
+        &octets[start..]
+    } else {
+        &[]
+    }
+}
+
+/// How many octets the frame has that octets begin with; all of them where there is no whole one.
+fn first_length(octets: &[u8]) -> usize
+    ensures { result ≤ length octets.now }
+{
+    match next_frame(octets) {
+        None => octets.len(),
+        Some((_, rest)) => octets.len().saturating_sub(rest.len()),
     }
 }
 
@@ -178,7 +184,7 @@ fn first_line(alloc: Global, octets: &[u8]) -> Result<String, AllocError> {
     if octets.is_empty() {
         return String::from_str(alloc, "-");
     }
-    let text = disassemble(alloc, octets)?;
+    let text = disassemble(alloc, &octets[..first_length(octets)])?;
     match text.as_str().split_once('\n') {
         Some((line, _)) => String::from_str(alloc, line),
         None => Ok(text),
@@ -206,10 +212,10 @@ fn is_like_summary(line: &[u8]) -> bool {
 
 impl<'t, 'b> Walk<'t, 'b> {
     /// No line yet, of a connection for which these octets were sent.
-    pub(crate) fn new(alloc: Global, sent: Outbox<'b, Global>) -> Walk<'t, 'b>
+    pub(crate) fn new(alloc: Global, sent: Vec<u8>) -> Walk<'t, 'b>
         ensures octets { (result.octets.items ≡ []) × (result.at ≡ 0) }
-        ensures seen { seen_by result.seen ≡ no_item sent.entry }
-        ensures place { (result.seen.gone ≡ 0) × ((result.spoken ≡ 0) × (result.speaks ≡ false)) }
+        ensures seen { seen_by result.seen ≡ no_item sent.items }
+        ensures place { (result.spoken ≡ 0) × (result.speaks ≡ false) }
         ensures debugger { result.debugger ≡ Absent }
         ensures holds { result.holds ≡ true }
     {
@@ -218,8 +224,7 @@ impl<'t, 'b> Walk<'t, 'b> {
             at: 0,
             seen: ItemsTaken {
                 items: 0,
-                gone: 0,
-                sent: Sent::of(alloc, sent),
+                sent,
                 first: None,
                 cause: None,
                 ignored: None,
@@ -399,9 +404,10 @@ impl<'t, 'b> Walk<'t, 'b> {
 
     /// What is seen of all items; with a debugger, of the item of its position. In one function, since a proof about what a
     /// debugger has takes long.
-    pub(crate) fn sight(&self) -> Sight
+    pub(crate) fn sight(&self) -> Sight<'_>
         ensures items { result.items ≡ (sight_here self.now).items }
-        ensures sent { result.sent ≡ length (sent_here self.now) }
+        ensures sent { result.sent.now ≡ sent_here self.now }
+        ensures few { length (sent_here self.now) < 2 ^ 64 }
         ensures causes { (result.first ≡ (sight_here self.now).first) × (result.cause ≡ (sight_here self.now).cause) }
         ensures ignored { result.ignored ≡ (sight_here self.now).ignored }
     {
@@ -410,7 +416,7 @@ impl<'t, 'b> Walk<'t, 'b> {
                 let debugger = boxed.as_ref();
                 Sight {
                     items: debugger.pos(),
-                    sent: debugger.sent().len(),
+                    sent: debugger.sent(),
                     first: debugger.cause(),
                     cause: debugger.cause(),
                     ignored: debugger.ignored(),
@@ -418,7 +424,7 @@ impl<'t, 'b> Walk<'t, 'b> {
             }
             CaseDebugger::Absent | CaseDebugger::Left(_) => Sight {
                 items: self.seen.items,
-                sent: self.seen.sent.len(),
+                sent: self.seen.sent.as_slice(),
                 first: self.seen.first,
                 cause: self.seen.cause,
                 ignored: self.seen.ignored,
@@ -426,62 +432,20 @@ impl<'t, 'b> Walk<'t, 'b> {
         }
     }
 
-    /// How many of the octets that were sent are held; with a debugger, for the item of its position. Lines `;<` say what
-    /// is in them.
-    pub(crate) fn sent_len(&self) -> usize
-        ensures { result ≡ length (sent_here self.now) }
+    /// The octets that were sent so far; with a debugger, for the item of its position. Lines `;<` say what is in them.
+    pub(crate) fn sent(&self) -> &[u8]
+        ensures octets { result.now ≡ sent_here self.now }
+        ensures few { length (sent_here self.now) < 2 ^ 64 }
     {
         self.sight().sent
     }
 
-    /// Whether no octets are left that no line `;<` has named yet.
-    pub(crate) fn is_none_left(&self) -> bool
-        ensures { result ≡ is_none (left_by self.now) }
+    /// Those octets that no line `;<` has named yet.
+    pub(crate) fn unspoken(&self) -> &[u8]
+        ensures octets { result.now ≡ left_by self.now }
+        ensures few { length (sent_here self.now) < 2 ^ 64 }
     {
-        self.sent_len() <= self.spoken
-    }
-
-    /// A copy of this many of them, the first ones; of all where there are fewer.
-    fn left(&mut self, alloc: Global, count: usize) -> Result<Vec<u8>, AllocError>
-        ensures value { IfOk result (λ octets. octets.items ≡ take count (left_by self.old)) }
-        ensures same { self.new ≡ self.old }
-    {
-        match &self.debugger {
-            CaseDebugger::Present(boxed) => {
-                let octets = left_from(boxed.as_ref().sent(), self.spoken);
-                Vec::from_slice(alloc, first_octets(octets, count))
-            }
-            CaseDebugger::Absent | CaseDebugger::Left(_) => {
-                self.seen.sent.copy(alloc, self.spoken, count)
-            }
-        }
-    }
-
-    /// A copy of all of them.
-    pub(crate) fn all_left(&mut self, alloc: Global) -> Result<Vec<u8>, AllocError>
-        ensures value { IfOk result (λ octets. octets.items ≡ left_by self.old) }
-        ensures same { self.new ≡ self.old }
-    {
-        let count = self.sent_len().saturating_sub(self.spoken);
-        self.left(alloc, count)
-    }
-
-    /// A copy of the frame that they begin with; of all of them where there is no whole one.
-    pub(crate) fn next_frame(&mut self, alloc: Global) -> Result<Vec<u8>, AllocError>
-        ensures value { IfOk result (λ octets. (line : List ℕ) → summed line octets.items ≡ summed line (left_by self.old)) }
-        ensures same { self.new ≡ self.old }
-    {
-        let head = self.left(alloc, 9)?;
-        self.left(alloc, frame_length(head.as_slice()))
-    }
-
-    /// Whether they begin with these.
-    pub(crate) fn is_next(&mut self, alloc: Global, wanted: &[u8]) -> Result<bool, AllocError>
-        ensures value { IfOk result (λ is. is ≡ starts_with nat_eq (left_by self.old) wanted.now) }
-        ensures same { self.new ≡ self.old }
-    {
-        let octets = self.left(alloc, wanted.len())?;
-        Ok(octets.as_slice().starts_with(wanted))
+        left_from(self.sent(), self.spoken)
     }
 
     /// Refuses the first frame that is left, where one is: no other may be sent.
@@ -493,12 +457,11 @@ impl<'t, 'b> Walk<'t, 'b> {
     ) -> Result<(), AllocError>
         ensures { OnOk result (Finds (is_none (left_by self.old)) self.old self.new) }
     {
-        if self.is_none_left() {
+        if self.unspoken().is_empty() {
             return Ok(());
         }
-        let frame = self.next_frame(alloc)?;
-        self.spoken = self.sent_len();
-        let found = first_line(alloc, frame.as_slice());
+        let found = first_line(alloc, self.unspoken());
+        self.spoken = self.sent().len();
         self.refuse(number, wanted, found)
     }
 }
@@ -515,7 +478,7 @@ impl<'t, 'b> Walk<'t, 'b> {
             return self.expect_none(alloc, self.speaker, b"-");
         }
         if self.octets.is_empty() {
-            self.spoken = self.sent_len();
+            self.spoken = self.sent().len();
         }
         Ok(())
     }
@@ -543,31 +506,10 @@ impl<'t, 'b> Walk<'t, 'b> {
         Ok(())
     }
 
-    /// Lets go of the octets that were sent, where lines have spoken about all that are held.
-    fn let_go(&mut self)
-        ensures octets { (self.new.octets ≡ self.old.octets) × (self.new.at ≡ self.old.at) }
-        ensures place { ((place_of self.new).spoken ≡ (place_of self.old).spoken) × (self.new.speaks ≡ self.old.speaks) }
-        ensures debugger { self.new.debugger ≡ self.old.debugger }
-        ensures items { self.new.seen.items ≡ self.old.seen.items }
-        ensures holds { self.new.holds ≡ self.old.holds }
-        ensures walks { (start : Start) (c : Connection) → Walks start self.old c → Walks start self.new c }
-    {
-        let held = self.seen.sent.len();
-        if self.spoken != held || self.debugger.is_present() {
-            return;
-        }
-        let Some(gone) = self.seen.gone.checked_add(held) else {
-            return;
-        };
-        self.seen.gone = gone;
-        self.seen.sent.clear();
-        self.spoken = 0;
-    }
-
     /// More octets of the client: the items that they complete are taken.
     pub(crate) fn feed(
         &mut self,
-        conn: &mut Conn<'b, Global>,
+        conn: &mut Conn<'_, Global>,
         more: &[u8],
     ) -> Result<(), AllocError>
         requires ready { conn.old ≡ going conn.old.state [] }
@@ -576,15 +518,21 @@ impl<'t, 'b> Walk<'t, 'b> {
         ensures within { OnOk result (IsWithin self.new) }
         ensures walks { OnOk result ((start : Start) → Walks start self.old conn.old → Walks start self.new conn.new) }
         ensures octets { OnOk result (self.new.octets.items ≡ self.old.octets.items ++ more.now) }
-        ensures place { ((place_of self.new).spoken ≡ (place_of self.old).spoken) × (self.new.speaks ≡ self.old.speaks) }
+        ensures place { (self.new.spoken ≡ self.old.spoken) × (self.new.speaks ≡ self.old.speaks) }
         ensures debugger { self.new.debugger ≡ self.old.debugger }
         ensures holds { self.new.holds ≡ self.old.holds }
     {
-        self.let_go();
-        self.octets.extend_from_slice(more)?;
-        self.at = take_items(conn, self.octets.as_slice(), self.at, &mut self.seen)?;
-        self.end = self.ending(conn);
-        Ok(())
+        let Ok(()) = self.octets.extend_from_slice(more) else {
+            return Err(AllocError);
+        };
+        match take_items(conn, self.octets.as_slice(), self.at, &mut self.seen) {
+            Ok(at) => {
+                self.at = at;
+                self.end = self.ending(conn);
+                Ok(())
+            }
+            Err(error) => Err(error),
+        }
     }
 
     /// Which error ended the connection, if one did: the last item is it.
@@ -599,7 +547,7 @@ impl<'t, 'b> Walk<'t, 'b> {
     fn play_octets(
         &mut self,
         alloc: Global,
-        conn: &mut Conn<'b, Global>,
+        conn: &mut Conn<'_, Global>,
         more: &[u8],
     ) -> Result<(), AllocError>
         requires ready { conn.old ≡ going conn.old.state [] }
@@ -622,7 +570,7 @@ impl<'t, 'b> Walk<'t, 'b> {
     fn play(
         &mut self,
         alloc: Global,
-        conn: &mut Conn<'b, Global>,
+        conn: &mut Conn<'_, Global>,
         number: usize,
         text: &'t [u8],
         space: &mut Vec<u8>,
@@ -659,23 +607,31 @@ impl<'t, 'b> Walk<'t, 'b> {
         if wanted.is_empty() {
             return self.fault(alloc, number, text, "no frame");
         }
-        let spoken = longer(self.spoken, wanted.len())?;
-        if self.is_next(alloc, wanted)? {
-            self.spoken = spoken;
+        if self.unspoken().starts_with(wanted) {
+            self.spoken += wanted.len();
             return Ok(());
         }
-        let frame = self.next_frame(alloc)?;
-        let found = first_line(alloc, frame.as_slice());
-        self.refuse_frame(alloc, number, text, frame.len(), found)
+        let found = first_line(alloc, self.unspoken());
+        self.refuse_frame(alloc, number, text, found)
     }
 
-    /// Says that a frame is not the next one, but another, which has this many octets and is passed over.
+    /// Passes over the next frame, whichever that is.
+    fn pass_frame(&mut self)
+        ensures holds { self.new.holds ≡ self.old.holds }
+        ensures octets { (self.new.octets ≡ self.old.octets) × (self.new.at ≡ self.old.at) }
+        ensures seen { (self.new.seen ≡ self.old.seen) × (self.new.debugger ≡ self.old.debugger) }
+        ensures speaks { self.new.speaks ≡ self.old.speaks }
+    {
+        let passed = first_length(self.unspoken());
+        self.spoken = self.spoken.saturating_add(passed);
+    }
+
+    /// Says that a frame is not the next one, but another, which is passed over.
     fn refuse_frame(
         &mut self,
         alloc: Global,
         number: usize,
         text: &'t [u8],
-        passed: usize,
         found: Result<String, AllocError>,
     ) -> Result<(), AllocError>
         ensures { OnOk result (Compares None self.old self.new) }
@@ -683,7 +639,7 @@ impl<'t, 'b> Walk<'t, 'b> {
         if self.any {
             return self.fault(alloc, number, text, BEHIND_ANY);
         }
-        self.spoken = self.spoken.saturating_add(passed);
+        self.pass_frame();
         self.refuse(number, text, found)
     }
 
@@ -694,16 +650,15 @@ impl<'t, 'b> Walk<'t, 'b> {
         alloc: Global,
         number: usize,
         text: &'t [u8],
-        frame: &[u8],
         kind: SyntaxKind,
     ) -> Result<(), AllocError>
         ensures { OnOk result (Compares None self.old self.new) }
     {
         if is_like_summary(text) {
-            let found = first_summary(alloc, frame);
-            return self.refuse_frame(alloc, number, text, frame.len(), found);
+            let found = first_summary(alloc, self.unspoken());
+            return self.refuse_frame(alloc, number, text, found);
         }
-        self.spoken = self.spoken.saturating_add(frame.len());
+        self.pass_frame();
         self.fault(alloc, number, text, kind_words(kind))
     }
 
@@ -718,13 +673,15 @@ impl<'t, 'b> Walk<'t, 'b> {
     ) -> Result<(), AllocError>
         ensures { OnOk result (Compares (summed text.now (left_by self.old)) self.old self.new) }
     {
-        let frame = self.next_frame(alloc)?;
-        match summed(alloc, text, frame.as_slice())? {
+        match summed(alloc, text, self.unspoken())? {
             Some(count) => {
-                self.spoken = longer(self.spoken, count)?;
+                // A frame has nine octets or more; this is for the prover, which then sees that the sum fits.
+                if count > 0 {
+                    self.spoken += count;
+                }
                 Ok(())
             }
-            None => self.refuse_summary(alloc, number, text, frame.as_slice(), kind),
+            None => self.refuse_summary(alloc, number, text, kind),
         }
     }
 
@@ -759,7 +716,7 @@ impl<'t, 'b> Walk<'t, 'b> {
         self.speaks = true;
         self.speaker = number;
         if text == b"...".as_slice() {
-            self.spoken = self.sent_len();
+            self.spoken = self.sent().len();
             self.any = true;
             return Ok(());
         }
@@ -847,7 +804,7 @@ impl<'t, 'b> Walk<'t, 'b> {
         text: &'t [u8],
     ) -> Result<(), AllocError>
         ensures same { OnOk result ((self.new.octets ≡ self.old.octets) × ((self.new.at ≡ self.old.at) × (self.new.seen ≡ self.old.seen))) }
-        ensures goes { OnOk result ((start : Start) → Begins start given.now → Sees start self.old
+        ensures goes { OnOk result ((start : Start) → Begins start given.now → seen_by self.old.seen ≡ sight_above start (place_of self.old)
             → Passes start (said.Command text.now) self.old self.new) }
     {
         self.close(alloc)?;
@@ -912,7 +869,7 @@ impl<'t, 'b> Walk<'t, 'b> {
     fn take_line(
         &mut self,
         alloc: Global,
-        conn: &mut Conn<'b, Global>,
+        conn: &mut Conn<'_, Global>,
         given: &Given<'_, 'b>,
         number: usize,
         line: &'t [u8],
@@ -961,7 +918,7 @@ fn found_line<'t>(text: &'t [u8], expected: &[u8]) -> &'t [u8] {
 /// Goes over the lines of a case, the first of which has this number in the file.
 fn go_over<'t, 'b>(
     alloc: Global,
-    conn: &mut Conn<'b, Global>,
+    conn: &mut Conn<'_, Global>,
     given: &Given<'_, 'b>,
     lines: &[&'t [u8]],
     number: usize,
@@ -986,7 +943,7 @@ fn go_over<'t, 'b>(
 /// `AllocError` where memory is refused.
 pub(crate) fn check_lines<'t, 'b>(
     alloc: Global,
-    conn: &mut Conn<'b, Global>,
+    conn: &mut Conn<'_, Global>,
     given: &Given<'_, 'b>,
     lines: &[&'t [u8]],
     number: usize,

@@ -25,7 +25,6 @@ loop-used-preserved c =
     let more : c.take_item.new.seen.items ≡ c.loop-used.seen.items + 1 = ap (λ (x : Sight). x.items) item.sight in
     record {
       few = omega (arith, c.loop-used.invariant.few, within.0, more);
-      gone = c.take_item.ensures.gone ∙ c.loop-used.invariant.gone;
       within = within.1;
       ready = c.take_item.ensures.ready;
       state = c.loop-used.invariant.state ∙ state_next s t c.args.octets.now c.loop-used.at c.in-Some.used item.event item.comes;
@@ -41,7 +40,6 @@ returns-in-None c =
     record {
       ready = c.take_item.ensures.ready;
       few = omega (arith, c.loop-used.invariant.few, same);
-      gone = c.take_item.ensures.gone ∙ c.loop-used.invariant.gone;
       within = c.loop-used.invariant.within;
       state = c.loop-used.invariant.state ∙ state_end _ _ none.none ∙ sym none.same;
       rest = c.loop-used.invariant.rest ∙ rest_end _ _ none.none;

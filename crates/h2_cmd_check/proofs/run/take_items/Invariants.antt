@@ -8,7 +8,6 @@ use Rattle.h2_cmd_check.proofs.run.take_items.Given as goal
 abbrev pub invariant-loop-used : goal.invariant-loop-used
 invariant-loop-used l = record {
   few : l.seen.items ≤ l.at;
-  gone : l.seen.gone ≡ l.fn.seen.gone;
   within : l.at ≤ length l.octets;
   ready : l.conn ≡ going l.conn.state [];
   state : (parse_all next_event l.fn.conn.state (drop l.start l.octets)).state ≡ (parse_all next_event l.conn.state (drop l.at l.octets)).state;

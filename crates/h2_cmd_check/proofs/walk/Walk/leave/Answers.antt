@@ -16,5 +16,5 @@ returns-then-is_absent c =
       seen = refl;
       speaks = refl;
       debugger = none ∙ sym (ap (λ (d : CaseDebugger). left_with c.args.more.now d) none);
-      spoken = sym (ap (λ (d : CaseDebugger). if is_present d then length w.seen.sent else w.spoken) none);
+      spoken = sym (ap (λ (d : CaseDebugger). if is_present d then length w.seen.sent.items else w.spoken) none);
     }

@@ -2,7 +2,7 @@ use Rattle.std.proofs.Common.{◌∙◌, Bool, subst, sym}
 use Rattle.std.proofs.lemmas.Result.{on_ok_weaker}
 use Rattle.h2_cmd_check.specs.Blessed.{renewed_sent, renewed_sent_place}
 use Rattle.h2_cmd_check.specs.Walks.{Writes, place_of}
-use Rattle.h2_cmd_check.proofs.Blessing.{renewed_first, renewed_last}
+use Rattle.h2_cmd_check.proofs.Blessing.{renewed_last}
 use Rattle.h2_cmd_check.proofs.walk.Walk.renew_sent.Goals as goal
 
 pub returns-clause-same : goal.returns-clause-same
@@ -16,8 +16,3 @@ returns-clause-text c =
     subst (λ (b : Bool). Writes (renewed_sent start (place_of c.args.self.now) b c.args.text.now) (renewed_sent_place start (place_of c.args.self.now) b c.args.text.now) c.end_sent.new.self c.args.out.now c.end_sent.new.out)
     (sym c.if-more.false) (renewed_last start c.args.self.now c.keep_sent.new.self c.end_sent.new.self c.args.text.now c.args.out.now c.keep_sent.new.out c.end_sent.new.out seen c.in_ok-keep_sent.ensures tells))
     c.end_sent.ensures
-
-pub returns-then-more-clause-text : goal.returns-then-more-clause-text
-returns-then-more-clause-text c = λ start seen.
-    subst (λ (b : Bool). Writes (renewed_sent start (place_of c.args.self.now) b c.args.text.now) (renewed_sent_place start (place_of c.args.self.now) b c.args.text.now) c.keep_sent.new.self c.args.out.now c.keep_sent.new.out)
-    (sym c.if-more.true) (renewed_first start c.args.self.now c.keep_sent.new.self c.args.text.now c.args.out.now c.keep_sent.new.out seen c.in_ok-keep_sent.ensures)

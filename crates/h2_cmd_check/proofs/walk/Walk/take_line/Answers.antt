@@ -2,7 +2,7 @@ use Rattle.std.proofs.Common.{◌≡◌, false, sym}
 use Rattle.std.proofs.lemmas.Result.{on_ok_weaker}
 use Rattle.h2_cmd_cases.specs.Lines as line
 use Rattle.h2_cmd_cases.specs.Lines.{line_said}
-use Rattle.h2_cmd_check.proofs.Going.{goes_cause, goes_explained, goes_found, goes_reason, goes_sent, goes_shown, walks_same}
+use Rattle.h2_cmd_check.proofs.Going.{goes_cause, goes_explained, goes_found, goes_reason, goes_shown}
 use Rattle.h2_cmd_check.proofs.walk.Walk.take_line.Goals as goal
 
 pub returns-in-Shown-clause-goes : goal.returns-in-Shown-clause-goes
@@ -44,38 +44,3 @@ returns-in-Unspaced-clause-goes c =
     on_ok_weaker c.fault.result
     (λ found. λ start begins is. rw said (goes_found false c.args.self.now c.fault.new.self found))
     c.fault.ensures
-
-pub returns-in-Unspaced-clause-walks : goal.returns-in-Unspaced-clause-walks
-returns-in-Unspaced-clause-walks c =
-    on_ok_weaker c.fault.result (λ f. λ start is. walks_same start c.args.self.now c.fault.new.self c.args.conn.now f.octets f.at f.seen is) c.fault.ensures
-
-pub returns-in-Sent-clause-walks : goal.returns-in-Sent-clause-walks
-returns-in-Sent-clause-walks c =
-    on_ok_weaker c.expect_sent.result (λ f. λ start is. walks_same start c.args.self.now c.expect_sent.new.self c.args.conn.now f.octets f.at f.seen is) c.expect_sent.ensures
-
-pub returns-in-Sent-clause-goes : goal.returns-in-Sent-clause-goes
-returns-in-Sent-clause-goes c =
-    let said : line_said c.args.line.now ≡ line.Sent c.in-Sent.text.now = sym (rw c.in-Sent.is at c.line_of.ensures) in
-    on_ok_weaker c.expect_sent.result
-    (λ f. λ start begins is. rw said (goes_sent start c.args.self.now c.expect_sent.new.self c.in-Sent.text.now is.seen f))
-    c.expect_sent.ensures
-
-pub returns-in-Command-clause-walks : goal.returns-in-Command-clause-walks
-returns-in-Command-clause-walks c =
-    on_ok_weaker c.command.result (λ s. λ start is. walks_same start c.args.self.now c.command.new.self c.args.conn.now s.0 s.1.0 s.1.1 is) c.command.ensures.same
-
-pub returns-in-Shown-clause-walks : goal.returns-in-Shown-clause-walks
-returns-in-Shown-clause-walks c =
-    on_ok_weaker c.expect_shown.result (λ f. λ start is. walks_same start c.args.self.now c.expect_shown.new.self c.args.conn.now f.octets f.at f.seen is) c.expect_shown.ensures
-
-pub returns-in-Cause-clause-walks : goal.returns-in-Cause-clause-walks
-returns-in-Cause-clause-walks c =
-    on_ok_weaker c.expect_cause.result (λ f. λ start is. walks_same start c.args.self.now c.expect_cause.new.self c.args.conn.now f.octets f.at f.seen is) c.expect_cause.ensures
-
-pub returns-in-Reason-clause-walks : goal.returns-in-Reason-clause-walks
-returns-in-Reason-clause-walks c =
-    on_ok_weaker c.expect_reason.result (λ f. λ start is. walks_same start c.args.self.now c.expect_reason.new.self c.args.conn.now f.octets f.at f.seen is) c.expect_reason.ensures
-
-pub returns-in-Explained-clause-walks : goal.returns-in-Explained-clause-walks
-returns-in-Explained-clause-walks c =
-    on_ok_weaker c.expect_explained.result (λ f. λ start is. walks_same start c.args.self.now c.expect_explained.new.self c.args.conn.now f.octets f.at f.seen is) c.expect_explained.ensures
