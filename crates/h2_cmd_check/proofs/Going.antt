@@ -1,5 +1,5 @@
 -- What a walk has found over a line, in the words of the definitions.
-use Rattle.std.proofs.Common.{◌≡◌, ◌∙◌, ◌++◌, ◌+◌, ◌&&◌, ◌||◌, ◌==◌, ℕ, Bool, true, false, not, cond, List, [], ◌∷◌, Some, length, length-append, drop, map, refl, sym, ap, ap₂, subst, append_assoc, arith, Bor}
+use Rattle.std.proofs.Common.{◌≡◌, ◌∙◌, ◌++◌, ◌+◌, ◌&&◌, ◌||◌, ◌==◌, ◌<◌, ℕ, suc, Bool, true, false, not, cond, List, [], ◌∷◌, Some, length, length-append, drop, map, refl, sym, ap, ap₂, subst, append_assoc, arith, Bor, add-one, drop-cons, get_or}
 use Rattle.std.specs.Prelude.{codes}
 use Rattle.std.specs.Str.{bytes_eq}
 use Rattle.std.proofs.lemmas.List.{append-nil}
@@ -10,7 +10,7 @@ use Rattle.h2_spec.specs.State.{State}
 use Rattle.h2_spec.specs.Texts.Show.{show}
 use Rattle.h2_spec.specs.Trace.{trace}
 use Rattle.h2_spec.specs.Texts.View.{view}
-use Rattle.h2_cmd_check.specs.Cases.{Place, Start, all_hold, closes, errs, first_place, ignores, passed, played, plays, sight_above, sight_at, unspoken}
+use Rattle.h2_cmd_check.specs.Cases.{Place, Start, all_hold, behind, closes, errs, first_place, holds, ignores, passed, played, plays, sight_above, sight_at, unspoken}
 use Rattle.h2_cmd_check.specs.Commands.{is_present, left_with, text_by}
 use Rattle.h2_cmd_check.specs.Frames.{is_none, next_of, octets_next, sends, spoken_by}
 use Rattle.h2_cmd_check.specs.ItemTexts.{text_before}
@@ -213,6 +213,29 @@ begun start w c octets at gone seen is = record {
   rest = rw (octets, at) refl;
   seen = record { gone = []; count = gone; seen = seen ∙ ap (λ (o : List ℕ). sight start.state start.sent o) (sym octets) };
 }
+
+-- ---- one line after another
+
+both : (a b x y : Bool) → (b ≡ true → x ≡ y) → ((a && b) && x) ≡ (a && (b && y))
+both true true x y e = e refl
+both true false x y e = refl
+both false b x y e = refl
+
+-- what holds after a line, and the line
+passes_on : (start : Start) (w w' : Walk) (said : line.CaseLine) (more : List line.CaseLine) → Passes start said w w'
+    → (w'.holds && all_hold start (place_of w') more) ≡ (w.holds && all_hold start (place_of w) (said ∷ more))
+passes_on start w w' said more g =
+    ap (λ (b : Bool). b && all_hold start (place_of w') more) g.found
+    ∙ both w.holds (holds start (place_of w) said) (all_hold start (place_of w') more) (all_hold start (behind start (place_of w) said) more) (λ e. ap (λ (p : Place). all_hold start p more) (g.place e))
+
+pub over_line : (start : Start) (w w' : Walk) (lines : List (Bor (List ℕ))) (i : ℕ) (l : Bor (List ℕ)) → i < length lines → l ≡ get_or lines i l → Passes start (line.line_said l.now) w w'
+    → (w'.holds && all_hold start (place_of w') (map (λ t. line.line_said t.now) (drop (i + 1) lines))) ≡ (w.holds && all_hold start (place_of w) (map (λ t. line.line_said t.now) (drop i lines)))
+over_line start w w' lines i l few is g =
+    let next : drop i lines ≡ l ∷ drop (suc i) lines = drop-cons lines i l few ∙ ap (λ (x : Bor (List ℕ)). x ∷ drop (suc i) lines) (sym is) in
+    let on : (w'.holds && all_hold start (place_of w') (map (λ t. line.line_said t.now) (drop (suc i) lines))) ≡ (w.holds && all_hold start (place_of w) (map (λ t. line.line_said t.now) (drop i lines))) =
+    passes_on start w w' (line.line_said l.now) (map (λ t. line.line_said t.now) (drop (suc i) lines)) g
+    ∙ ap (λ (ls : List (Bor (List ℕ))). w.holds && all_hold start (place_of w) (map (λ t. line.line_said t.now) ls)) (sym next) in
+    rw add-one on
 
 said_lent : (xs : List (Bor (List ℕ))) → map (λ l. line.line_said l.now) xs ≡ map line.line_said (map (λ l. l.now) xs)
 said_lent [] = refl

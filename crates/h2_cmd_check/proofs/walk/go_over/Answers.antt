@@ -4,7 +4,7 @@ use Rattle.std.proofs.lemmas.Result.{on_ok_weaker}
 use Rattle.h2_cmd_check.specs.Cases.{all_hold}
 use Rattle.h2_cmd_cases.specs.Lines.{line_said}
 use Rattle.h2_cmd_check.specs.Walks.{place_of}
-use Rattle.h2_cmd_check.proofs.Going.{closed}
+use Rattle.h2_cmd_check.proofs.Going.{closed, over_line}
 use Rattle.h2_cmd_check.proofs.walk.go_over.Goals as goal
 
 pub returns : goal.returns
@@ -18,3 +18,14 @@ returns c =
     ∙ ap (λ (ls : List (Bor (List ℕ))). w.holds && all_hold start (place_of w) (map (λ l. line_said l.now) ls)) (sym none)
     ∙ c.loop-place.invariant.holds start begins walks)
     c.close.ensures
+
+pub loop-place-preserved : goal.loop-place-preserved
+loop-place-preserved c = record {
+  ready = c.take_line.ensures.ready;
+  within = c.in_ok-take_line.ensures.within;
+  walks = λ start walks. c.in_ok-take_line.ensures.walks start (c.loop-place.invariant.walks start walks);
+  holds = λ start begins walks.
+      over_line start c.loop-place.walk c.take_line.new.self c.args.lines.now c.loop-place.place c.index-lines-place.result c.loop-place-test.true c.index-lines-place.is
+      (c.in_ok-take_line.ensures.goes start begins (c.loop-place.invariant.walks start walks))
+      ∙ c.loop-place.invariant.holds start begins walks;
+}
