@@ -29,8 +29,8 @@ returns-in_err-suite-clause-flag g c =
     let p = err_from_is_err_and c.from_residual.result c.from_residual.ensures.1 in
     rw (p.1, p.2) (rw c.in_err-suite.was at c.print_file.ensures.flag)
 
-pub returns-in-Err-push-clause-cut : goal.returns-in-Err-push-clause-cut
-returns-in-Err-push-clause-cut g c = λ printed well.
+pub returns-in-Err-clause-cut : goal.returns-in-Err-clause-cut
+returns-in-Err-clause-cut g c = λ printed well.
     let inv = c.loop-file.invariant in
     let trial = trial_of (g.F.Files.file c.args.files.now) c.args.bench in
     let names = c.args.names.now in
@@ -65,7 +65,7 @@ loop-file-preserved g c =
     let after = g.L.Link.log c.print_file.new.link in
     let a₀ = g.O.Output.written c.args.output.now in
     let b = g.O.Output.written c.print_file.new.output in
-    let grown : more ≡ suites ++ suite ∷ [] = c.in-Ok-push.ensures.items in
+    let grown : more ≡ suites ++ suite ∷ [] = c.in-Ok.ensures.items in
     record {
       writer = c.print_file.ensures.flag ∙ ap (λ (r : Result Suite Stop). is_unwritten r) c.in_ok-suite.was;
       same_printed = c.print_file.ensures.same_printed ∙ inv.same_printed;
