@@ -1,12 +1,12 @@
 -- The items of a connection that is shown, one after another.
 use Rattle.std.proofs.Common.{◌≡◌, ◌∙◌, ℕ, ◌+◌, ◌<◌, ◌≤◌, Bool, true, false, ◌&&◌, List, [], ◌∷◌, ◌++◌, Option, Some, None, ap, arith, drop, length, length-drop, refl, subst, sym}
 use Rattle.std.proofs.lemmas.List.{append_assoc, append-nil, drop-drop}
-use Rattle.h2_cmd_dialogue.specs.Steps.{Step}
-use Rattle.h2_cmd_dialogue.specs.Woven.{Parts}
+use Rattle.h2_cmd_dialogue.specs.Steps.{Start, Step}
+use Rattle.h2_cmd_dialogue.specs.Woven.{Parts, Weaving, after_item, no_steps_taken, parts_of}
 use Rattle.h2_cmd_inject.specs.Results.{AppendsOne}
-use Rattle.h2_cmd_inject.specs.Views.{AreOpeningLines, AreTaken, AreWarningsSince, IsBelow, IsEnd, IsEndIf, IsFront, IsItemShown, IsItemView, IsView, TakesAll, TakesIfThere, TakesItem, TalliesSince, Viewing, begun, is_opening, judged_of, opening_parts, tally_since}
+use Rattle.h2_cmd_inject.specs.Views.{AreOpeningLines, AreTaken, AreWarningsSince, IsBelow, IsEnd, IsEndIf, IsFront, IsItemShown, IsItemView, IsView, TakesAll, TakesIfThere, TakesItem, TalliesSince, Viewing, begun, is_opening, judged_of, opening_parts, since_with, tally_since}
 use Rattle.h2_explain.specs.Explains.{IsRestText, shows_item, summary_since}
-use Rattle.h2_explain.specs.Verdicts.{Tallied}
+use Rattle.h2_explain.specs.Verdicts.{Tallied, no_tally}
 use Rattle.h2_explain.specs.declared.run.Form.{Form}
 use Rattle.h2_explain.specs.declared.run.Summary.{Summary}
 use Rattle.h2_explain_item.specs.Warnings.{AreWarnings}
@@ -18,7 +18,28 @@ use Rattle.h2_explain_item.specs.declared.notes.StreamNote.{StreamNote}
 use Rattle.h2_explain_step.specs.Account.{ListsChanges}
 use Rattle.h2_explain_step.specs.Explained.{IsItemOf, IsTextWith}
 use Rattle.h2_explain_step.proofs.Taken.{item-uses}
+use Rattle.h2_spec.specs.Opening.{opening_octets}
 use Rattle.h2_spec.specs.State.{State}
+use Rattle.h2_spec.specs.declared.connection.Config.{Config}
+
+-- ---- a new connection
+
+-- what the script makes of the opening
+pub begun-parts : (steps : List Step) (s : State) (w : Weaving) (config : Config) (b out old : List ℕ) (p : Parts) → p ≡ parts_of steps w Start b → w ≡ no_steps_taken → b ≡ out
+    → out ≡ old ++ opening_octets config → old ≡ [] → config ≡ s.config → p ≡ opening_parts steps s
+begun-parts steps s w config b out old p is new same put none of =
+    let sent : b ≡ opening_octets s.config = same ∙ put ∙ ap (λ (l : List ℕ). l ++ opening_octets config) none ∙ ap opening_octets of in
+    is ∙ ap (λ (k : Weaving). parts_of steps k Start b) new ∙ ap (λ (k : List ℕ). parts_of steps no_steps_taken Start k) sent
+
+abbrev pub viewing_at : State → Weaving → Option ℕ → Tallied → Viewing
+viewing_at s w since t = record { state = s; weaving = w; since = since; tally = t; items = 0; offset = 0 }
+
+pub view-begun : (steps : List Step) (s : State) (w : Weaving) (p : Parts) (since : Option ℕ) (t : Tallied) → w ≡ after_item steps no_steps_taken Start → p ≡ opening_parts steps s
+    → since ≡ since_with None 0 p → t ≡ no_tally → viewing_at s w since t ≡ begun steps s
+view-begun steps s w p since t is_w is_p is_since is_t =
+    let spoken : since ≡ since_with None 0 (opening_parts steps s) = is_since ∙ ap (since_with None 0) is_p in
+    ap (λ (k : Weaving). viewing_at s k since t) is_w ∙ ap (λ (k : Option ℕ). viewing_at s (after_item steps no_steps_taken Start) k t) spoken
+    ∙ ap (viewing_at s (after_item steps no_steps_taken Start) (since_with None 0 (opening_parts steps s))) is_t
 
 -- ---- one item
 
