@@ -147,7 +147,7 @@ fn add_cases<F: Files>(
             number,
         };
         let kept = add_case(alloc, common, files, case, text)?;
-        all = note(file, &kept, reasons) && all;
+        all &= note(file, &kept, reasons);
         first += length;
     }
     Ok(all)
