@@ -146,8 +146,10 @@ fn add_cases<F: Files>(
             lines: first_lines(rest, length),
             number,
         };
-        let kept = add_case(alloc, common, files, case, text)?;
-        all &= note(file, &kept, reasons);
+        match add_case(alloc, common, files, case, text) {
+            Ok(kept) => all = note(file, &kept, reasons) && all,
+            Err(error) => return Err(error),
+        }
         first += length;
     }
     Ok(all)

@@ -23,7 +23,7 @@ loop-first-preserved g c =
       same_printed = c.add_case.ensures.same_printed ∙ inv.same_printed;
       same_files = c.add_case.ensures.same_files ∙ inv.same_files;
       text = λ printed.
-          let gained = c.in_ok-kept.ensures.text (inv.same_printed ∙ printed) in
+          let gained = c.in-Ok.ensures.text (inv.same_printed ∙ printed) in
           let here = subst (λ (e : Directory). c.add_case.new.text.items ≡ c.loop-first.text.items ++ blessed_case e s file (map (λ l. l.now) c.first_lines.result.now)) inv.same_files gained in
           let one = subst (λ (ls : List (Bor (List ℕ))). c.add_case.new.text.items ≡ c.loop-first.text.items ++ blessed_case d s file (map (λ l. l.now) ls)) taken here in
           bless-next d s file lines c.loop-first.first n c.loop-first.text.items c.add_case.new.text.items all c.loop-first-test.true value one (inv.text printed);
