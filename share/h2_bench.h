@@ -1,7 +1,7 @@
 /* h2_bench for C: what an HTTP/2 server must do with the octets of a client, and why. docs/EMBED.md has each call, and what is proved.
  *
- * Link with libh2_bench.so, or with libh2_bench.a. The library has h2_bench_run and h2_bench_kept_*, which are proved; the others are
- * here, over them. Each thread may call them, with objects of its own. No call ends the process or prints anything. */
+ * Link with libh2_bench.so, or with libh2_bench.a. The library has one function, h2_bench_run, which is proved; the others are here, over it. Each thread
+ * may call them, with objects of its own. No call ends the process or prints anything. */
 #ifndef H2_BENCH_H
 #define H2_BENCH_H
 
@@ -11,7 +11,7 @@
 #include <stdlib.h>
 #include <string.h>
 
-#define H2_BENCH_VERSION 2 /* of this header and the library; that of the JSON is the member "version" of item 0 */
+#define H2_BENCH_VERSION 1 /* of this header and the library; that of the JSON is the member "version" of item 0 */
 
 #ifdef __cplusplus
 extern "C" {
@@ -19,7 +19,7 @@ extern "C" {
 
 /* How a call ended. */
 struct h2_bench_end {
-    uint8_t fault;   /* 0: what was printed is given; 1: out of memory; 2: no space; 3: no connection; 22: a word or the name is not UTF-8 */
+    uint8_t fault;   /* 0: what was printed is given; 1: out of memory; 2: no space; 22: a word or the name is not UTF-8 */
     uint8_t status;  /* the exit status of the command */
     size_t printed;  /* how many octets it printed */
     size_t sentence; /* how many octets the sentence has that says why something was refused */
@@ -31,7 +31,7 @@ struct h2_bench_end {
 size_t h2_bench_run(const char *words, size_t words_length, const char *name, size_t name_length, const char *file, size_t file_length,
     const uint8_t *input, size_t input_length, uint8_t *out, size_t room, struct h2_bench_end *end);
 
-/* A connection in the library's memory, or none: begin with zeros, change nothing, copy it nowhere, and close it. One call at a time. */
+/* From 0.10.0 on, and used by nothing below yet: a connection in the library's memory, or none: begin with zeros, change nothing, copy it nowhere, and close it. One call at a time. */
 struct h2_bench_kept {
     uint8_t is_open;
     void *at;
@@ -88,22 +88,17 @@ static inline int h2_bench_fault_in(const char *data, size_t length) {
     return -1;
 }
 
-/* Gives a text this much space: 0 where memory is refused. */
-static inline int h2_bench_grow(h2_bench_text *text, size_t room) {
-    char *grown;
-    if (room <= text->room) return 1;
-    if (!(grown = (char *)realloc(text->data, room + 2))) return 0;
-    text->data = grown;
-    text->room = room;
-    return 1;
-}
-
 /* Carries out a command, with as much space as it needs. Gives 1 where the command was not refused; else 0, and `fault` and `sentence` say why. */
 static inline int h2_bench_command(h2_bench_text *text, const char *words, const char *name, const char *file, size_t file_length, const char *input, size_t input_length) {
     struct h2_bench_end end;
     size_t given, room = text->room ? text->room : 65536;
     for (;;) {
-        if (!h2_bench_grow(text, room)) return h2_bench_refuse(text, 0, "out of memory");
+        if (room > text->room) {
+            char *grown = (char *)realloc(text->data, room + 2);
+            if (!grown) return h2_bench_refuse(text, 0, "out of memory");
+            text->data = grown;
+            text->room = room;
+        }
         given = h2_bench_run(words, strlen(words), name, strlen(name), file, file_length, (const uint8_t *)input, input_length, (uint8_t *)text->data, text->room, &end);
         if (end.fault != 2) break;
         room = 2 * (end.printed + end.sentence);
@@ -155,43 +150,6 @@ static inline int h2_bench_check(h2_bench_text *text, const char *cases) {
     return h2_bench_command(text, "h2_bench\ncheck\ncase.h2", "case.h2", cases, strlen(cases), "", 0);
 }
 
-/* ---- JSON */
-
-/* Where the value of a member of an object begins: `json` is after its {, or within it. A null pointer where there is none. */
-static inline const char *h2_bench_member(const char *json, const char *end, const char *name) {
-    size_t length = strlen(name);
-    int depth = 0;
-    for (; json < end; json++) {
-        if (*json == '{' || *json == '[') depth++;
-        if ((*json == '}' || *json == ']') && --depth < 0) return NULL;
-        if (*json != '"') continue;
-        const char *text = ++json;
-        while (json < end && *json != '"') json += *json == '\\' ? 2 : 1;
-        if (!depth && (size_t)(json - text) == length && json + 1 < end && json[1] == ':' && !memcmp(text, name, length)) return json + 2;
-    }
-    return NULL;
-}
-
-/* The first object of a list, where `json` is at its [, or the one after an object of it; a null pointer after the last. */
-static inline const char *h2_bench_object(const char *json, const char *end) {
-    int depth = *json == '{';
-    while (++json < end) {
-        if (*json == '"')
-            for (json++; json < end && *json != '"'; json++) json += *json == '\\';
-        else if (*json == '{' || *json == '[') {
-            if (!depth++) return json;
-        } else if ((*json == '}' || *json == ']') && !depth--)
-            break;
-    }
-    return NULL;
-}
-
-static inline int h2_bench_count(const char *list, const char *end) {
-    int count = 0;
-    while (list && (list = h2_bench_object(list, end))) count++;
-    return count;
-}
-
 /* ---- a connection */
 
 /* The limits and settings of the server (docs/FORMATS.md, Commands). Begin with those of the program: struct h2_bench_limits limits = H2_BENCH_LIMITS; */
@@ -200,29 +158,23 @@ struct h2_bench_limits {
 };
 #define H2_BENCH_LIMITS {100, 32768, 4096, 65535, 16384}
 
-/* A connection. It stays in the library's memory; where memory was refused, it is played anew by the next call. */
+/* A connection is the octets so far: each call plays them from the first on, so feed what is there at once. */
 typedef struct h2_bench {
     char *words; /* the options and answers, each after a line feed */
-    uint8_t *octets;
-    size_t length, room; /* of the octets so far */
-    struct h2_bench_kept kept;
-    size_t taken, lines; /* how many octets the kept connection took, and how many lines it printed for them */
-    size_t given;        /* how many lines were put into the items */
-    size_t next;         /* where the next item begins in the items */
-    h2_bench_text items; /* the JSON of items; here is the fault of a call that gave 0 */
-    h2_bench_text sent;  /* the hex of what the server sends for these lines */
-    h2_bench_text rest;  /* what is after the last item */
+    char *hex;   /* the octets so far */
+    size_t length, room;
+    size_t next;  /* where the next item begins in the JSON */
+    size_t given; /* how many items were given */
+    int is_played;
+    h2_bench_text items; /* the JSON of all items; here is the fault of a call that gave 0 */
     h2_bench_text said;  /* what h2_bench_state and h2_bench_explain print */
 } h2_bench;
 
 static inline void h2_bench_close(h2_bench *bench) {
     if (!bench) return;
-    h2_bench_kept_close(&bench->kept);
     free(bench->words);
-    free(bench->octets);
+    free(bench->hex);
     h2_bench_free(&bench->items);
-    h2_bench_free(&bench->sent);
-    h2_bench_free(&bench->rest);
     h2_bench_free(&bench->said);
     free(bench);
 }
@@ -245,164 +197,37 @@ static inline h2_bench *h2_bench_open(const struct h2_bench_limits *limits, cons
     return bench;
 }
 
-/* The words of a command with the options and answers of a connection, or a null pointer: free them. */
-static inline char *h2_bench_words(const h2_bench *bench, const char *command) {
-    size_t length = strlen(command) + strlen(bench->words) + 11;
-    char *words = (char *)malloc(length);
-    if (words) snprintf(words, length, "h2_bench\n%s%s", command, bench->words);
-    return words;
+/* Takes octets of the client, in any cut. Gives 0 where memory is refused: the connection is as it was. */
+static inline int h2_bench_feed(h2_bench *bench, const uint8_t *octets, size_t count) {
+    size_t wanted = bench->length + 2 * count;
+    if (wanted + 1 > bench->room) {
+        char *grown = (char *)realloc(bench->hex, 2 * wanted + 1);
+        if (!grown) return h2_bench_refuse(&bench->items, 0, "out of memory");
+        bench->hex = grown;
+        bench->room = 2 * wanted + 1;
+    }
+    h2_bench_put_hex(bench->hex + bench->length, octets, count);
+    bench->length = wanted;
+    bench->is_played = 0;
+    return 1;
 }
 
 /* Carries out a command with the words and the octets of a connection. */
 static inline int h2_bench_with(h2_bench *bench, h2_bench_text *text, const char *command) {
-    char *words = h2_bench_words(bench, command), *hex = (char *)malloc(2 * bench->length + 1);
-    int done = words && hex;
-    if (done) h2_bench_put_hex(hex, bench->octets, bench->length);
-    done = done ? h2_bench_command(text, words, "", "", 0, hex, 2 * bench->length) : h2_bench_refuse(text, 0, "out of memory");
+    size_t length = strlen(command) + strlen(bench->words) + 11;
+    char *words = (char *)malloc(length);
+    int done;
+    if (!words) return h2_bench_refuse(text, 0, "out of memory");
+    snprintf(words, length, "h2_bench\n%s%s", command, bench->words);
+    done = h2_bench_command(text, words, "", "", 0, bench->length ? bench->hex : "", bench->length);
     free(words);
-    free(hex);
     return done;
-}
-
-/* Why a call of a connection gave 0; the items that are there stay. */
-static inline int h2_bench_fail(h2_bench *bench, int fault, const char *sentence) {
-    bench->items.fault = fault;
-    bench->items.sentence = sentence;
-    return 0;
-}
-
-/* Opens the kept connection, before all octets. */
-static inline int h2_bench_begin(h2_bench *bench) {
-    static const char how[] = "explain\n--json\n--full\n--strict";
-    struct h2_bench_end end;
-    char *words = h2_bench_words(bench, how);
-    if (!words) return h2_bench_fail(bench, 0, "out of memory");
-    h2_bench_kept_open(words, strlen(words), "", 0, "", 0, &bench->kept, &end);
-    free(words);
-    bench->taken = bench->lines = 0;
-    if (end.fault == 22) return h2_bench_fail(bench, 22, "a word is not UTF-8");
-    if (end.fault == 3 && !h2_bench_with(bench, &bench->items, how)) {
-        bench->items.length = 0;
-        return 0;
-    }
-    return end.fault ? h2_bench_fail(bench, 0, "out of memory") : 1;
-}
-
-/* Puts the hex of what the server sends for an item after that for those before; there is space. */
-static inline void h2_bench_put_sent(h2_bench_text *sent, const char *line, const char *end) {
-    const char *frame = h2_bench_member(line + 1, end, "sent");
-    while (frame && (frame = h2_bench_object(frame, end))) {
-        const char *hex = h2_bench_member(h2_bench_member(frame + 1, end, "octets") + 1, end, "hex") + 1;
-        size_t length = strcspn(hex, "\"");
-        memcpy(sent->data + sent->length, hex, length);
-        sent->length += length;
-    }
-}
-
-/* Takes the octets that the kept connection has not taken, and puts the lines that are new after those of the items. */
-static inline int h2_bench_play(h2_bench *bench) {
-    static const uint8_t none[1] = {0};
-    h2_bench_text *items = &bench->items;
-    struct h2_bench_end end;
-    size_t from, count, known = 0;
-    char *line, *after;
-    if (!bench->kept.is_open && !h2_bench_begin(bench)) return 0;
-    if (bench->next >= items->length) bench->next = items->length = 0;
-    from = items->length;
-    if (!h2_bench_grow(items, 65536)) return h2_bench_fail(bench, 0, "out of memory");
-    count = h2_bench_kept_feed(&bench->kept, bench->length ? bench->octets + bench->taken : none, bench->length - bench->taken, (uint8_t *)items->data + from, items->room - from, &end);
-    bench->taken = bench->length;
-    if (end.fault == 2 && h2_bench_grow(items, 2 * (from + end.printed))) count = h2_bench_kept_feed(&bench->kept, none, 0, (uint8_t *)items->data + from, items->room - from, &end);
-    if (end.fault || !h2_bench_grow(&bench->sent, 2 * (bench->sent.length + count))) {
-        h2_bench_kept_close(&bench->kept);
-        return h2_bench_fail(bench, 0, "out of memory");
-    }
-    items->data[from + count] = 0;
-    for (line = items->data + from; (after = strchr(line, '\n')); line = after + 1) {
-        if (++bench->lines > bench->given) {
-            h2_bench_put_sent(&bench->sent, line, after);
-            bench->given++;
-        } else /* the connection is played anew, or this is the opening */
-            known = (size_t)(after + 1 - items->data) - from;
-    }
-    count -= known;
-    memmove(items->data + from, items->data + from + known, count + 1);
-    items->length = from + count;
-    items->fault = -1;
-    items->sentence = "";
-    return 1;
-}
-
-/* Takes octets of the client, in any cut. Gives 0 where something is refused: the fault is in bench->items, and the connection is as it was. */
-static inline int h2_bench_feed(h2_bench *bench, const uint8_t *octets, size_t count) {
-    size_t wanted = bench->length + count;
-    if (wanted > bench->room) {
-        uint8_t *grown = (uint8_t *)realloc(bench->octets, 2 * wanted);
-        if (!grown) return h2_bench_fail(bench, 0, "out of memory");
-        bench->octets = grown;
-        bench->room = 2 * wanted;
-    }
-    if (count) memcpy(bench->octets + bench->length, octets, count);
-    bench->length = wanted;
-    if (h2_bench_play(bench)) return 1;
-    bench->length -= count;
-    return 0;
-}
-
-/* What is after the last item, in bench->rest; before the first one, after the line of the server's opening. */
-static inline int h2_bench_put_rest(h2_bench *bench) {
-    h2_bench_text *rest = &bench->rest;
-    struct h2_bench_end end;
-    size_t room = 4096;
-    if (!bench->kept.is_open && !h2_bench_play(bench)) return 0;
-    do {
-        if (!h2_bench_grow(rest, room)) return h2_bench_fail(bench, 0, "out of memory");
-        rest->length = h2_bench_kept_end(&bench->kept, (uint8_t *)rest->data, rest->room, &end);
-        room = 2 * end.printed;
-    } while (end.fault == 2);
-    rest->data[rest->length] = 0;
-    return end.fault ? h2_bench_fail(bench, 0, "out of memory") : 1;
-}
-
-/* Puts the server's opening into the items. It is printed with the first item; here it comes before. */
-static inline int h2_bench_put_opening(h2_bench *bench) {
-    size_t length;
-    if (bench->given) return 1;
-    if (!h2_bench_put_rest(bench)) return 0;
-    length = (size_t)(strchr(bench->rest.data, '\n') + 1 - bench->rest.data);
-    if (!h2_bench_grow(&bench->items, length) || !h2_bench_grow(&bench->sent, length)) return h2_bench_fail(bench, 0, "out of memory");
-    memcpy(bench->items.data, bench->rest.data, length);
-    bench->items.data[bench->items.length = length] = 0;
-    h2_bench_put_sent(&bench->sent, bench->items.data, bench->items.data + length);
-    bench->given = 1;
-    return 1;
-}
-
-static inline int h2_bench_put_state(h2_bench *bench) {
-    h2_bench_text *said = &bench->said;
-    struct h2_bench_end end;
-    size_t from, room = 4096;
-    if ((!bench->kept.is_open && !h2_bench_play(bench)) || !h2_bench_put_opening(bench)) return h2_bench_refuse(said, bench->items.fault, bench->items.sentence);
-    from = bench->sent.length + 6;
-    do {
-        if (!h2_bench_grow(said, from + room)) return h2_bench_refuse(said, 0, "out of memory");
-        said->length = from + h2_bench_kept_state(&bench->kept, (uint8_t *)said->data + from, said->room - from, &end);
-        room = 2 * end.printed;
-    } while (end.fault == 2);
-    if (end.fault) return h2_bench_refuse(said, 0, "out of memory");
-    memcpy(said->data, "sent ", 5);
-    memcpy(said->data + 5, bench->sent.data, bench->sent.length);
-    said->data[from - 1] = '\n';
-    said->data[said->length] = 0;
-    said->fault = -1;
-    said->sentence = "";
-    return 1;
 }
 
 /* The state after the octets so far, after a line "sent HEX" of all that the server sent (docs/FORMATS.md). Gives a null pointer where it is refused: the
  * fault is in bench->said. */
 static inline const char *h2_bench_state(h2_bench *bench) {
-    return h2_bench_put_state(bench) ? bench->said.data : NULL;
+    return h2_bench_with(bench, &bench->said, "play") ? bench->said.data : NULL;
 }
 
 /* The text of `explain` with these options, each on a line of its own, as "--brief\n--errors", or "" for none. */
@@ -437,6 +262,21 @@ typedef struct h2_bench_item {
     size_t json_length;
 } h2_bench_item;
 
+/* Where the value of a member of an object begins: `json` is after its {, or within it. A null pointer where there is none. */
+static inline const char *h2_bench_member(const char *json, const char *end, const char *name) {
+    size_t length = strlen(name);
+    int depth = 0;
+    for (; json < end; json++) {
+        if (*json == '{' || *json == '[') depth++;
+        if ((*json == '}' || *json == ']') && --depth < 0) return NULL;
+        if (*json != '"') continue;
+        const char *text = ++json;
+        while (json < end && *json != '"') json += *json == '\\' ? 2 : 1;
+        if (!depth && (size_t)(json - text) == length && json + 1 < end && json[1] == ':' && !memcmp(text, name, length)) return json + 2;
+    }
+    return NULL;
+}
+
 /* The number that a member of a member is, or -1. */
 static inline int64_t h2_bench_number(const char *json, const char *end, const char *of, const char *name) {
     const char *found = of ? h2_bench_member(json, end, of) : json - 1;
@@ -449,6 +289,17 @@ static inline void h2_bench_put_cause(h2_bench_item *item, const char *text) {
     if (length >= sizeof item->cause) length = sizeof item->cause - 1;
     if (length) memcpy(item->cause, text + 1, length);
     item->cause[length] = 0;
+}
+
+static inline int h2_bench_count(const char *list, const char *end) {
+    int depth = 0, count = 0;
+    for (; list && list < end; list++) {
+        if (*list == '"')
+            for (list++; list < end && *list != '"'; list++) list += *list == '\\';
+        else if (*list == '{' || *list == '[') count += ++depth == 2;
+        else if ((*list == '}' || *list == ']') && !--depth) break;
+    }
+    return count;
 }
 
 static inline void h2_bench_read(h2_bench_item *item, const char *json, size_t length) {
@@ -471,28 +322,26 @@ static inline void h2_bench_read(h2_bench_item *item, const char *json, size_t l
     h2_bench_put_cause(item, error ? h2_bench_member(error + 1, end, "cause") : ignored ? h2_bench_member(ignored + 1, end, "reason") : NULL);
 }
 
-/* The next item that is whole with the octets so far, the server's opening first: 1, or 0 where there is none yet. -1 where something is refused: the fault is in
- * bench->items. */
+/* The next item that is whole with the octets so far: 1, or 0 where there is none yet. -1 where something is refused: the fault is in bench->items. */
 static inline int h2_bench_next(h2_bench *bench, h2_bench_item *item) {
-    h2_bench_text *items = &bench->items;
     const char *line, *end;
-    if (bench->next >= items->length && !bench->kept.is_open && !h2_bench_play(bench)) return -1;
-    if (!h2_bench_put_opening(bench)) return -1;
-    if (bench->next >= items->length) return 0;
-    line = items->data + bench->next;
-    end = strchr(line, '\n');
+    if (!bench->is_played) {
+        if (!h2_bench_with(bench, &bench->items, "explain\n--json\n--full\n--strict")) return -1;
+        bench->is_played = 1;
+        bench->next = 0;
+        for (size_t count = 0; count < bench->given; count++) bench->next = (size_t)(strchr(bench->items.data + bench->next, '\n') + 1 - bench->items.data);
+    }
+    line = bench->items.data + bench->next;
+    if (!strncmp(line, "{\"end\"", 6) || !(end = strchr(line, '\n'))) return 0;
     h2_bench_read(item, line, (size_t)(end - line));
     bench->next += (size_t)(end + 1 - line);
+    bench->given++;
     return 1;
 }
 
-/* What is after the last item, as the object `end` of the schema, when h2_bench_next has given 0: octets of no whole item, and the verdict on the client. Gives a null
- * pointer where memory is refused: the fault is in bench->items. */
+/* What is after the last item, as the object `end` of the schema, when h2_bench_next has given 0: octets of no whole item, and the verdict on the client. */
 static inline const char *h2_bench_rest(h2_bench *bench) {
-    size_t at;
-    if (!h2_bench_put_rest(bench)) return NULL;
-    for (at = bench->rest.length - 1; at && bench->rest.data[at - 1] != '\n'; at--) continue;
-    return bench->rest.data + at;
+    return bench->is_played ? bench->items.data + bench->next : NULL;
 }
 
 #endif

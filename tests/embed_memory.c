@@ -1,6 +1,5 @@
 /* Each call of h2_bench.h, a line for what it gives; tests/embed.py refuses each allocation in turn. The lines of a text are parted by |. */
 #include "h2_bench.h"
-#include <malloc.h>
 
 static void say(const char *call, const char *given, const h2_bench_text *text) {
     printf("%s: ", call);
@@ -16,13 +15,15 @@ static void say_items(h2_bench *bench) {
     say("rest", found ? NULL : h2_bench_rest(bench), &bench->items);
 }
 
-static void calls(void) {
+int main(void) {
     static const char script[] = "PREFACE\nSETTINGS 00 0 -\nHEADERS 05 1 hi2,i6,i4,a1=\"www.example.com\"\nPING 00 0 x0102030405060708\nDATA 01 3 x00\n";
+    static char place[4096];
     h2_bench_text text = {0};
     struct h2_bench_limits limits = H2_BENCH_LIMITS;
     h2_bench *bench;
     uint8_t octets[200];
     size_t length;
+    setvbuf(stdout, place, _IOFBF, sizeof place);
     while (!h2_bench_assemble(&text, script)) say("assemble", NULL, &text);
     memcpy(octets, text.data, length = text.length);
     say("disassemble", h2_bench_disassemble(&text, octets, length) ? text.data : NULL, &text);
@@ -35,29 +36,6 @@ static void calls(void) {
     say("state", h2_bench_state(bench), &bench->said);
     say("explain", h2_bench_explain(bench, "--brief\n--errors"), &bench->said);
     h2_bench_close(bench);
-    while (!(bench = h2_bench_open(&limits, "GET|/|200|6869"))) printf("open: no memory\n");
-    for (size_t at = 0; at < 33; at++) {
-        while (!h2_bench_feed(bench, octets + at, 1)) say("feed", NULL, &bench->items);
-    }
-    say_items(bench);
-    say("state", h2_bench_state(bench), &bench->said);
-    h2_bench_close(bench);
     h2_bench_free(&text);
-}
-
-static size_t in_use(void) {
-    struct mallinfo2 all = mallinfo2();
-    return all.uordblks + all.hblkhd;
-}
-
-/* All memory is given back, also where some was refused (with no chunks kept for a thread: GLIBC_TUNABLES). */
-int main(void) {
-    static char place[65536];
-    size_t before, after;
-    setvbuf(stdout, place, _IOFBF, sizeof place);
-    before = in_use();
-    calls();
-    after = in_use();
-    if (after != before) printf("memory: %ld octets are not given back\n", (long)(after - before));
     return 0;
 }

@@ -5,7 +5,7 @@
     for item in connection.feed(octets):
         print(item.item, item.words, item.error and item.error.cause, [sent.words for sent in item.sent])
 
-It calls libh2_bench.so, whose functions are proved to do what the commands of h2_bench do, and needs no other package. docs/EMBED.md says what is proved
+It calls libh2_bench.so, whose one function is proved to do what the commands of h2_bench do, and needs no other package. docs/EMBED.md says what is proved
 and what is not. The library is the file that the environment's H2_BENCH_LIBRARY names; else that of `tools/lib.sh`, of the release, or the installed one.
 """
 
@@ -15,7 +15,6 @@ import ctypes
 import json
 import os
 import threading
-import weakref
 from dataclasses import MISSING, dataclass, field, fields, is_dataclass
 from typing import Any, Iterable, Mapping, NamedTuple, Optional, Sequence, Union, get_args, get_origin, get_type_hints
 
@@ -24,7 +23,7 @@ __all__ = [
     "Reactions", "RequestLeft", "Sent", "Setting", "Spelling", "Verdict", "Wait", "Warned", "assemble", "check", "disassemble", "explain", "run",
 ]
 
-VERSION = 1  # of the calls and members of this module; that of the JSON is Item.version of item 0
+VERSION = 1  # of what the library takes and gives; that of the JSON is Item.version of item 0
 
 
 class Fault(Exception):
@@ -371,12 +370,6 @@ class _End(ctypes.Structure):
     _fields_ = [("fault", ctypes.c_uint8), ("status", ctypes.c_uint8), ("printed", ctypes.c_size_t), ("sentence", ctypes.c_size_t)]
 
 
-class _Kept(ctypes.Structure):
-    """struct h2_bench_kept of h2_bench.h."""
-
-    _fields_ = [("is_open", ctypes.c_uint8), ("at", ctypes.c_void_p)]
-
-
 _FAULTS = {1: "out of memory", 22: "a word or the name of the file is not UTF-8"}
 
 
@@ -396,47 +389,31 @@ def _load() -> Any:
     places = [f"{top}/out/lib", f"{top}/release", os.path.join(os.path.dirname(top), "lib")]
     named = os.environ.get("H2_BENCH_LIBRARY")
     found = [named] if named else [path for path in (f"{place}/libh2_bench.so" for place in places) if os.path.isfile(path)]
-    library = ctypes.CDLL(found[0] if found else "libh2_bench.so")
-    text, place, kept, end = [ctypes.c_char_p, ctypes.c_size_t], [ctypes.c_void_p, ctypes.c_size_t], ctypes.POINTER(_Kept), ctypes.POINTER(_End)
-    library.h2_bench_run.argtypes = [*text * 4, *place, end]
-    library.h2_bench_kept_open.argtypes, library.h2_bench_kept_open.restype = [*text * 3, kept, end], None
-    library.h2_bench_kept_feed.argtypes = [kept, *text, *place, end]
-    library.h2_bench_kept_end.argtypes = library.h2_bench_kept_state.argtypes = [kept, *place, end]
-    library.h2_bench_kept_close.argtypes, library.h2_bench_kept_close.restype = [kept], None
-    for call in (library.h2_bench_run, library.h2_bench_kept_feed, library.h2_bench_kept_end, library.h2_bench_kept_state):
-        call.restype = ctypes.c_size_t
-    return library
+    call = ctypes.CDLL(found[0] if found else "libh2_bench.so").h2_bench_run
+    call.restype = ctypes.c_size_t
+    call.argtypes = [ctypes.c_char_p, ctypes.c_size_t] * 4 + [ctypes.c_void_p, ctypes.c_size_t, ctypes.POINTER(_End)]
+    return call
 
 
-_library = _load()
-
-
-def _said(words: Sequence[str], name: str) -> tuple[bytes, bytes]:
-    """The words and the name of a file as the library takes them."""
-    if any("\n" in word for word in words):
-        raise ValueError("a word has no line feed")
-    return "\n".join(["h2_bench", *words]).encode("utf-8", "surrogatepass"), name.encode("utf-8", "surrogatepass")
-
-
-def _given(call: Any, *first: Any, then: Any = None) -> tuple[bytes, _End]:
-    """What a call gives, with as much space as it needs; where it has to be called again, with the arguments `then`."""
-    end = _End()
-    while True:
-        out = _place.out
-        count = call(*first, out, len(out), ctypes.byref(end))
-        if end.fault != 2:
-            break
-        _place.out, first = ctypes.create_string_buffer(2 * (end.printed + end.sentence)), then or first
-    if end.fault in _FAULTS:
-        raise Fault(end.fault if end.fault != 1 else 0, _FAULTS[end.fault])
-    return ctypes.string_at(out, count), end
+_call = _load()
 
 
 def run(words: Sequence[str], input: bytes = b"", name: str = "", file: bytes = b"") -> Ran:
     """Carries out a command: `words` are those of the command line without the program's name, as ["asm"], `input` is standard input. `file` is the one file
     that the command can read, under the path `name`. Raises Fault where memory does not suffice, or a word is no text."""
-    said, path = _said(words, name)
-    given, end = _given(_library.h2_bench_run, said, len(said), path, len(path), file, len(file), input, len(input))
+    if any("\n" in word for word in words):
+        raise ValueError("a word has no line feed")
+    said, path = "\n".join(["h2_bench", *words]).encode("utf-8", "surrogatepass"), name.encode("utf-8", "surrogatepass")
+    end = _End()
+    while True:
+        out = _place.out
+        count = _call(said, len(said), path, len(path), file, len(file), input, len(input), out, len(out), ctypes.byref(end))
+        if end.fault != 2:
+            break
+        _place.out = ctypes.create_string_buffer(2 * (end.printed + end.sentence))
+    if end.fault:
+        raise Fault(end.fault if end.fault != 1 else 0, _FAULTS[end.fault])
+    given = ctypes.string_at(out, count)
     return Ran(given[: end.printed], end.status, given[end.printed :].decode("utf-8", "replace").strip())
 
 
@@ -461,7 +438,8 @@ class Connection:
     """A connection of a server with these answers, each METHOD|PATH|STATUS|BODYHEX, and these limits: `streams`, `credit`, `table`, `window`, `frame`.
     `book` is the text of a TOML file with further answers (docs/BOOKS.md), none with `body-file`.
 
-    It stays in the library's memory between calls. With `full` off, long texts of items are cut to 100 octets."""
+    It is the octets so far: each call plays them from the first on, so feed what is there at once rather than octet by octet. With `full` off, long texts
+    of items are cut to 100 octets."""
 
     def __init__(self, answers: Iterable[str] = (), *, book: Union[str, bytes] = b"", full: bool = True, **limits: int) -> None:
         unknown = set(limits) - {"streams", "credit", "table", "window", "frame"}
@@ -471,78 +449,38 @@ class Connection:
         named = ["--book=book.toml"] if self._book else []
         self._words = [*(f"--{name}={value}" for name, value in limits.items()), *named, "--", *answers]
         self._how = ["--json", "--strict", *(["--full"] if full else [])]
-        self._octets = bytearray()
-        self._kept = _Kept()
-        self._lock = threading.Lock()
-        self._taken = self._lines = self._items = 0  # octets that it took, lines that it printed for them, items that were given
+        self._hex: list[str] = []
+        self._given = 0
         self._end: Optional[End] = None
-        weakref.finalize(self, _library.h2_bench_kept_close, self._kept).atexit = False
-
-    @property
-    def octets(self) -> bytes:
-        """All octets so far."""
-        return bytes(self._octets)
+        self.octets = b""
 
     @property
     def end(self) -> End:
         """What is after the last item of the octets so far."""
         if self._end is None:
-            self._end = _with_json(End, json.loads(self._rest()[-1])["end"])
+            self._run()
         return self._end
 
-    def _file(self) -> str:
-        return "book.toml" if self._book else ""
-
     def _printed(self, command: str, *how: str) -> bytes:
-        return _printed([command, *how, *self._words], self._octets.hex().encode(), self._file(), self._book)
+        return _printed([command, *how, *self._words], "".join(self._hex).encode(), "book.toml" if self._book else "", self._book)
 
-    def _open(self) -> None:
-        """Opens the connection anew, before all octets; what is wrong with limits or answers is what the command says."""
-        (said, path), end = _said(["explain", *self._how, *self._words], self._file()), _End()
-        self._taken = self._lines = 0
-        _library.h2_bench_kept_open(said, len(said), path, len(path), self._book, len(self._book), self._kept, end)
-        if end.fault == 3:
-            self._printed("explain", *self._how)
-        if end.fault:
-            raise Fault(end.fault if end.fault != 1 else 0, _FAULTS.get(end.fault, _FAULTS[1]))
-
-    def _take(self) -> list[bytes]:
-        """Takes the octets that it has not taken, and gives the lines that are new; where memory was refused before, it takes all anew."""
-        if not self._kept.is_open:
-            self._open()
-        octets = bytes(memoryview(self._octets)[self._taken :])
-        lines = _given(_library.h2_bench_kept_feed, self._kept, octets, len(octets), then=(self._kept, b"", 0))[0].splitlines()
-        self._taken, self._lines = len(self._octets), self._lines + len(lines)
-        return lines[max(len(lines) - (self._lines - self._items), 0) :]
-
-    def _rest(self) -> list[bytes]:
-        """The lines after those of the items; before the first item that of the server's opening is among them."""
-        with self._lock:
-            self._take()
-            return _given(_library.h2_bench_kept_end, self._kept)[0].splitlines()
+    def _run(self) -> list[bytes]:
+        *items, last = self._printed("explain", *self._how).splitlines()
+        self._end = _with_json(End, json.loads(last)["end"])
+        return items
 
     def feed(self, octets: bytes) -> list[Item]:
         """Takes octets of the client, in any cut. Gives the items that are whole now and were not given before; the first call gives item 0 too, the
-        server's opening. What comes after the last item is in `end`. After a Fault the connection is as it was."""
-        with self._lock:
-            self._end, before = None, len(self._octets)
-            self._octets += octets
-            try:
-                lines = self._take()
-                if not self._items and not lines:
-                    lines = _given(_library.h2_bench_kept_end, self._kept)[0].splitlines()[:-1]
-            except BaseException:
-                del self._octets[before:]
-                _library.h2_bench_kept_close(self._kept)
-                raise
-            self._items += len(lines)
-            return [_with_json(Item, json.loads(line)) for line in lines]
+        server's opening. What comes after the last item is in `end`."""
+        self._hex.append(bytes(octets).hex())
+        self.octets += octets
+        items = self._run()
+        before, self._given = self._given, len(items)
+        return [_with_json(Item, json.loads(line)) for line in items[before:]]
 
     def state(self) -> str:
         """The state after the octets so far, a line for each part, as docs/FORMATS.md has it."""
-        with self._lock:
-            self._take()
-            return _given(_library.h2_bench_kept_state, self._kept)[0].decode()
+        return self._printed("play").decode().partition("\n")[2]
 
     def sent(self) -> bytes:
         """All octets that the server has sent so far, its opening first."""
